@@ -61,3 +61,10 @@ pub enum Reply {
     /// No memory was left, and the event changed nothing.
     NoMemory,
 }
+
+/// Why a line gives no event.
+#[derive(Clone, Copy, Debug, PartialEq, Eq)]
+pub enum LineFault {
+    /// The line is none of the grammar's.
+    BadLine,
+}

@@ -10,7 +10,7 @@ mod outcomes;
 mod rules;
 mod worked;
 
-pub use events::{Event, Reply};
+pub use events::{Event, LineFault, Reply};
 pub use kinds::Kind;
 pub use limits::{Limits, raw_image};
 pub use names::Name;

@@ -1,8 +1,15 @@
 use crate::kinds::Kind;
+use std::alloc::AllocError;
 
 /// No memory was left. What the call would have changed is as before.
 #[derive(Clone, Copy, Debug, PartialEq, Eq)]
 pub struct NoMemory;
+
+impl From<AllocError> for NoMemory {
+    fn from(_: AllocError) -> NoMemory {
+        NoMemory
+    }
+}
 
 /// What is known of a submission once its judging is final.
 #[derive(Clone, Copy, Debug, PartialEq, Eq)]
