@@ -1,6 +1,7 @@
 ghost use Rattle.std.specs.Prelude.{◌≡◌, ◌+◌, ◌-◌, ◌<◌, ◌≤◌, [], length, drop, take, slice_range, None, Some, IsNone, IsSome};
 ghost use Rattle.farm_io.specs.Lines.{line_limit, input_limit};
-ghost use Rattle.farm_io.specs.BlockValue.{Moves, IsEnded, HasCauseStop};
+ghost use Rattle.farm_io.specs.Streams.{Takes, HasCauseTaken};
+ghost use Rattle.farm_io.specs.BlockValue.{block_size, Moves, IsEnded, HasCauseStop};
 
 use crate::lines::LINE_LIMIT;
 use crate::streams::{Source, Taken};
@@ -34,6 +35,7 @@ pub struct Block {
 }
 
 impl Model for Block {
+    ghost use Rattle.farm_io.specs.Streams.{Takes, HasCauseTaken};
     ghost use Rattle.farm_io.specs.BlockValue.{BlockValue};
 
     ghost Value = { BlockValue };
@@ -60,7 +62,8 @@ impl Block {
 
     /// The bytes that were not given out yet.
     pub fn ahead(&self) -> &[u8]
-        ensures { result.now ≡ self.now.ahead }
+        ensures ahead { result.now ≡ self.now.ahead }
+        ensures few { length result.now ≤ block_size }
     {
         &self.bytes[self.from..self.to]
     }
@@ -101,17 +104,33 @@ impl Block {
         self.to -= self.from;
         self.from = 0;
         let room = (INPUT_LIMIT - self.taken).min((BLOCK - self.to) as u64) as usize;
-        let end = self.to + room;
-        match source.take(&mut self.bytes[self.to..end]) {
+        match take_behind(&mut self.bytes, self.to, room, source) {
             Taken::Bytes(count) => {
                 self.taken += count as u64;
                 self.to += count;
+                None
             }
-            Taken::End => self.stop = Some(Stop::End),
-            Taken::Failed => self.stop = Some(Stop::ReadFault),
+            Taken::End => {
+                self.stop = Some(Stop::End);
+                self.stop
+            }
+            Taken::Failed => {
+                self.stop = Some(Stop::ReadFault);
+                self.stop
+            }
         }
-        self.stop
     }
+}
+
+/// Takes at most `room` bytes behind the first `at`.
+fn take_behind<S: Source>(bytes: &mut [u8], at: usize, room: usize, source: &mut S) -> Taken
+    requires some { 0 < room }
+    requires within { at + room ≤ length bytes.old }
+    ensures front { take at bytes.new ≡ take at bytes.old }
+    ensures bytes { Takes (S.left source.old) (S.left source.new) result (slice_range bytes.new at (at + room)) }
+    ensures cause { HasCauseTaken (S.faults source.old) (S.faults source.new) result }
+{
+    source.take(&mut bytes[at..at + room])
 }
 
 /// Moves a part of the bytes to their front.

@@ -1,6 +1,6 @@
 ghost use Rattle.std.specs.Prelude.{◌≡◌, ◌≢◌, ◌+◌, ◌<◌, ◌≤◌, ◌↔◌, [], length, drop, take, None, Some, IsTrue, IfNone, IfSome};
 ghost use Rattle.farm_io.specs.Lines.{HasFeed, FeedAt, without_cr, line_limit, input_limit};
-ghost use Rattle.farm_io.specs.BlockValue.{Moves, IsEnded, IsLimited, HasCauseStop};
+ghost use Rattle.farm_io.specs.BlockValue.{block_size, Moves, IsEnded, IsLimited, HasCauseStop};
 ghost use Rattle.farm_io.specs.ReaderValue.{budget, IsReadable};
 ghost use Rattle.farm_io.specs.Finding.{unread, shown, IsFound, GivesCut, Skips};
 ghost use Rattle.farm_io.specs.Reading.{line_of_stop, Reads, IsLine, StopsAs, HasCauseLine};
@@ -204,8 +204,10 @@ fn give_last(ahead: &[u8]) -> Given
 fn seek<S: Source>(block: &mut Block, source: &mut S) -> Found
     requires going { block.old.stop ≡ None }
     requires none { ¬ HasFeed block.old.ahead }
+    requires few { block.old.taken ≤ input_limit }
     ensures moves { Moves (S.left source.old) (S.left source.new) block.old block.new [] }
     ensures found { IsFound block.new result }
+    ensures few { block.new.taken ≤ input_limit }
     ensures end { IsEnded block.new.stop (S.left source.new) }
     ensures limit { IsLimited block.new }
     ensures cause { HasCauseStop (S.faults source.old) (S.faults source.new) block.new.stop }
@@ -244,8 +246,11 @@ fn skip<S: Source>(block: &mut Block, source: &mut S) -> Given
     requires going { block.old.stop ≡ None }
     requires none { ¬ HasFeed block.old.ahead }
     requires long { line_limit < length block.old.ahead }
+    requires short { length block.old.ahead ≤ block_size }
+    requires few { block.old.taken ≤ input_limit }
     ensures line { result.line ≡ 0 }
     ensures text { result.text ≡ 0 }
+    ensures few { block.new.taken ≤ input_limit }
     ensures skips { Skips (S.left source.old) (S.left source.new) block.old block.new result.answer }
     ensures end { IsEnded block.new.stop (S.left source.new) }
     ensures limit { IsLimited block.new }

@@ -61,9 +61,7 @@ impl Source for MemorySource {
             self.faults = self.faults.saturating_add(1);
             return Taken::Failed;
         }
-        let taken = copy_front(&self.bytes[self.at..], room);
-        self.at += taken;
-        taken_of(taken)
+        take_from(&self.bytes, &mut self.at, room)
     }
 }
 
@@ -98,16 +96,32 @@ impl Source for ReliableSource {
     ghost faults = { λ _. 0 };
 
     fn take(&mut self, room: &mut [u8]) -> Taken {
-        let taken = copy_front(&self.bytes[self.at..], room);
-        self.at += taken;
-        taken_of(taken)
+        take_from(&self.bytes, &mut self.at, room)
     }
+}
+
+/// Moves bytes from the place `at` on into the room.
+fn take_from(bytes: &[u8], at: &mut usize, room: &mut [u8]) -> Taken
+    requires within { at.old ≤ length bytes.now }
+    requires some { 0 < length room.old }
+    ensures bytes { Takes (Some (drop at.old bytes.now)) (Some (drop at.new bytes.now)) result room.new }
+    ensures within { at.new ≤ length bytes.now }
+    ensures not_failed { result ≢ Taken.Failed }
+{
+    let rest = &bytes[*at..];
+    if rest.is_empty() {
+        return Taken::End;
+    }
+    let count = copy_front(rest, room);
+    *at += count;
+    Taken::Bytes(count)
 }
 
 /// Copies as much as there is and as there is room for.
 fn copy_front(rest: &[u8], room: &mut [u8]) -> usize
-    requires { 0 < length room.old }
-    ensures least { rest.now ≢ [] → 1 ≤ result }
+    requires rest { 0 < length rest.now }
+    requires room { 0 < length room.old }
+    ensures least { 1 ≤ result }
     ensures room { result ≤ length room.new }
     ensures rest { result ≤ length rest.now }
     ensures bytes { take result room.new ≡ take result rest.now }
@@ -115,17 +129,6 @@ fn copy_front(rest: &[u8], room: &mut [u8]) -> usize
     let count = rest.len().min(room.len());
     room[..count].copy_from_slice(&rest[..count]);
     count
-}
-
-/// What was done where so many bytes were taken.
-fn taken_of(count: usize) -> Taken
-    ensures end { count ≡ 0 → result ≡ Taken.End }
-    ensures bytes { 0 < count → result ≡ Taken.Bytes count }
-{
-    match count {
-        0 => Taken::End,
-        _ => Taken::Bytes(count),
-    }
 }
 
 /// Bytes that were put into memory, where the calls with the listed numbers fail, and those whose piece
@@ -185,7 +188,11 @@ impl Sink for MemorySink {
     {
         let call = self.calls;
         self.calls = call.saturating_add(1);
-        if self.failing.contains(&call) || !append(&mut self.bytes, piece) {
+        if self.failing.contains(&call) {
+            self.faults = self.faults.saturating_add(1);
+            return PutEnd::Failed;
+        }
+        if !append(&mut self.bytes, piece) {
             self.faults = self.faults.saturating_add(1);
             return PutEnd::Failed;
         }
