@@ -81,6 +81,7 @@ impl LineReader {
     /// Reads the next line.
     pub fn next_line<S: Source>(&mut self, source: &mut S) -> Line
         ensures reads { Reads (S.left source.old) (S.left source.new) self.old self.new result }
+        ensures readable { IsReadable self.new }
         ensures text { result ≢ Line.Text → self.new.text ≡ [] }
         ensures stops { StopsAs result self.new.stop }
         ensures ended { IsEnded self.old.stop (S.left source.old) → IsEnded self.new.stop (S.left source.new) }
