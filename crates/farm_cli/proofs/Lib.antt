@@ -2,3 +2,5 @@ pub mod Submits
 pub mod WordLemmas
 pub mod NumberLemmas
 pub mod Joining
+pub mod Sessions
+pub mod Completing

@@ -2,3 +2,4 @@ pub mod FarmShape
 pub mod FarmLayout
 pub mod NextWord
 pub mod WordList
+pub mod Session

@@ -1,11 +1,13 @@
 //! The commands of the farm.
 #![tactic(auto)]
 
+mod exit;
 mod farm;
 mod lines;
 mod numbers;
-pub mod texts;
+mod script;
+mod texts;
+mod top;
 
-pub use farm::Farm;
-pub use lines::read_line;
-
+pub use exit::Exit;
+pub use top::farm_main;

@@ -99,7 +99,15 @@ pub fn push_reply(out: &mut Vec<u8>, reply: &Reply) -> Result<(), NoMemory>
 {
     match reply {
         Reply::Problem { name, version } => {
-            push_line(out, &[b"problem", name.as_bytes(), b"version", Buffer::new().format(*version).as_bytes()])
+            push_line(
+                out,
+                &[
+                    b"problem",
+                    name.as_bytes(),
+                    b"version",
+                    Buffer::new().format(*version).as_bytes(),
+                ],
+            )
         }
         Reply::Submitted {
             submission,
@@ -108,7 +116,10 @@ pub fn push_reply(out: &mut Vec<u8>, reply: &Reply) -> Result<(), NoMemory>
         Reply::Counted => push_line(out, &[b"counted"]),
         Reply::Repeat { kept } => push_line(out, &[b"repeat", kept.name().as_bytes()]),
         Reply::Differs { kept, given } => {
-            push_line(out, &[b"differs", kept.name().as_bytes(), given.name().as_bytes()])
+            push_line(
+                out,
+                &[b"differs", kept.name().as_bytes(), given.name().as_bytes()],
+            )
         }
         Reply::Dropped => push_line(out, &[b"dropped"]),
         Reply::Shown(answer) => push_shown(out, *answer),
