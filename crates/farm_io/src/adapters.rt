@@ -8,8 +8,9 @@ use std::io::{Read, Write};
 /// It counts the reader's errors. The count stands still at the end of its type.
 #[derive(Drop)]
 pub struct ReadSource<R> {
-    reader: R,
-    faults: u64,
+    pub reader: R,
+    /// How often the reader has failed.
+    pub faults: u64,
 }
 
 impl<R> ReadSource<R> {
@@ -44,8 +45,9 @@ impl<R: Read> Source for ReadSource<R> {
 /// type. A writer that takes no byte has failed.
 #[derive(Drop)]
 pub struct WriteSink<W> {
-    writer: W,
-    faults: u64,
+    pub writer: W,
+    /// How often the writer has failed.
+    pub faults: u64,
 }
 
 impl<W> WriteSink<W> {

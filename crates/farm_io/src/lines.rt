@@ -7,6 +7,7 @@ ghost use Rattle.farm_io.specs.Reading.{line_of_stop, Reads, IsLine, StopsAs, Ha
 
 use crate::block::{Block, Stop};
 use crate::streams::Source;
+use memchr::memchr;
 use std::marker::Model;
 
 /// The most bytes of a line before its line feed.
@@ -142,7 +143,7 @@ fn find_feed(bytes: &[u8]) -> Option<usize>
     ensures none { IfNone result (¬ HasFeed bytes.now) }
     ensures some { IfSome result (FeedAt bytes.now) }
 {
-    bytes.iter().position(|b| *b == b'\n')
+    memchr(b'\n', bytes)
 }
 
 /// How long the text is of a line of these bytes.
