@@ -3,9 +3,9 @@ ghost use Rattle.std.specs.Prelude.{◌≡◌, ◌≤◌};
 use crate::streams::{PutEnd, Sink, Source, Taken};
 use std::io::{Read, Write};
 
-/// A reader of `std` as a source, over standard input, a file or a socket.
+/// A reader of `std` as a source, as standard input, a file or a socket.
 ///
-/// It counts the reader's errors. The count stands still at the end of its type.
+/// Each error of the reader raises the count, which stands still at the end of its type.
 #[derive(Drop)]
 pub struct ReadSource<R> {
     pub reader: R,
@@ -14,6 +14,7 @@ pub struct ReadSource<R> {
 }
 
 impl<R> ReadSource<R> {
+    /// A source over the reader, whose count is 0.
     pub fn new(reader: R) -> ReadSource<R>
         ensures reader { result.reader ≡ reader }
         ensures faults { result.faults ≡ 0 }
@@ -39,10 +40,10 @@ impl<R: Read> Source for ReadSource<R> {
     }
 }
 
-/// A writer of `std` as a sink, over standard output, a file or a socket.
+/// A writer of `std` as a sink, as standard output, a file or a socket.
 ///
-/// It counts the writer's errors, as that a pipe is closed, and the count stands still at the end of its
-/// type. A writer that takes no byte has failed.
+/// Each error of the writer, as a closed pipe, raises the count, which stands still at the end of its type.
+/// So does a write that takes no byte.
 #[derive(Drop)]
 pub struct WriteSink<W> {
     pub writer: W,
@@ -51,6 +52,7 @@ pub struct WriteSink<W> {
 }
 
 impl<W> WriteSink<W> {
+    /// A sink over the writer, whose count is 0.
     pub fn new(writer: W) -> WriteSink<W>
         ensures writer { result.writer ≡ writer }
         ensures faults { result.faults ≡ 0 }

@@ -10,7 +10,8 @@ use crate::streams::Source;
 use memchr::memchr;
 use std::marker::Model;
 
-/// The most bytes of a line before its line feed.
+/// The most bytes of a line before its line feed, or before the end of the input. A carriage return that
+/// is no part of the text counts.
 pub const LINE_LIMIT: usize = 4096;
 
 /// What a line reader gives.
@@ -18,20 +19,22 @@ pub const LINE_LIMIT: usize = 4096;
 pub enum Line {
     /// A line, which [`LineReader::text`] shows.
     Text,
-    /// A line that had `len` bytes, over [`LINE_LIMIT`]. It was skipped.
+    /// A line of `len` bytes, over [`LINE_LIMIT`], which was skipped.
     TooLong { len: u64 },
     /// No line is left.
     End,
-    /// The source failed.
+    /// The source failed. What it gave behind the last line feed is in no line.
     ReadFault,
-    /// As many bytes were taken as a reader takes at most, and more were wanted.
+    /// [`INPUT_LIMIT`](crate::INPUT_LIMIT) bytes were taken, and more were wanted.
     InputLimit,
 }
 
-/// Cuts the bytes of a source into lines. It takes no memory.
+/// Cuts the bytes of a source into lines, and takes no memory.
 ///
 /// A line ends at a line feed, or at the end of the input where it is not empty. One carriage return at
-/// its end is no part of its text.
+/// its end is no part of its text. The bytes may be any: they need be no text.
+///
+/// The reader is as large as its block of 64 KiB: make it once, and pass it by reference.
 #[derive(Drop)]
 pub struct LineReader {
     block: Block,
@@ -52,6 +55,7 @@ impl Model for LineReader {
 }
 
 impl LineReader {
+    /// A reader that has taken nothing yet.
     pub fn new() -> LineReader
         ensures { result ≡ record { ahead = []; taken = 0; stop = None; text = [] } }
     {
@@ -79,14 +83,16 @@ impl LineReader {
         find_feed(&self.block.ahead()[self.line..]).is_some()
     }
 
-    /// Reads the next line.
+    /// Reads the next line, and asks the source only where it holds no whole line.
+    ///
+    /// After `End`, `ReadFault` or `InputLimit` it answers the same again and asks the source no more.
     pub fn next_line<S: Source>(&mut self, source: &mut S) -> Line
         ensures reads { Reads (S.left source.old) (S.left source.new) self.old self.new result }
         ensures text { result ≢ Line.Text → self.new.text ≡ [] }
         ensures stops { StopsAs result self.new.stop }
         ensures ended { IsEnded self.old.stop (S.left source.old) → IsEnded self.new.stop (S.left source.new) }
 
-        // Once it has stopped it answers the same again.
+        // Once it has stopped it stays so.
         ensures sticky { (stop : Stop) → self.old.stop ≡ Some stop
             → (result ≡ line_of_stop stop) × (self.new ≡ record self.old { text = [] }) × (source.new ≡ source.old) }
 
