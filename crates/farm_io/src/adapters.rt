@@ -3,16 +3,18 @@ ghost use Rattle.std.specs.Prelude.{◌≡◌, ◌≤◌};
 use crate::streams::{PutEnd, Sink, Source, Taken};
 use std::io::{Read, Write};
 
-/// A reader of `std` as a source, over standard input, a file or a socket.
+/// A reader of `std` as a source, as standard input, a file or a socket.
 ///
-/// It counts the reader's errors. The count stands still at the end of its type.
+/// Each error of the reader raises the count, which stands still at the end of its type.
 #[derive(Drop)]
 pub struct ReadSource<R> {
-    reader: R,
-    faults: u64,
+    pub reader: R,
+    /// How often the reader has failed.
+    pub faults: u64,
 }
 
 impl<R> ReadSource<R> {
+    /// A source over the reader, whose count is 0.
     pub fn new(reader: R) -> ReadSource<R>
         ensures reader { result.reader ≡ reader }
         ensures faults { result.faults ≡ 0 }
@@ -38,17 +40,19 @@ impl<R: Read> Source for ReadSource<R> {
     }
 }
 
-/// A writer of `std` as a sink, over standard output, a file or a socket.
+/// A writer of `std` as a sink, as standard output, a file or a socket.
 ///
-/// It counts the writer's errors, as that a pipe is closed, and the count stands still at the end of its
-/// type. A writer that takes no byte has failed.
+/// Each error of the writer, as a closed pipe, raises the count, which stands still at the end of its type.
+/// So does a write that takes no byte.
 #[derive(Drop)]
 pub struct WriteSink<W> {
-    writer: W,
-    faults: u64,
+    pub writer: W,
+    /// How often the writer has failed.
+    pub faults: u64,
 }
 
 impl<W> WriteSink<W> {
+    /// A sink over the writer, whose count is 0.
     pub fn new(writer: W) -> WriteSink<W>
         ensures writer { result.writer ≡ writer }
         ensures faults { result.faults ≡ 0 }

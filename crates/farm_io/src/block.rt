@@ -18,7 +18,7 @@ pub enum Stop {
     InputLimit,
 }
 
-/// The most bytes that a reader takes from a source.
+/// The most bytes that a reader takes from a source: one tebibyte.
 pub const INPUT_LIMIT: u64 = 1 << 40;
 
 /// How many bytes are asked of a source at most at a time.
@@ -35,7 +35,6 @@ pub struct Block {
 }
 
 impl Model for Block {
-    ghost use Rattle.farm_io.specs.Streams.{Takes, HasCauseTaken};
     ghost use Rattle.farm_io.specs.BlockValue.{BlockValue};
 
     ghost Value = { BlockValue };

@@ -29,6 +29,7 @@ impl Model for MemorySource {
 }
 
 impl MemorySource {
+    /// A source of these bytes, of which the calls with the numbers in `failing` fail.
     pub fn new(bytes: Vec<u8>, failing: Vec<u64>) -> MemorySource
         ensures { result ≡ record { left = bytes.items; failing = failing.items; calls = 0; faults = 0 } }
     {
@@ -83,6 +84,7 @@ impl Model for ReliableSource {
 }
 
 impl ReliableSource {
+    /// A source of these bytes.
     pub fn new(bytes: Vec<u8>) -> ReliableSource
         ensures { result ≡ bytes.items }
     {
@@ -134,7 +136,7 @@ fn copy_front(rest: &[u8], room: &mut [u8]) -> usize
 /// Bytes that were put into memory, where the calls with the listed numbers fail, and those whose piece
 /// has no room. Calls are numbered from 0.
 ///
-/// A call takes no memory: the room is that of the `Vec` that the sink was made of.
+/// A call takes no memory: the room is the capacity of the `Vec` that the sink was made of.
 #[derive(Drop)]
 pub struct MemorySink {
     bytes: Vec<u8>,
@@ -154,6 +156,7 @@ impl Model for MemorySink {
 }
 
 impl MemorySink {
+    /// A sink that holds these bytes at first, of which the calls with the numbers in `failing` fail.
     pub fn new(held: Vec<u8>, failing: Vec<u64>) -> MemorySink
         ensures { result ≡ record { held = held.items; room = vec_capacity held; failing = failing.items; calls = 0; faults = 0 } }
     {
@@ -200,9 +203,9 @@ impl Sink for MemorySink {
     }
 }
 
-/// Bytes that were put into memory, as a sink that fails only where its room ends.
+/// Bytes that were put into memory, as a sink that never fails while its room lasts.
 ///
-/// A call takes no memory: the room is that of the `Vec` that the sink was made of.
+/// A call takes no memory: the room is the capacity of the `Vec` that the sink was made of.
 #[derive(Drop)]
 pub struct ReliableSink {
     bytes: Vec<u8>,
@@ -220,6 +223,7 @@ impl Model for ReliableSink {
 }
 
 impl ReliableSink {
+    /// A sink that holds these bytes at first.
     pub fn new(held: Vec<u8>) -> ReliableSink
         ensures { result ≡ record { held = held.items; room = vec_capacity held; faults = 0 } }
     {

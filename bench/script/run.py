@@ -1,0 +1,117 @@
+#!/usr/bin/env python3
+"""Runs `farm script` on large scripts and prints its figures.
+
+    bench/script/run.py [PROGRAM]
+
+PROGRAM is the built program, `crates/farm/out/farm` of this repository if none is given. The scripts
+have 10,000, 100,000 and 1,000,000 lines, and one has 100 MB. Printed are, for each, lines and bytes a
+second (the best of some runs, reading a file and writing to one), the most memory, the calls of read and
+write as `strace` counts them, and whether the replies are those of an independent model, byte for byte.
+The last lines print what a line costs as the script grows.
+"""
+
+import filecmp
+import os
+import re
+import shutil
+import subprocess
+import sys
+import time
+
+from script_model import write_script
+
+HERE = os.path.dirname(os.path.abspath(__file__))
+TOP = os.path.dirname(os.path.dirname(HERE))
+OUT = os.path.join(TOP, "bench", "out", "script")
+
+SCRIPTS = [
+    ("10,000 lines", {"count": 10_000}, 9),
+    ("100,000 lines", {"count": 100_000}, 5),
+    ("1,000,000 lines", {"count": 1_000_000}, 3),
+    ("100 MB", {"size": 100_000_000}, 2),
+]
+
+
+def path(name, ending):
+    return os.path.join(OUT, re.sub(r"\W+", "_", name) + ending)
+
+
+def make(name, amount):
+    with open(path(name, ".lines"), "w") as lines, open(path(name, ".replies"), "w") as replies:
+        return write_script(lines, replies, **amount)
+
+
+def run(program, source, target):
+    """Seconds, status and most memory (kB) of one run."""
+    with open(source, "rb") as lines, open(target, "wb") as out:
+        start = time.perf_counter()
+        child = subprocess.Popen([program, "script"], stdin=lines, stdout=out)
+        _, status, usage = os.wait4(child.pid, 0)
+        seconds = time.perf_counter() - start
+        child.returncode = os.waitstatus_to_exitcode(status)
+    return seconds, child.returncode, usage.ru_maxrss
+
+
+def calls(program, source):
+    """The calls of read and write of one run, from and to files."""
+    if shutil.which("strace") is None:
+        return None
+    report = os.path.join(OUT, "strace")
+    command = ["strace", "-f", "-c", "-e", "trace=read,write", "-o", report, program, "script"]
+    with open(source, "rb") as lines, open(os.path.join(OUT, "traced"), "wb") as out:
+        subprocess.run(command, stdin=lines, stdout=out, check=False)
+    counts = {"read": 0, "write": 0}
+    with open(report) as rows:
+        for row in rows:
+            words = row.split()
+            if words and words[-1] in counts:
+                counts[words[-1]] = int(words[3])
+    return counts
+
+
+def measure(program, name, amount, runs):
+    script = make(name, amount)
+    source, want, got = path(name, ".lines"), path(name, ".replies"), path(name, ".out")
+    results = [run(program, source, got) for _ in range(runs)]
+    seconds = min(result[0] for result in results)
+    status = results[0][1]
+    memory = max(result[2] for result in results)
+    with open(got, "rb") as out:
+        replies = sum(chunk.count(b"\n") for chunk in iter(lambda: out.read(1 << 20), b""))
+    same = filecmp.cmp(want, got, shallow=False)
+    print(f"{name}: {script.count} lines, {script.size} bytes; replies {script.reply_size} bytes")
+    print(f"  status {status}; {replies} replies, {'as the model gives them' if same else 'NOT those of the model'}")
+    print(f"  {seconds:.4f} s; {script.count / seconds:,.0f} lines/s; {script.size / seconds / 1e6:,.1f} MB/s")
+    print(f"  most memory {memory / 1024:,.1f} MiB")
+    counts = calls(program, source)
+    if counts is None:
+        print("  reads and writes: no strace here")
+    else:
+        print(
+            f"  {counts['read']} reads ({script.size / 65536:,.1f} blocks of 64 KiB), {counts['write']} writes"
+        )
+    sys.stdout.flush()
+    return script.count, seconds, status == 0 and same and replies == script.count
+
+
+def main():
+    program = sys.argv[1] if len(sys.argv) > 1 else os.path.join(TOP, "crates", "farm", "out", "farm")
+    program = os.path.abspath(program)
+    os.makedirs(OUT, exist_ok=True)
+    empty = os.path.join(OUT, "empty")
+    open(empty, "w").close()
+    start = min(run(program, empty, os.path.join(OUT, "none"))[0] for _ in range(9))
+    print(f"no lines: {start * 1000:.2f} ms, which the costs below do not count")
+    costs, sound = [], True
+    for name, amount, runs in SCRIPTS:
+        count, seconds, right = measure(program, name, amount, runs)
+        costs.append((name, (seconds - start) / count))
+        sound = sound and right
+    least = min(cost for _, cost in costs)
+    for name, cost in costs:
+        print(f"{name}: {cost * 1e9:,.0f} ns a line, {cost / least:.2f} times the least")
+    return 0 if sound else 1
+
+
+if __name__ == "__main__":
+    sys.exit(main())

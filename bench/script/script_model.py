@@ -1,0 +1,98 @@
+"""Scripts of contest lines, with the replies that an independent model gives to them.
+
+A script has the lines of problems, submissions, records and shows in the order in which a running
+contest makes them: a submission, results of the submissions before it in any order, and questions
+about any of them.
+"""
+
+import random
+
+KINDS = [
+    "correct",
+    "wrong-answer",
+    "run-error",
+    "timelimit",
+    "no-output",
+    "output-limit",
+    "memory-limit",
+    "judging-error",
+]
+PRIORITIES = dict(zip(KINDS, [1, 30, 99, 99, 10, 99, 99, 99]))
+
+PROBLEMS = 1_000
+TESTS = 5
+# The most submissions that a farm accepts.
+SUBMISSIONS = 100_000
+
+
+def verdict(row):
+    """The kind of the greatest priority, the earliest on a tie."""
+    best = row[0]
+    for kind in row:
+        if PRIORITIES[kind] > PRIORITIES[best]:
+            best = kind
+    return best
+
+
+class Script:
+    """Writes lines and the replies to them. Each line of it has exactly one reply."""
+
+    def __init__(self, lines, replies):
+        self.lines = lines
+        self.replies = replies
+        self.count = 0
+        self.size = 0
+        self.reply_size = 0
+        self.rows = []
+        self.waiting = []
+        self.random = random.Random(20)
+
+    def put(self, line, reply):
+        self.lines.write(line + "\n")
+        self.replies.write(reply + "\n")
+        self.count += 1
+        self.size += len(line) + 1
+        self.reply_size += len(reply) + 1
+
+    def problem(self, number):
+        self.put(f"problem p{number} {TESTS}", f"problem p{number} version 1")
+
+    def submit(self):
+        self.rows.append([None] * TESTS)
+        judging = len(self.rows)
+        for test in range(TESTS):
+            self.waiting.append((judging, test))
+        problem = self.random.randrange(PROBLEMS)
+        self.put(f"submit p{problem}", f"submission {judging} judging {judging}")
+
+    def record(self):
+        # A result of one of the last few judgings, in no order.
+        at = self.random.randrange(max(0, len(self.waiting) - 200), len(self.waiting))
+        self.waiting[at], self.waiting[-1] = self.waiting[-1], self.waiting[at]
+        judging, test = self.waiting.pop()
+        kind = self.random.choice(KINDS)
+        self.rows[judging - 1][test] = kind
+        self.put(f"record {judging} {test + 1} {kind}", "counted")
+
+    def show(self):
+        judging = self.random.randrange(len(self.rows)) + 1
+        row = self.rows[judging - 1]
+        reply = "pending" if None in row else f"final {verdict(row)}"
+        self.put(f"show {judging}", reply)
+
+
+def write_script(lines, replies, count=None, size=None):
+    """Writes a script of `count` lines, or of at least `size` bytes, and returns it."""
+    script = Script(lines, replies)
+    for number in range(PROBLEMS):
+        script.problem(number)
+    script.submit()
+    while script.count < count if count else script.size < size:
+        part = script.random.randrange(10)
+        if part == 0 and len(script.rows) < SUBMISSIONS:
+            script.submit()
+        elif part <= 5 and script.waiting:
+            script.record()
+        else:
+            script.show()
+    return script

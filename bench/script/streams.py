@@ -1,0 +1,158 @@
+#!/usr/bin/env python3
+"""Looks at `farm script` on real streams: files, a pipe, a terminal, a pipe that is closed.
+
+    bench/script/streams.py [PROGRAM]
+
+PROGRAM is the built program, `crates/farm/out/farm` of this repository if none is given. One line is
+printed for each look, and the status is 1 where one shows something else than is wanted.
+"""
+
+import os
+import pty
+import select
+import subprocess
+import sys
+import tempfile
+import termios
+import time
+
+HERE = os.path.dirname(os.path.abspath(__file__))
+TOP = os.path.dirname(os.path.dirname(HERE))
+
+LINES = b"problem A 2\nsubmit A\nshow 1\n"
+REPLIES = b"problem A version 1\nsubmission 1 judging 1\npending\n"
+
+# What is read, and what is written for it.
+TEXTS = [
+    ("no byte", b"", b""),
+    ("CR LF", LINES.replace(b"\n", b"\r\n"), REPLIES),
+    ("no last LF", LINES[:-1], REPLIES),
+    ("empty lines and comments", b"\n \n# a\n\r\n" + LINES, REPLIES),
+    ("bytes that are no text", b"\xff\x00\xfe\n" + LINES, b"bad-line\n" + REPLIES),
+    ("a line of 4,096 bytes", b"#" * 4096 + b"\n" + LINES, REPLIES),
+    ("a line of 4,097 bytes", b"#" * 4097 + b"\n" + LINES, b"too-long 4097\n" + REPLIES),
+    ("a line of 10,000,000 bytes", b"a" * 10_000_000 + b"\n" + LINES, b"too-long 10000000\n" + REPLIES),
+    ("a long line without LF", LINES + b"a" * 70_000, REPLIES + b"too-long 70000\n"),
+]
+
+
+def run(program, stdin, **more):
+    return subprocess.run([program, "script"], stdin=stdin, capture_output=True, timeout=60, **more)
+
+
+def from_file(program, text):
+    with tempfile.TemporaryFile() as source:
+        source.write(text)
+        source.seek(0)
+        return run(program, source)
+
+
+def from_pipe(program, text):
+    return subprocess.run([program, "script"], input=text, capture_output=True, timeout=60)
+
+
+def from_slow_pipe(program, text):
+    """Three bytes at a time."""
+    child = subprocess.Popen([program, "script"], stdin=subprocess.PIPE, stdout=subprocess.PIPE, stderr=subprocess.PIPE)
+    for at in range(0, len(text), 3):
+        child.stdin.write(text[at : at + 3])
+        child.stdin.flush()
+        time.sleep(0.002)
+    child.stdin.close()
+    out, err = child.stdout.read(), child.stderr.read()
+    return subprocess.CompletedProcess([], child.wait(timeout=60), out, err)
+
+
+def read_some(file, seconds=5.0):
+    """What comes within some seconds, as soon as it comes."""
+    ready, _, _ = select.select([file], [], [], seconds)
+    return os.read(file, 65536) if ready else b""
+
+
+def at_terminal(program):
+    """Whether each reply comes before the next line is written."""
+    control, terminal = pty.openpty()
+    modes = termios.tcgetattr(terminal)
+    modes[3] &= ~termios.ECHO
+    modes[1] &= ~termios.OPOST
+    termios.tcsetattr(terminal, termios.TCSANOW, modes)
+    child = subprocess.Popen([program, "script"], stdin=terminal, stdout=terminal, stderr=subprocess.PIPE)
+    os.close(terminal)
+    wanted = REPLIES.splitlines(keepends=True)
+    for line, reply in zip(LINES.splitlines(keepends=True), wanted):
+        os.write(control, line)
+        got = b""
+        while len(got) < len(reply):
+            part = read_some(control)
+            if not part:
+                break
+            got += part
+        if got != reply:
+            child.kill()
+            child.wait()
+            return f"{got!r} came for {line!r}"
+    os.write(control, b"\x04")
+    status = child.wait(timeout=10)
+    os.close(control)
+    return None if status == 0 else f"status {status}"
+
+
+def to_closed_pipe(program):
+    """The status, and what is said, where the reader of the replies has gone."""
+    reader, writer = os.pipe()
+    os.close(reader)
+    with tempfile.TemporaryFile() as source:
+        source.write(LINES + b"show 1\n" * 100_000)
+        source.seek(0)
+        child = subprocess.Popen([program, "script"], stdin=source, stdout=writer, stderr=subprocess.PIPE)
+        os.close(writer)
+        _, err = child.communicate(timeout=60)
+    if child.returncode != 5:
+        return f"status {child.returncode}"
+    return None if err.count(b"\n") <= 1 else f"{err.count(10)} lines on standard error"
+
+
+def from_folder(program):
+    """The status where standard input cannot be read."""
+    folder = os.open(HERE, os.O_RDONLY)
+    done = run(program, folder)
+    os.close(folder)
+    return None if (done.returncode, done.stdout) == (4, b"") else f"status {done.returncode}"
+
+
+def usage(program):
+    """Wrong words: a text on standard error alone, and status 2."""
+    for words in [[], ["scripts"], ["script", "more"]]:
+        done = subprocess.run([program] + words, stdin=subprocess.DEVNULL, capture_output=True, timeout=60)
+        if done.returncode != 2 or done.stdout or not done.stderr:
+            return f"status {done.returncode} for {words}"
+    return None
+
+
+def compared(done, want):
+    if done.returncode != 0:
+        return f"status {done.returncode}"
+    if done.stdout != want:
+        return f"wrote {done.stdout[:200]!r}"
+    return None if not done.stderr else "text on standard error"
+
+
+def main():
+    program = sys.argv[1] if len(sys.argv) > 1 else os.path.join(TOP, "crates", "farm", "out", "farm")
+    program = os.path.abspath(program)
+    looks = []
+    for name, text, want in TEXTS:
+        looks.append((f"file: {name}", compared(from_file(program, text), want)))
+        looks.append((f"pipe: {name}", compared(from_pipe(program, text), want)))
+    looks.append(("pipe: three bytes at a time", compared(from_slow_pipe(program, LINES * 1), REPLIES)))
+    looks.append(("terminal: each reply at once", at_terminal(program)))
+    looks.append(("closed pipe: status 5, no storm", to_closed_pipe(program)))
+    looks.append(("input that cannot be read: status 4", from_folder(program)))
+    looks.append(("wrong words: usage and status 2", usage(program)))
+    for name, fault in looks:
+        print(f"{'ok  ' if fault is None else 'NOT '} {name}{'' if fault is None else ': ' + fault}")
+    return 1 if any(fault for _, fault in looks) else 0
+
+
+if __name__ == "__main__":
+    sys.exit(main())

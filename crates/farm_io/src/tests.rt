@@ -1,0 +1,223 @@
+ghost use Rattle.std.specs.Prelude.{◌≡◌, List, [], ◌∷◌, Some, codes};
+ghost use Rattle.farm_io.specs.Lines.{Whole, Long, lines_of, through_last_feed};
+
+use crate::{
+    Line, LineReader, MemorySink, MemorySource, PutEnd, ReadSource, ReliableSink, ReliableSource,
+    Sink, Source, Taken, WriteSink,
+};
+use std::alloc::{AllocError, Global};
+use std::test::Fail;
+
+/// The lines of some bytes, as the checker computes them.
+fn computed_lines()
+    ensures ends { lines_of (codes "a\r\n\nb") ≡ Whole (codes "a") ∷ (Whole [] ∷ (Whole (codes "b") ∷ [])) }
+    ensures one_return { lines_of (codes "a\r\r\n\r") ≡ Whole (codes "a\r") ∷ (Whole [] ∷ []) }
+    ensures none { lines_of [] ≡ [] }
+    ensures whole { through_last_feed (codes "a\n\nb") ≡ codes "a\n\n" }
+    ensures unfed { through_last_feed (codes "ab") ≡ [] }
+{}
+
+#[test]
+fn computes_lines() {
+    computed_lines();
+}
+
+/// A source that gives a byte at a time.
+#[derive(Drop)]
+struct Slow {
+    inner: ReliableSource,
+}
+
+impl Source for Slow {
+    ghost left = { λ s. Some s.inner };
+
+    ghost faults = { λ _. 0 };
+
+    fn take(&mut self, room: &mut [u8]) -> Taken {
+        self.inner.take(&mut room[..1])
+    }
+}
+
+/// The lines of the source, each with a bar behind it, of a long one its length, and why no more came.
+fn read_all<S: Source>(alloc: Global, source: &mut S) -> Result<(Vec<u8>, Line), AllocError> {
+    let mut shown = Vec::new(alloc);
+    let mut reader = LineReader::new();
+    for _ in 0..100u64 {
+        match reader.next_line(source) {
+            Line::Text => shown.extend_from_slice(reader.text())?,
+            Line::TooLong { len } => shown.extend_from_slice(len.to_string(alloc)?.as_bytes())?,
+            stop => return Ok((shown, stop)),
+        }
+        shown.push(b'|')?;
+    }
+    Ok((shown, Line::Text))
+}
+
+const TEXTS: [(&[u8], &[u8]); 12] = [
+    (b"", b""),
+    (b"a", b"a|"),
+    (b"a\n", b"a|"),
+    (b"a\nbc\n\nd", b"a|bc||d|"),
+    (b"\n\n", b"||"),
+    (b"a\r\nb\r\n", b"a|b|"),
+    (b"a\r\r\n", b"a\r|"),
+    (b"a\rb\n", b"a\rb|"),
+    (b"\r\n", b"|"),
+    (b"a\n\r", b"a||"),
+    (b"a\r", b"a|"),
+    (b"\xff\x00\xfe\n\x80", b"\xff\x00\xfe|\x80|"),
+];
+
+#[test]
+fn cuts_lines(rt: HostRuntime) -> Result<(), Fail> {
+    let alloc = rt.alloc();
+    for (i, (text, want)) in TEXTS.iter().enumerate() {
+        let mut source = ReliableSource::new(text.to_vec(alloc)?);
+        let (shown, stop) = read_all(alloc, &mut source)?;
+        assert_eq!(rt; shown.as_slice(), *want, "text {i}");
+        assert_eq!(rt; stop, Line::End, "text {i}");
+        let mut slow = Slow {
+            inner: ReliableSource::new(text.to_vec(alloc)?),
+        };
+        let (shown, stop) = read_all(alloc, &mut slow)?;
+        assert_eq!(rt; shown.as_slice(), *want, "slow text {i}");
+        assert_eq!(rt; stop, Line::End, "slow text {i}");
+    }
+    Ok(())
+}
+
+/// `count` letters, an end of the line, and one more line.
+fn letters(alloc: Global, count: usize, end: &[u8]) -> Result<Vec<u8>, AllocError> {
+    let mut text = vec![in alloc; b'a'; count]?;
+    text.extend_from_slice(end)?;
+    text.extend_from_slice(b"b\n")?;
+    Ok(text)
+}
+
+const LONG: [(usize, &[u8], &[u8]); 6] = [
+    (4097, b"\n", b"4097|b|"),
+    (4096, b"\r\n", b"4097|b|"),
+    (65_535, b"\n", b"65535|b|"),
+    (65_536, b"\n", b"65536|b|"),
+    (200_000, b"\r\n", b"200001|b|"),
+    (200_000, b"", b"200001|"),
+];
+
+#[test]
+fn skips_long_lines(rt: HostRuntime) -> Result<(), Fail> {
+    let alloc = rt.alloc();
+    for (count, end, want) in LONG {
+        let mut source = ReliableSource::new(letters(alloc, count, end)?);
+        let (shown, stop) = read_all(alloc, &mut source)?;
+        assert_eq!(rt; shown.as_slice(), want, "{count}");
+        assert_eq!(rt; stop, Line::End, "{count}");
+    }
+    Ok(())
+}
+
+#[test]
+fn keeps_lines_within_the_limit(rt: HostRuntime) -> Result<(), Fail> {
+    let alloc = rt.alloc();
+    for (count, end) in [(4096, b"\n".as_slice()), (4095, b"\r\n".as_slice())] {
+        let mut reader = LineReader::new();
+        let mut source = ReliableSource::new(letters(alloc, count, end)?);
+        assert_eq!(rt; reader.next_line(&mut source), Line::Text);
+        assert_eq!(rt; reader.text(), vec![in alloc; b'a'; count]?.as_slice());
+        assert_eq!(rt; reader.next_line(&mut source), Line::Text);
+        assert_eq!(rt; reader.text(), b"b".as_slice());
+        assert_eq!(rt; reader.next_line(&mut source), Line::End);
+        assert_eq!(rt; reader.text(), b"".as_slice());
+    }
+    Ok(())
+}
+
+/// A source whose calls with these numbers fail.
+fn failing(alloc: Global, text: &[u8], calls: &[u64]) -> Result<MemorySource, AllocError> {
+    Ok(MemorySource::new(text.to_vec(alloc)?, calls.to_vec(alloc)?))
+}
+
+#[test]
+fn a_read_that_fails_within_a_line_is_answered_again(rt: HostRuntime) -> Result<(), Fail> {
+    let alloc = rt.alloc();
+    let mut reader = LineReader::new();
+    let mut source = failing(alloc, b"a\nb", &[1])?;
+    assert_eq!(rt; reader.has_line(), false);
+    assert_eq!(rt; reader.next_line(&mut source), Line::Text);
+    assert_eq!(rt; reader.text(), b"a".as_slice());
+    for _ in 0..3 {
+        assert_eq!(rt; reader.has_line(), false);
+        assert_eq!(rt; reader.next_line(&mut source), Line::ReadFault);
+        assert_eq!(rt; reader.text(), b"".as_slice());
+    }
+    Ok(())
+}
+
+#[test]
+fn each_failing_read_ends_the_lines(rt: HostRuntime) -> Result<(), Fail> {
+    let alloc = rt.alloc();
+    let mut text = letters(alloc, 65_530, b"\n")?;
+    text.extend_from_slice(letters(alloc, 70_000, b"\n")?.as_slice())?;
+    let whole = b"65530|b|70000|b|".as_slice();
+    for (call, want) in [
+        (0, b"".as_slice()),
+        (1, b"65530|b|"),
+        (2, b"65530|b|"),
+        (3, whole),
+    ] {
+        let mut source = failing(alloc, text.as_slice(), &[call])?;
+        let (shown, stop) = read_all(alloc, &mut source)?;
+        assert_eq!(rt; shown.as_slice(), want, "call {call}");
+        assert_eq!(rt; stop, Line::ReadFault, "call {call}");
+    }
+    Ok(())
+}
+
+#[test]
+fn a_held_line_needs_no_read(rt: HostRuntime) -> Result<(), Fail> {
+    let alloc = rt.alloc();
+    let mut reader = LineReader::new();
+    let mut source = failing(alloc, b"a\nb\nc", &[1])?;
+    for held in [true, false] {
+        assert_eq!(rt; reader.next_line(&mut source), Line::Text);
+        assert_eq!(rt; reader.has_line(), held);
+    }
+    Ok(())
+}
+
+#[test]
+fn a_sink_holds_what_was_put(rt: HostRuntime) -> Result<(), Fail> {
+    let alloc = rt.alloc();
+    let mut sink = MemorySink::new(Vec::with_capacity(alloc, 4)?, [1].to_vec(alloc)?);
+    let ends = [PutEnd::Done, PutEnd::Failed, PutEnd::Done, PutEnd::Failed];
+    for (piece, end) in [b"ab".as_slice(), b"c", b"de", b"f"].iter().zip(ends) {
+        assert_eq!(rt; sink.put(piece), end);
+    }
+    assert_eq!(rt; sink.bytes(), b"abde".as_slice());
+    let mut sink = ReliableSink::new(Vec::with_capacity(alloc, 4)?);
+    for (piece, end) in [
+        (b"ab".as_slice(), PutEnd::Done),
+        (b"cde", PutEnd::Failed),
+        (b"fg", PutEnd::Done),
+    ] {
+        assert_eq!(rt; sink.put(piece), end);
+    }
+    assert_eq!(rt; sink.bytes(), b"abfg".as_slice());
+    Ok(())
+}
+
+#[test]
+fn readers_and_writers_are_streams(rt: HostRuntime) -> Result<(), Fail> {
+    let alloc = rt.alloc();
+    let mut source = ReadSource::new(b"a\nb".as_slice());
+    let (shown, stop) = read_all(alloc, &mut source)?;
+    assert_eq!(rt; shown.as_slice(), b"a|b|".as_slice());
+    assert_eq!(rt; stop, Line::End);
+    assert_eq!(rt; source.faults, 0);
+    let mut sink = WriteSink::new(Vec::new(alloc));
+    assert_eq!(rt; sink.put(b"ab"), PutEnd::Done);
+    assert_eq!(rt; sink.put(b""), PutEnd::Done);
+    assert_eq!(rt; sink.put(b"c"), PutEnd::Done);
+    assert_eq!(rt; sink.writer.as_slice(), b"abc".as_slice());
+    assert_eq!(rt; sink.faults, 0);
+    Ok(())
+}
