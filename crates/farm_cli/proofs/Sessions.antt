@@ -1,8 +1,7 @@
 -- A session, one step on.
 use Rattle.std.proofs.Common.{ℕ, ◌≡◌, ◌≢◌, ◌+◌, List, [], ◌∷◌, ◌++◌, ◌⊎◌, inl, inr, Option, None, Some, refl, sym, ap, ◌∙◌, append_assoc, length, take, drop, arith, subst}
-use Rattle.std.specs.Prelude.{IsTrue}
 use Rattle.std.specs.Io.KnownBytes.{Appends, Consumes, IsAtEnd}
-use Rattle.std.proofs.KnownBytes.{Appends-trans, Consumes-trans, Appends-nil}
+use Rattle.std.proofs.KnownBytes.{Appends-trans, Consumes-trans}
 use Rattle.std.proofs.lemmas.List.{append-nil, take-append-drop, length-append}
 use Rattle.farm_io.specs.declared.block.Stop.{Stop}
 use Rattle.farm_io.specs.declared.block.Stop.TheVariants as stop
@@ -12,7 +11,7 @@ use Rattle.farm_io.specs.declared.streams.PutEnd.TheVariants as put
 use Rattle.farm_io.specs.Lines.{Cut, Whole, Long, lines_of, line_feed, HasFeed, through_last_feed, input_limit}
 use Rattle.farm_io.specs.BlockValue.{IsEnded}
 use Rattle.farm_io.specs.ReaderValue.{ReaderValue, IsReadable}
-use Rattle.farm_io.specs.Reading.{Reads, IsFirst, MayFollow, EndsInFeed, MayGoOn, line_of_stop}
+use Rattle.farm_io.specs.Reading.{Reads, IsFirst, EndsInFeed, MayGoOn, line_of_stop}
 use Rattle.farm_io.proofs.WholeLines.{through_last_feed-none, through_last_feed-whole}
 use Rattle.farm_model.specs.State.{State}
 use Rattle.farm_model.specs.Script.{output_from, after_line}

@@ -1,6 +1,6 @@
 -- The words of a text, from its front.
-use Rattle.std.proofs.Common.{ℕ, zero, suc, ◌≡◌, ◌≢◌, ◌+◌, ◌<◌, ◌≤◌, List, [], ◌∷◌, ◌++◌, Bool, true, false, cond, eqb, refl, sym, ap, ◌∙◌, subst, arith, length, take, drop, get_or, add-zero}
-use Rattle.std.proofs.lemmas.List.{take_more, drop_more, take-append-drop, drop_all, append-nil, length-take, length-drop, get_or-drop}
+use Rattle.std.proofs.Common.{ℕ, zero, suc, ◌≡◌, ◌≢◌, ◌+◌, ◌<◌, ◌≤◌, List, [], ◌∷◌, ◌++◌, false, eqb, refl, sym, ap, ◌∙◌, subst, arith, length, take, drop, get_or, add-zero}
+use Rattle.std.proofs.lemmas.List.{take_more, drop_more, take-append-drop, append-nil, length-take, length-drop, get_or-drop}
 use Rattle.std.proofs.lemmas.Bool.Decides.{nat_tests}
 use Rattle.farm_model.specs.Words.{words, put_before, onto_first}
 use Rattle.farm_cli.specs.NextWord.{IsWord}

@@ -6,6 +6,8 @@ mod farm;
 mod lines;
 mod numbers;
 mod script;
+#[cfg(test)]
+mod tests;
 mod texts;
 mod top;
 

@@ -1,5 +1,5 @@
 -- Leases: each a task that a host holds until a moment.
-use Rattle.std.specs.Prelude.{ℕ, List, filter, Bool, not, ◌&&◌, ◌==◌}
+use Rattle.std.specs.Prelude.{List, filter, Bool, not, ◌&&◌, ◌==◌}
 use Rattle.farm_kinds.specs.declared.outcomes.Task.{Task}
 use Rattle.farm_model.specs.declared.records.Lease.{Lease}
 

@@ -1,6 +1,6 @@
 -- Rows of results, their completions, and what is reported of them
 -- (DOMjudge manual, "Lazy judging": a verdict is final once no other result can change it).
-use Rattle.std.specs.Prelude.{ℕ, List, [], ◌∷◌, map, Option, Some, None, Bool, false, ◌==◌, find, flat_map}
+use Rattle.std.specs.Prelude.{List, [], ◌∷◌, map, Option, Some, None, Bool, false, ◌==◌, find, flat_map}
 use Rattle.std.specs.List.{list_all}
 use Rattle.std.specs.Option.{option_map}
 use Rattle.farm_kinds.specs.declared.kinds.Kind.{Kind}

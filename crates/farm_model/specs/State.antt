@@ -1,5 +1,5 @@
 -- What the farm keeps.
-use Rattle.std.specs.Prelude.{ℕ, List, [], Option, Bool, false, unwrap_or, find}
+use Rattle.std.specs.Prelude.{ℕ, List, [], Option, Bool, false, unwrap_or}
 use Rattle.std.specs.Str.{bytes_eq}
 use Rattle.farm_kinds.specs.declared.outcomes.Answer.{Answer}
 use Rattle.farm_kinds.specs.declared.outcomes.Answer.TheVariants.{Pending}

@@ -5,7 +5,7 @@ use Rattle.std.proofs.lemmas.List.{take_more}
 use Rattle.farm_kinds.specs.declared.kinds.Kind.{Kind}
 use Rattle.farm_kinds.specs.RuleValue.{RuleValue}
 use Rattle.farm_kinds.specs.Rules.{verdict_of}
-use Rattle.farm_model.specs.Rows.{kinds_of, full_kind}
+use Rattle.farm_model.specs.Rows.{kinds_of}
 
 pub kinds_of-push : (row : List (Option Kind)) (ks : List Kind) (k : Kind) → kinds_of row ≡ Some ks → kinds_of (row ++ Some k ∷ []) ≡ Some (ks ++ k ∷ [])
 kinds_of-push [] ks k h = let e : [] ≡ ks = cc in rw (← e) refl

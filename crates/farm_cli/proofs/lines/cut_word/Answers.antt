@@ -1,4 +1,3 @@
-use Rattle.std.proofs.Common.{sym}
 use Rattle.farm_cli.proofs.WordLemmas.{first_word}
 use Rattle.farm_cli.proofs.lines.cut_word.Goals as goal
 

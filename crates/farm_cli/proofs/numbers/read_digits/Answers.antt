@@ -1,4 +1,4 @@
-use Rattle.std.proofs.Common.{ℕ, ◌≡◌, ◌<◌, ◌≤◌, List, true, get_or, arith, refl, sym, ap, ◌∙◌, rules}
+use Rattle.std.proofs.Common.{◌≡◌, true, get_or, arith, refl, sym, ◌∙◌}
 use Rattle.std.proofs.lemmas.List.Folds.{list_all_more}
 use Rattle.farm_model.specs.Numbers.{is_digit}
 use Rattle.farm_cli.proofs.NumberLemmas.{value_more, too_large}

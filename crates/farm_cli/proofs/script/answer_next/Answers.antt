@@ -1,8 +1,7 @@
 use Rattle.std.proofs.Common.{refl}
 use Rattle.farm_io.specs.Lines.{Whole, Long}
-use Rattle.farm_io.specs.declared.lines.Line.TheVariants as line
 use Rattle.farm_cli.specs.Session.{Standing}
-use Rattle.farm_cli.proofs.Sessions.{line_goes_on, memory_wanted, turned_memory, took_text, took_long, at_end, at_fault, at_limit, fault_going, kept_front, not_stopped}
+use Rattle.farm_cli.proofs.Sessions.{line_goes_on, memory_wanted, turned_memory, took_text, took_long, at_end, at_fault, at_limit, kept_front, not_stopped}
 use Rattle.farm_cli.proofs.script.answer_next.Goals as goal
 
 pub returns-in-Ok-clause-turned : goal.returns-in-Ok-clause-turned
