@@ -1,0 +1,44 @@
+//! `farm`: the judging back end of a programming contest.
+#![tactic(auto)]
+
+use farm_cli::{Exit, farm_main};
+use farm_io::{ReadSource, WriteSink};
+use std::process::ExitCode;
+use std::{env, io};
+
+const USAGE: &str = "usage: farm script < LINES
+
+Reads event lines from standard input and writes a reply to each:
+  problem NAME N           a problem with N tests
+  submit NAME              a submission to a problem, and its judging
+  record J T KIND          the result of test T of judging J
+  show J                   what is reported of judging J
+Empty lines, and lines whose first word begins with #, have no reply.
+
+Status: 0 done, 2 usage, 4 read fault, 5 write fault, 6 no memory, 9 input limit.
+";
+
+fn main(rt: HostRuntime) -> ExitCode {
+    let exit = run(&rt);
+    if let Exit::Usage = exit {
+        let _ = rt.eprint(USAGE);
+    }
+    ExitCode::from(exit.status())
+}
+
+/// Runs the command of the program's words over standard input and output.
+fn run(rt: &HostRuntime) -> Exit {
+    let alloc = rt.alloc();
+    let mut words = Vec::new(alloc);
+    let Ok(args) = env::args(rt) else {
+        return Exit::Usage;
+    };
+    for word in args {
+        if words.push(word).is_err() {
+            return Exit::Memory;
+        }
+    }
+    let mut input = ReadSource::new(rt.reader());
+    let mut out = WriteSink::new(io::writer(rt));
+    farm_main(alloc, words.as_slice(), &mut input, &mut out)
+}

@@ -1,0 +1,6 @@
+pub mod Submits
+pub mod WordLemmas
+pub mod NumberLemmas
+pub mod Joining
+pub mod Sessions
+pub mod Completing

@@ -1,0 +1,7 @@
+use Rattle.farm_cli.proofs.Completing.{completed}
+use Rattle.farm_cli.proofs.top.farm_main.Goals as goal
+
+pub returns-clause-complete : goal.returns-clause-complete
+returns-clause-complete g c = λ is_script short no_read no_write.
+    let e = c.run_script.ensures in
+    completed _ _ c.run_script.result _ _ e.not_usage e.read_fault e.write_fault e.limit short no_read no_write

@@ -1,0 +1,5 @@
+pub mod FarmShape
+pub mod FarmLayout
+pub mod NextWord
+pub mod WordList
+pub mod Session

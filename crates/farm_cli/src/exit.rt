@@ -1,0 +1,30 @@
+/// How the program ends.
+#[derive(Clone, Copy, Debug, PartialEq, Eq)]
+pub enum Exit {
+    /// The command did all that it is to do.
+    Done,
+    /// The words are not a command line.
+    Usage,
+    /// The input failed.
+    ReadFault,
+    /// The output failed.
+    WriteFault,
+    /// No memory was left.
+    Memory,
+    /// As many bytes were taken from the input as are taken at most, 2^40, and its end was not among them.
+    InputLimit,
+}
+
+impl Exit {
+    /// The program's exit status.
+    pub fn status(self) -> u8 {
+        match self {
+            Exit::Done => 0,
+            Exit::Usage => 2,
+            Exit::ReadFault => 4,
+            Exit::WriteFault => 5,
+            Exit::Memory => 6,
+            Exit::InputLimit => 9,
+        }
+    }
+}

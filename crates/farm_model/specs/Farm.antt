@@ -1,0 +1,33 @@
+-- The farm's step: each event's new state and reply.
+use Rattle.std.specs.Prelude.{◌≡◌, ◌≢◌, Bool, true, false, IsTrue, None}
+use Rattle.farm_kinds.specs.declared.events.Event.TheVariants as event
+use Rattle.farm_kinds.specs.declared.events.Event.{Event}
+use Rattle.farm_kinds.specs.declared.events.Reply.{Reply}
+use Rattle.farm_kinds.specs.declared.events.Reply.TheVariants as reply
+use Rattle.farm_model.specs.Refusing.{refused_or}
+use Rattle.farm_model.specs.State.{State}
+use Rattle.farm_model.specs.Refusals.{refusal_of}
+use Rattle.farm_model.specs.Changes.{accepted}
+
+-- a refused event changes nothing, and an accepted one does what it is to do
+abbrev pub farm_step : State → Event → State × Reply
+farm_step s e = refused_or s (refusal_of s e) (accepted s e)
+
+-- the events that take memory where they are accepted
+abbrev pub takes_memory : Event → Bool
+takes_memory (event.Problem who name tests) = true
+takes_memory (event.Submit problem class broken) = true
+takes_memory (event.Entry j test kind) = false
+takes_memory (event.Show j) = false
+
+-- memory may be wanting: the event takes it, and is not refused
+pub record MayWant (s : State) (e : Event) : Type 0 where
+  pub takes : IsTrue (takes_memory e)
+  pub accepted : refusal_of s e ≡ None
+
+-- an event was answered as the farm's step says, or memory was wanting and nothing changed
+pub record Stepped (old : State) (e : Event) (new : State) (r : Reply) : Type 0 where
+  pub wanted : r ≡ reply.NoMemory → MayWant old e
+  pub kept : r ≡ reply.NoMemory → new ≡ old
+  pub state : r ≢ reply.NoMemory → new ≡ (farm_step old e).0
+  pub answer : r ≢ reply.NoMemory → r ≡ (farm_step old e).1

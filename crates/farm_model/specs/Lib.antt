@@ -1,0 +1,16 @@
+pub mod Numbered
+pub mod Rows
+pub mod Refusing
+pub mod Leases
+pub mod Judgings
+pub mod Judge
+pub mod State
+pub mod Refusals
+pub mod Changes
+pub mod Farm
+pub mod Replay
+pub mod Words
+pub mod Numbers
+pub mod Grammar
+pub mod Texts
+pub mod Script

@@ -1,0 +1,65 @@
+-- What the farm keeps.
+use Rattle.std.specs.Prelude.{ℕ, List, [], Option, Bool, false, unwrap_or, find}
+use Rattle.std.specs.Str.{bytes_eq}
+use Rattle.farm_kinds.specs.declared.outcomes.Answer.{Answer}
+use Rattle.farm_kinds.specs.declared.outcomes.Answer.TheVariants.{Pending}
+use Rattle.farm_kinds.specs.declared.outcomes.Mode.{Mode}
+use Rattle.farm_kinds.specs.declared.outcomes.Mode.TheVariants.{Full}
+use Rattle.farm_kinds.specs.RuleValue.{RuleValue}
+use Rattle.farm_kinds.specs.Rules.{standard}
+use Rattle.farm_model.specs.declared.records.Problem.{Problem}
+use Rattle.farm_model.specs.declared.records.Host.{Host}
+use Rattle.farm_model.specs.declared.records.Submission.{Submission}
+use Rattle.farm_model.specs.declared.records.Filing.{Filing}
+use Rattle.farm_model.specs.declared.records.Rejudging.{Rejudging}
+use Rattle.farm_model.specs.Numbered.{number_where}
+use Rattle.farm_model.specs.Judge.{JudgeState, first_state, answer_of_judging}
+
+-- what a contest sets
+pub record SettingsValue : Type 0 where
+  pub rule : RuleValue
+  pub mode : Mode
+  -- how long a lease lasts, in seconds
+  pub lease : ℕ
+  -- whether the public sees a judging only once it is verified
+  pub verification : Bool
+  -- how many instructions a second of a time limit stands for
+  pub ips : ℕ
+
+abbrev pub standard_settings : SettingsValue
+standard_settings = record { rule = standard; mode = Full; lease = 60; verification = false; ips = 10000000 }
+
+-- problems, hosts, submissions, judgings and rejudgings are numbered from 1
+pub record State : Type 0 where
+  -- judgings with their rows, leases, and the moment
+  pub judge : JudgeState
+  -- whether the public sees a judging only once it is verified
+  pub verification : Bool
+  pub problems : List Problem
+  pub hosts : List Host
+  pub submissions : List Submission
+  -- one for each judging
+  pub filings : List Filing
+  pub rejudgings : List Rejudging
+  -- the audit log's texts
+  pub texts : List (List ℕ)
+
+-- the empty farm
+abbrev pub start : SettingsValue → State
+start s = record {
+  judge = first_state s.rule s.mode s.lease;
+  verification = s.verification;
+  problems = [];
+  hosts = [];
+  submissions = [];
+  filings = [];
+  rejudgings = [];
+  texts = [];
+}
+
+abbrev pub problem_number : List Problem → List ℕ → Option ℕ
+problem_number problems name = number_where (λ problem. bytes_eq problem.name name) problems
+
+-- what the jury sees of a judging; pending where there is none
+abbrev pub answer_at : State → ℕ → Answer
+answer_at s j = unwrap_or (answer_of_judging s.judge j) Pending
