@@ -1,6 +1,5 @@
 -- A session, one step on.
-use Rattle.std.proofs.Common.{ℕ, ◌≡◌, ◌≢◌, ◌+◌, List, [], ◌∷◌, ◌++◌, ◌⊎◌, inl, inr, Option, None, Some, refl, sym, ap, ◌∙◌, append_assoc, length, take, drop, arith, subst, false, eqb}
-use Rattle.std.proofs.lemmas.Bool.Decides.{nat_tests}
+use Rattle.std.proofs.Common.{ℕ, ◌≡◌, ◌≢◌, ◌+◌, List, [], ◌∷◌, ◌++◌, ◌⊎◌, inl, inr, Option, None, Some, refl, sym, ap, ◌∙◌, append_assoc, length, take, drop, arith, subst}
 use Rattle.std.specs.Prelude.{IsTrue}
 use Rattle.std.specs.Io.KnownBytes.{Appends, Consumes, IsAtEnd}
 use Rattle.std.proofs.KnownBytes.{Appends-trans, Consumes-trans, Appends-nil}
@@ -10,11 +9,11 @@ use Rattle.farm_io.specs.declared.block.Stop.TheVariants as stop
 use Rattle.farm_io.specs.declared.lines.Line.{Line}
 use Rattle.farm_io.specs.declared.lines.Line.TheVariants as line
 use Rattle.farm_io.specs.declared.streams.PutEnd.TheVariants as put
-use Rattle.farm_io.specs.Lines.{Cut, Whole, Long, lines_of, line_feed, HasFeed, through_last_feed, keep_before, input_limit}
+use Rattle.farm_io.specs.Lines.{Cut, Whole, Long, lines_of, line_feed, HasFeed, through_last_feed, input_limit}
 use Rattle.farm_io.specs.BlockValue.{IsEnded}
 use Rattle.farm_io.specs.ReaderValue.{ReaderValue, IsReadable}
 use Rattle.farm_io.specs.Reading.{Reads, IsFirst, MayFollow, EndsInFeed, MayGoOn, line_of_stop}
-use Rattle.farm_io.proofs.Feeds.{no_feed-tail}
+use Rattle.farm_io.proofs.WholeLines.{through_last_feed-none, through_last_feed-whole}
 use Rattle.farm_model.specs.State.{State}
 use Rattle.farm_model.specs.Script.{output_from, after_line}
 use Rattle.farm_cli.specs.declared.exit.Exit.{Exit}
@@ -153,26 +152,10 @@ all_answered b p left front took none end empty u = record {
 
 -- A fault
 
-no_feed_kept : (bytes : List ℕ) → ¬ HasFeed bytes → through_last_feed bytes ≡ []
-no_feed_kept [] h = refl
-no_feed_kept (x ∷ xs) h =
-    let parts = no_feed-tail x xs h in
-    let other : eqb x line_feed ≡ false = grind (arith, nat_tests, parts.0) in
-    ap (keep_before x) (no_feed_kept xs parts.1) ∙ rw other refl
-
-keep_more : (x : ℕ) (ys : List ℕ) (z : ℕ) → keep_before x (ys ++ z ∷ []) ≡ x ∷ (ys ++ z ∷ [])
-keep_more x [] z = refl
-keep_more x (y ∷ ys) z = refl
-
-feed_kept : (front rest : List ℕ) → ¬ HasFeed rest → through_last_feed (front ++ line_feed ∷ rest) ≡ front ++ line_feed ∷ []
-feed_kept [] rest h = ap (keep_before line_feed) (no_feed_kept rest h)
-feed_kept (x ∷ xs) rest h = ap (keep_before x) (feed_kept xs rest h) ∙ keep_more x xs line_feed
-
 -- what ends in a line feed is what stands before what has none
-pub well_ended : (piece rest : List ℕ) → EndsWell piece → ¬ HasFeed rest → through_last_feed (piece ++ rest) ≡ piece
-well_ended piece rest (inl e) h = ap (λ w. through_last_feed (w ++ rest)) e ∙ no_feed_kept rest h ∙ sym e
-well_ended piece rest (inr f) h =
-    ap (λ w. through_last_feed (w ++ rest)) f.1 ∙ ap through_last_feed (append_assoc f.0 (line_feed ∷ []) rest) ∙ feed_kept f.0 rest h ∙ sym f.1
+well_ended : (piece rest : List ℕ) → EndsWell piece → ¬ HasFeed rest → through_last_feed (piece ++ rest) ≡ piece
+well_ended piece rest (inl e) h = ap (λ w. through_last_feed (w ++ rest)) e ∙ through_last_feed-none rest h ∙ sym e
+well_ended piece rest (inr f) h = through_last_feed-whole piece rest f h
 
 pub lines_answered : (b : Beginning) (p : Standing) (left : Option (List ℕ)) (front : List ℕ) → Consumes p.left left front → ¬ HasFeed (p.reader.ahead ++ front) → p.reader.stop ≡ None → p.pending ≡ []
     → IsUnderWay b p → LinesAnswered b left p.held

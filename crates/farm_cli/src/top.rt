@@ -1,6 +1,8 @@
 ghost use Rattle.std.specs.Prelude.{◌≡◌, ◌≢◌, ◌↔◌, ◌⊎◌, List, map, string_bytes, true, false};
 ghost use Rattle.farm_io.specs.Streams.{Rose};
 ghost use Rattle.farm_model.specs.State.{standard_settings, start};
+ghost use Rattle.farm_kinds.specs.declared.events.Event.{Event};
+ghost use Rattle.farm_laws.specs.Laws.{KeepsPromise};
 ghost use Rattle.farm_cli.specs.Session.{AllAnswered, LinesAnswered, FrontAnswered, TookLimit, IsScript, IsShort};
 
 use crate::exit::Exit;
@@ -42,6 +44,10 @@ pub fn farm_main<S: Source, K: Sink>(
         → LinesAnswered (record { farm = start standard_settings; left = S.left input.old; held = K.held out.old }) (S.left input.new) (K.held out.new) }
     ensures front { (result ≡ Exit.WriteFault) ⊎ (result ≡ Exit.Memory)
         → FrontAnswered (record { farm = start standard_settings; left = S.left input.old; held = K.held out.old }) (S.left input.new) (K.held out.new) }
+
+    // Whatever lines come, a judging is reported final exactly where every test has a result that was counted,
+    // with the verdict of running every test in rank order on one thread; final stays; each result counts once.
+    ensures headline { (es : List Event) → KeepsPromise standard_settings es }
 
     // Each fault has its cause, and without one the command is done unless memory is wanting.
     ensures read_fault { result ≡ Exit.ReadFault → Rose (S.faults input.old) (S.faults input.new) }

@@ -1,31 +1,20 @@
 -- The cells of judgings, and what each event does to them.
-use Rattle.std.proofs.Common.{ℕ, zero, suc, ◌≡◌, ◌≢◌, ◌+◌, ◌-◌, ◌<◌, List, [], ◌∷◌, ◌++◌, Option, Some, None, Bool, true, false, cond, eqb, ◌&&◌, refl, sym, ap, ◌∙◌, subst, inl, inr, ◌⊎◌, arith, length, map, set, slice_get, replicate}
+use Rattle.std.proofs.Common.{ℕ, zero, suc, ◌≡◌, ◌≢◌, ◌-◌, List, [], ◌∷◌, ◌++◌, Option, Some, None, Bool, true, false, cond, eqb, ◌&&◌, refl, sym, ap, ◌∙◌, set, slice_get, replicate}
+use Rattle.std.specs.Prelude.{nat_lt}
 use Rattle.std.specs.Option.{option_map, option_and_then, option_or, unwrap_or, is_some}
-use Rattle.std.specs.List.{filter_map, cons_option}
 use Rattle.std.proofs.lemmas.Bool.{eqb-true, eqb-false}
-use Rattle.std.proofs.lemmas.Bool.Decides.{nat_tests}
 use Rattle.farm_kinds.specs.declared.kinds.Kind.{Kind}
 use Rattle.farm_kinds.specs.declared.outcomes.Class.{Class}
-use Rattle.farm_kinds.specs.declared.outcomes.Task.{Task}
 use Rattle.farm_kinds.specs.declared.outcomes.Count.{Count}
 use Rattle.farm_kinds.specs.declared.outcomes.Count.TheVariants as count
-use Rattle.farm_kinds.specs.declared.events.Event.{Event}
-use Rattle.farm_kinds.specs.declared.events.Event.TheVariants as event
-use Rattle.farm_kinds.specs.declared.events.Reply.{Reply}
 use Rattle.farm_kinds.specs.declared.events.Reply.TheVariants as reply
-use Rattle.farm_kinds.specs.RuleValue.{RuleValue}
-use Rattle.farm_kinds.specs.Rules.{remap_of}
-use Rattle.farm_model.specs.Numbered.{item_of, with_change, change_item}
+use Rattle.farm_model.specs.Numbered.{item_of, change_item}
 use Rattle.farm_model.specs.Refusing.{when, unless, first_of, refused_or}
 use Rattle.farm_model.specs.Rows.{Row, same_kind}
 use Rattle.farm_model.specs.Leases.{same_task}
-use Rattle.farm_model.specs.Judgings.{Judging, empty_judging, task_of, cell_of, is_judging, has_test, kept_count, kept_refusal, is_dropped, entry_refusal, fill_cell, with_result}
-use Rattle.farm_model.specs.State.{State}
-use Rattle.farm_model.specs.Refusals.{count_reply, refusal_of}
-use Rattle.farm_model.specs.Changes.{accepted}
-use Rattle.farm_model.specs.Farm.{farm_step}
-use Rattle.farm_model.specs.Replay.{if_counted, given_by, counted_by, counted_in, kind_for, cell_for, reply_to}
-use Rattle.farm_laws.proofs.Items.{item_at, item_by, with_same, with_other, item_append}
+use Rattle.farm_model.specs.Judgings.{Judging, empty_judging, task_of, cell_of, is_judging, has_test, kept_count, is_dropped, entry_refusal, fill_cell, with_result}
+use Rattle.farm_model.specs.Refusals.{count_reply}
+use Rattle.farm_laws.proofs.Items.{item_at, with_same, with_other}
 
 -- the kind that a cell holds; none where it is empty, or is not there
 abbrev pub cell_at : List Judging → ℕ → ℕ → Option Kind
@@ -72,3 +61,92 @@ count_reply_other j t (count.Repeat kept) n = λ e. cc
 count_reply_other j t (count.Differs kept given) n = λ e. cc
 count_reply_other j t count.Dropped n = λ e. cc
 count_reply_other j t count.Counted n = absurd (n refl)
+
+-- Cells of changed judgings
+
+-- the kind in a cell of a judging, where there is one
+abbrev pub kind_in : Option Judging → ℕ → Option Kind
+kind_in o t = unwrap_or (option_and_then (λ judging. item_of judging.row t) o) None
+
+copied : {X : Type 0} (n i : ℕ) (x : X) → unwrap_or (slice_get (replicate n x) i) x ≡ x
+copied zero i x = refl
+copied (suc n) zero x = refl
+copied (suc n) (suc i) x = copied n i x
+
+unwrapped : {X : Type 0} (b : Bool) (o : Option X) (d : X) → unwrap_or o d ≡ d → unwrap_or (cond b o None) d ≡ d
+unwrapped true o d h = h
+unwrapped false o d h = refl
+
+empty_kind : (class : Class) (n t : ℕ) → kind_in (Some (empty_judging class n)) t ≡ None
+empty_kind class n t = unwrapped (nat_lt 0 t) (slice_get (replicate n None) (t - 1)) None (copied n (t - 1) None)
+
+last_empty : (judgings : List Judging) (class : Class) (n i t : ℕ) → kind_in (slice_get (judgings ++ empty_judging class n ∷ []) i) t ≡ kind_in (slice_get judgings i) t
+last_empty [] class n zero t = empty_kind class n t
+last_empty [] class n (suc i) t = refl
+last_empty (g ∷ judgings) class n zero t = refl
+last_empty (g ∷ judgings) class n (suc i) t = last_empty judgings class n i t
+
+same_kinds : (b : Bool) (x y : Option Judging) (t : ℕ) → kind_in x t ≡ kind_in y t → kind_in (cond b x None) t ≡ kind_in (cond b y None) t
+same_kinds true x y t h = h
+same_kinds false x y t h = refl
+
+-- a new judging has no kind in any cell
+pub cell_append : (judgings : List Judging) (class : Class) (n j t : ℕ) → cell_at (judgings ++ empty_judging class n ∷ []) j t ≡ cell_at judgings j t
+cell_append judgings class n j t = same_kinds (nat_lt 0 j) (slice_get (judgings ++ empty_judging class n ∷ []) (j - 1)) (slice_get judgings (j - 1)) t (last_empty judgings class n (j - 1) t)
+
+pub or_none : {X : Type 0} (o : Option X) → option_or o None ≡ o
+or_none None = refl
+or_none (Some x) = refl
+
+-- the judging and the row that have the cell
+pub record HasEmpty (judgings : List Judging) (j t : ℕ) : Type 0 where
+  pub judging : Judging
+  pub there : item_of judgings j ≡ Some judging
+  pub empty : item_of judging.row t ≡ Some None
+
+has_empty : (judgings : List Judging) (j t : ℕ) (o : Option Judging) → item_of judgings j ≡ o → option_and_then (λ judging. item_of judging.row t) o ≡ Some None → HasEmpty judgings j t
+has_empty judgings j t None e h = cc
+has_empty judgings j t (Some g) e h = record { judging = g; there = e; empty = h }
+
+pub empty_there : (judgings : List Judging) (j t : ℕ) → cell_of judgings j t ≡ Some None → HasEmpty judgings j t
+empty_there judgings j t h = has_empty judgings j t (item_of judgings j) refl h
+
+-- what a cell holds once a cell was filled
+abbrev pub filled_at : ℕ → ℕ → Kind → ℕ → ℕ → Option Kind
+filled_at j t kind j' t' = cond (same_task (task_of j t) (task_of j' t')) (Some kind) None
+
+filled_same : (judgings : List Judging) (j t : ℕ) (kind : Kind) (e : HasEmpty judgings j t) → item_of (with_result judgings j t kind) j ≡ Some (fill_cell t kind e.judging)
+filled_same judgings j t kind e =
+    ap (λ o. item_of (change_item judgings j (fill_cell t kind) o) j) e.there ∙ with_same judgings j e.judging (fill_cell t kind e.judging) e.there
+
+filled_other : (judgings : List Judging) (j j' t : ℕ) (kind : Kind) (e : HasEmpty judgings j t) → j ≢ j' → item_of (with_result judgings j t kind) j' ≡ item_of judgings j'
+filled_other judgings j j' t kind e n =
+    ap (λ o. item_of (change_item judgings j (fill_cell t kind) o) j') e.there
+    ∙ with_other judgings j j' (fill_cell t kind e.judging) (item_at judgings j e.judging e.there).0 n
+
+-- in the judging of the cell
+fill_in : (row : Row) (t t' : ℕ) (kind : Kind) → item_of row t ≡ Some None → (b : Bool) → eqb t t' ≡ b
+    → unwrap_or (item_of (set row (t - 1) (Some kind)) t') None ≡ option_or (unwrap_or (item_of row t') None) (cond b (Some kind) None)
+fill_in row t t' kind h true e =
+    let same : t ≡ t' = eqb-true t t' e in
+    ap (λ (u : ℕ). unwrap_or (item_of (set row (t - 1) (Some kind)) u) None) (sym same) ∙ ap (λ o. unwrap_or o None) (with_same row t None (Some kind) h)
+    ∙ sym (ap (λ (u : ℕ). option_or (unwrap_or (item_of row u) None) (Some kind)) (sym same) ∙ ap (λ o. option_or (unwrap_or o None) (Some kind)) h)
+fill_in row t t' kind h false e =
+    let other : t ≢ t' = eqb-false t t' e in
+    ap (λ o. unwrap_or o None) (with_other row t t' (Some kind) (item_at row t None h).0 other) ∙ sym (or_none (unwrap_or (item_of row t') None))
+
+fill_at : (judgings : List Judging) (j t : ℕ) (kind : Kind) (e : HasEmpty judgings j t) (j' t' : ℕ) (b : Bool) → eqb j j' ≡ b
+    → cell_at (with_result judgings j t kind) j' t' ≡ option_or (cell_at judgings j' t') (cond (b && eqb t t') (Some kind) None)
+fill_at judgings j t kind e j' t' true h =
+    let same : j ≡ j' = eqb-true j j' h in
+    ap (λ (i : ℕ). cell_at (with_result judgings j t kind) i t') (sym same) ∙ ap (λ o. kind_in o t') (filled_same judgings j t kind e)
+    ∙ fill_in e.judging.row t t' kind e.empty (eqb t t') refl
+    ∙ ap (λ o. option_or (kind_in o t') (cond (eqb t t') (Some kind) None)) (sym e.there)
+    ∙ ap (λ (i : ℕ). option_or (cell_at judgings i t') (cond (eqb t t') (Some kind) None)) same
+fill_at judgings j t kind e j' t' false h =
+    ap (λ o. kind_in o t') (filled_other judgings j j' t kind e (eqb-false j j' h)) ∙ sym (or_none (cell_at judgings j' t'))
+
+-- a result fills its cell and no other
+pub cell_filled : (judgings : List Judging) (j t : ℕ) (kind : Kind) → cell_of judgings j t ≡ Some None → (j' t' : ℕ)
+    → cell_at (with_result judgings j t kind) j' t' ≡ option_or (cell_at judgings j' t') (filled_at j t kind j' t')
+cell_filled judgings j t kind h j' t' = fill_at judgings j t kind (empty_there judgings j t h) j' t' (eqb j j') refl

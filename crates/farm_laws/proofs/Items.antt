@@ -1,9 +1,8 @@
 -- Lists whose items are numbered from 1.
-use Rattle.std.proofs.Common.{ℕ, zero, suc, ◌≡◌, ◌≢◌, ◌+◌, ◌-◌, ◌<◌, ◌≤◌, List, [], ◌∷◌, ◌++◌, Option, Some, None, Bool, true, false, cond, ltb, refl, sym, ap, ◌∙◌, arith, length, map, set, slice_get, get_or, replicate}
-use Rattle.std.specs.Option.{option_map, unwrap_or}
+use Rattle.std.proofs.Common.{ℕ, zero, suc, ◌≡◌, ◌≢◌, ◌+◌, ◌-◌, ◌<◌, List, [], ◌∷◌, ◌++◌, Option, Some, None, cond, ltb, refl, ap, ◌∙◌, arith, length, map, set, slice_get}
 use Rattle.std.specs.List.{range_with_len}
 use Rattle.std.proofs.lemmas.Bool.Decides.{nat_tests}
-use Rattle.farm_model.specs.Numbered.{item_of, with_change, change_item}
+use Rattle.farm_model.specs.Numbered.{item_of}
 
 pub item_at : {X : Type 0} (xs : List X) (n : ℕ) (x : X) → item_of xs n ≡ Some x → (0 < n) × (slice_get xs (n - 1) ≡ Some x)
 item_at xs zero x h = cc

@@ -1,5 +1,5 @@
 -- The laws of runs: each over every list of events from the empty farm.
-use Rattle.std.specs.Prelude.{◌≡◌, ◌≢◌, ◌↔◌, ℕ, ◌≤◌, List, [], ◌++◌, length, Option, Some, None, IsSome, unwrap_or, ⊤}
+use Rattle.std.specs.Prelude.{◌≡◌, ◌≢◌, ◌↔◌, ℕ, ◌≤◌, List, [], ◌++◌, length, Some, None, IsSome, unwrap_or}
 use Rattle.std.specs.Option.{option_map}
 use Rattle.farm_kinds.specs.declared.outcomes.Verdict.{Verdict}
 use Rattle.farm_kinds.specs.declared.outcomes.Answer.{Answer}
@@ -8,11 +8,9 @@ use Rattle.farm_kinds.specs.declared.outcomes.Mode.TheVariants.{Full}
 use Rattle.farm_kinds.specs.declared.outcomes.Task.{Task}
 use Rattle.farm_kinds.specs.declared.events.Event.{Event}
 use Rattle.farm_kinds.specs.declared.events.Event.TheVariants as event
-use Rattle.farm_kinds.specs.declared.events.Reply.{Reply}
 use Rattle.farm_kinds.specs.declared.events.Reply.TheVariants as reply
 use Rattle.farm_model.specs.Numbered.{item_of}
 use Rattle.farm_model.specs.Rows.{Row, answer_of}
-use Rattle.farm_model.specs.Judgings.{rows_of}
 use Rattle.farm_model.specs.State.{State, SettingsValue, start}
 use Rattle.farm_model.specs.Farm.{farm_step}
 use Rattle.farm_model.specs.Replay.{state_after, reply_to, counted_in, counted_row, times_counted, Truth, IsHonest, KnowsAll, one_thread_verdict}

@@ -1,0 +1,236 @@
+-- What is reported after a run of events.
+use Rattle.std.proofs.Common.{ℕ, zero, suc, ◌≡◌, ◌+◌, ◌-◌, ◌<◌, List, [], ◌∷◌, ◌++◌, Option, Some, None, Bool, true, false, cond, refl, sym, ap, ◌∙◌, subst, arith, length, map, slice_get}
+use Rattle.std.specs.Prelude.{nat_lt, IsSome, All, IsSomeAnd}
+use Rattle.std.specs.Option.{option_map, option_or, unwrap_or, is_some}
+use Rattle.std.proofs.lemmas.Option.{slice_get-map}
+use Rattle.farm_kinds.specs.declared.kinds.Kind.{Kind}
+use Rattle.farm_kinds.specs.declared.outcomes.Task.{Task}
+use Rattle.farm_kinds.specs.declared.outcomes.Answer.{Answer}
+use Rattle.farm_kinds.specs.declared.outcomes.Answer.TheVariants.{Final, Pending}
+use Rattle.farm_kinds.specs.declared.outcomes.Mode.TheVariants.{Full}
+use Rattle.farm_kinds.specs.declared.events.Event.{Event}
+use Rattle.farm_kinds.specs.declared.events.Event.TheVariants as event
+use Rattle.farm_kinds.specs.declared.events.Reply.TheVariants as reply
+use Rattle.farm_kinds.specs.RuleValue.{RuleValue}
+use Rattle.farm_kinds.specs.Rules.{remap_of}
+use Rattle.farm_model.specs.Numbered.{item_of, numbers_to}
+use Rattle.farm_model.specs.Refusing.{refused_or, unless}
+use Rattle.farm_model.specs.Leases.{same_task}
+use Rattle.farm_model.specs.Rows.{Row, answer_of, kinds_of}
+use Rattle.farm_model.specs.Judgings.{Judging, task_of}
+use Rattle.farm_model.specs.State.{State, SettingsValue, start}
+use Rattle.farm_model.specs.Farm.{farm_step}
+use Rattle.farm_model.specs.Replay.{state_after, reply_to, counted_in, kind_for, cell_for, given_by, Truth, AgreesWith, true_kinds}
+use Rattle.farm_laws.specs.Laws.{reached, row_in, IsJudging, replayed_row, Shows, FinalIsExact, PendingIsExact, FinalStays, CountedOnce, EqualsOneThread, OnlyCountedFills, KeepsPromise}
+use Rattle.farm_laws.proofs.Items.{item_at, item_by, item_append, numbered_from}
+use Rattle.farm_laws.proofs.Cells.{cell_at, kind_in, or_none}
+use Rattle.farm_laws.proofs.Steps.{one_cell, lengths_of, steps, not_counted}
+use Rattle.farm_laws.proofs.Runs.{runs, counts, tasks_same}
+use Rattle.farm_laws.proofs.Rows.{kinds_filled, final_verdict, final_full, pending_empty, empty_pending, map_range, true_row}
+
+-- A row by its cells
+
+row_of : Option Judging → Row
+row_of o = unwrap_or (option_map (λ judging. judging.row) o) []
+
+item_cell : (row : Row) (i : ℕ) (x : Option Kind) → slice_get row i ≡ Some x → unwrap_or (item_of row (1 + i)) None ≡ x
+item_cell row i x h = ap (λ o. unwrap_or o None) (item_by row (1 + i) x (omega arith) (ap (slice_get row) (omega arith) ∙ h))
+
+cells_row : (o : Option Judging) → map (kind_in o) (numbers_to (length (unwrap_or (option_map (λ judging. judging.row) o) []))) ≡ unwrap_or (option_map (λ judging. judging.row) o) []
+cells_row None = refl
+cells_row (Some g) = numbered_from g.row 1 (kind_in (Some g)) (item_cell g.row)
+
+pub row_cells : (s : State) (j : ℕ) → map (cell_at s.judge.judgings j) (numbers_to (length (row_in s j))) ≡ row_in s j
+row_cells s j = cells_row (item_of s.judge.judgings j)
+
+nowhere : (b : Bool) (t : ℕ) → kind_in (cond b None None) t ≡ None
+nowhere true t = refl
+nowhere false t = refl
+
+no_cells : (j t : ℕ) → cell_at [] j t ≡ None
+no_cells j t = nowhere (nat_lt 0 j) t
+
+reached_cell : (settings : SettingsValue) (es : List Event) (j t : ℕ) → cell_at (reached settings es).judge.judgings j t ≡ cell_for settings.rule (counted_in (start settings) es) (task_of j t)
+reached_cell settings es j t = (runs (start settings) es).cells j t ∙ ap (λ o. option_or o (cell_for settings.rule (counted_in (start settings) es) (task_of j t))) (no_cells j t)
+
+pub row_is_replayed : (settings : SettingsValue) (es : List Event) (j : ℕ) → row_in (reached settings es) j ≡ replayed_row settings es j
+row_is_replayed settings es j =
+    sym (row_cells (reached settings es) j)
+    ∙ map_range (cell_at (reached settings es).judge.judgings j) (λ t. cell_for settings.rule (counted_in (start settings) es) (task_of j t)) 1 (length (row_in (reached settings es) j))
+    (λ i lt. reached_cell settings es j (1 + i))
+
+-- What is shown
+
+there : {X : Type 0} (o : Option X) → IsSome o → (x : X) × (o ≡ Some x)
+there None h = cc
+there (Some x) h = (x, refl)
+
+shown_by : (s : State) (j : ℕ) (g : Judging) → item_of s.judge.judgings j ≡ Some g → reply_to s (event.Show j) ≡ reply.Shown (answer_of s.judge.rule s.judge.mode (row_in s j))
+shown_by s j g h =
+    ap (λ (o : Option Judging). (refused_or s (unless (is_some o) (reply.NoJudging j)) (s, reply.Shown (unwrap_or (option_map (λ judging. answer_of s.judge.rule s.judge.mode judging.row) o) Pending))).1) h
+    ∙ sym (ap (λ (o : Option Judging). reply.Shown (answer_of s.judge.rule s.judge.mode (unwrap_or (option_map (λ judging. judging.row) o) []))) h)
+
+pub shows_answer : (settings : SettingsValue) (es : List Event) (j : ℕ) → IsJudging (reached settings es) j
+    → reply_to (reached settings es) (event.Show j) ≡ reply.Shown (answer_of settings.rule settings.mode (row_in (reached settings es) j))
+shows_answer settings es j is =
+    let g = there (item_of (reached settings es).judge.judgings j) is in
+    let r = runs (start settings) es in
+    shown_by (reached settings es) j g.0 g.1
+    ∙ ap (λ rule. reply.Shown (answer_of rule (reached settings es).judge.mode (row_in (reached settings es) j))) r.rule
+    ∙ ap (λ mode. reply.Shown (answer_of settings.rule mode (row_in (reached settings es) j))) r.mode
+
+-- only a judging that is there is shown
+shown_there : (s : State) (j : ℕ) (a : Answer) (o : Option Judging)
+    → (refused_or s (unless (is_some o) (reply.NoJudging j)) (s, reply.Shown (unwrap_or (option_map (λ judging. answer_of s.judge.rule s.judge.mode judging.row) o) Pending))).1 ≡ reply.Shown a → IsSome o
+shown_there s j a None h = cc
+shown_there s j a (Some g) h = refl
+
+pub shows_judging : (settings : SettingsValue) (es : List Event) (j : ℕ) (a : Answer) → Shows settings es j a → IsJudging (reached settings es) j
+shows_judging settings es j a h = shown_there (reached settings es) j a (item_of (reached settings es).judge.judgings j) h
+
+same_shown : (a b : Answer) → reply.Shown a ≡ reply.Shown b → a ≡ b
+same_shown a b h = cc
+
+pub shows_same : (settings : SettingsValue) (es : List Event) (j : ℕ) (a : Answer) → Shows settings es j a → answer_of settings.rule settings.mode (row_in (reached settings es) j) ≡ a
+shows_same settings es j a h = same_shown _ a (sym (shows_answer settings es j (shows_judging settings es j a h)) ∙ h)
+
+pub same_shows : (settings : SettingsValue) (es : List Event) (j : ℕ) (a : Answer) → IsJudging (reached settings es) j → answer_of settings.rule settings.mode (row_in (reached settings es) j) ≡ a → Shows settings es j a
+same_shows settings es j a is h = shows_answer settings es j is ∙ ap reply.Shown h
+
+replayed_answer : (settings : SettingsValue) (es : List Event) (j : ℕ) → answer_of settings.rule settings.mode (row_in (reached settings es) j) ≡ answer_of settings.rule settings.mode (replayed_row settings es j)
+replayed_answer settings es j = ap (answer_of settings.rule settings.mode) (row_is_replayed settings es j)
+
+pub final_is_exact : (settings : SettingsValue) (es : List Event) → FinalIsExact settings es
+final_is_exact settings es j v is = (
+  λ h. sym (replayed_answer settings es j) ∙ shows_same settings es j (Final v) h,
+  λ h. same_shows settings es j (Final v) is (replayed_answer settings es j ∙ h),
+)
+
+in_full : (settings : SettingsValue) (row : Row) → settings.mode ≡ Full → answer_of settings.rule settings.mode row ≡ answer_of settings.rule Full row
+in_full settings row full = ap (λ mode. answer_of settings.rule mode row) full
+
+pub pending_is_exact : (settings : SettingsValue) (es : List Event) → PendingIsExact settings es
+pending_is_exact settings es full j is = (
+  λ h. pending_empty settings.rule (replayed_row settings es j) (sym (in_full settings (replayed_row settings es j) full) ∙ sym (replayed_answer settings es j) ∙ shows_same settings es j Pending h),
+  λ h. same_shows settings es j Pending is (replayed_answer settings es j ∙ in_full settings (replayed_row settings es j) full ∙ empty_pending settings.rule (replayed_row settings es j) h.0 h.1),
+)
+
+pub counted_once : (settings : SettingsValue) (es : List Event) → CountedOnce settings es
+counted_once settings es task = (counts (start settings) es task).once
+
+-- Rows that stay
+
+length_at : (judgings : List Judging) (j : ℕ) (g : Judging) → item_of judgings j ≡ Some g → item_of (lengths_of judgings) j ≡ Some (length g.row)
+length_at judgings j g h =
+    let a = item_at judgings j g h in
+    item_by (lengths_of judgings) j (length g.row) a.0 (slice_get-map (λ judging. length judging.row) judgings (j - 1) ∙ ap (option_map (λ (judging : Judging). length judging.row)) a.1)
+
+at_length : (judgings : List Judging) (j n : ℕ) → item_of (lengths_of judgings) j ≡ Some n → (g : Judging) × (item_of judgings j ≡ Some g) × (length g.row ≡ n)
+at_length judgings j n h =
+    let a = item_at (lengths_of judgings) j n h in
+    let found = from_some (slice_get judgings (j - 1)) n (sym (slice_get-map (λ judging. length judging.row) judgings (j - 1)) ∙ a.1) in
+    (found.0, item_by judgings j found.0 a.0 found.1, found.2) where
+      from_some : (o : Option Judging) (n : ℕ) → option_map (λ judging. length judging.row) o ≡ Some n → (g : Judging) × (o ≡ Some g) × (length g.row ≡ n)
+      from_some None n h = cc
+      from_some (Some g) n h = (g, refl, cc)
+
+-- the row of a judging keeps its length
+row_length : (s t : State) (more : List ℕ) (j : ℕ) → IsJudging s j → lengths_of t.judge.judgings ≡ lengths_of s.judge.judgings ++ more → IsJudging t j × (length (row_in t j) ≡ length (row_in s j))
+row_length s t more j is same =
+    let g = there (item_of s.judge.judgings j) is in
+    let old : length (row_in s j) ≡ length g.0.row = ap (λ (o : Option Judging). length (unwrap_or (option_map (λ judging. judging.row) o) [])) g.1 in
+    let long : item_of (lengths_of t.judge.judgings) j ≡ Some (length g.0.row) =
+    ap (λ ls. item_of ls j) same ∙ item_append (lengths_of s.judge.judgings) more j (length g.0.row) (length_at s.judge.judgings j g.0 g.1) in
+    let f = at_length t.judge.judgings j (length g.0.row) long in
+    let new : length (row_in t j) ≡ length f.0.row = ap (λ (o : Option Judging). length (unwrap_or (option_map (λ judging. judging.row) o) [])) f.1 in
+    (ap is_some f.1, new ∙ f.2 ∙ sym old)
+
+-- where each cell holds what it held, the row is as it was
+row_same : (s t : State) (more : List ℕ) (j : ℕ) → IsJudging s j → lengths_of t.judge.judgings ≡ lengths_of s.judge.judgings ++ more
+    → ((i : ℕ) → i < length (row_in s j) → cell_at t.judge.judgings j (1 + i) ≡ cell_at s.judge.judgings j (1 + i)) → row_in t j ≡ row_in s j
+row_same s t more j is same cells =
+    let n = (row_length s t more j is same).1 in
+    sym (row_cells t j) ∙ ap (λ (m : ℕ). map (cell_at t.judge.judgings j) (numbers_to m)) n
+    ∙ map_range (cell_at t.judge.judgings j) (cell_at s.judge.judgings j) 1 (length (row_in s j)) cells ∙ row_cells s j
+
+pub only_counted_fills : (settings : SettingsValue) (es : List Event) → OnlyCountedFills settings es
+only_counted_fills settings es e other j is =
+    let s = reached settings es in
+    let a = steps s e in
+    let none = not_counted (reply_to s e) (given_by e) other in
+    row_same s (farm_step s e).0 a.more j is a.lengths
+    (λ i lt. a.cells j (1 + i) ∙ ap (λ o. option_or (cell_at s.judge.judgings j (1 + i)) (one_cell s.judge.rule o (task_of j (1 + i)))) none ∙ or_none (cell_at s.judge.judgings j (1 + i)))
+
+-- Final stays
+
+pub state_after-append : (s : State) (es later : List Event) → state_after s (es ++ later) ≡ state_after (state_after s es) later
+state_after-append s [] later = refl
+state_after-append s (e ∷ es) later = state_after-append (farm_step s e).0 es later
+
+-- a full row's cells
+full_cell : (s : State) (j : ℕ) (ks : List Kind) → kinds_of (row_in s j) ≡ Some ks → (i : ℕ) → i < length (row_in s j) → (k : Kind) × (cell_at s.judge.judgings j (1 + i) ≡ Some k)
+full_cell s j ks h i lt =
+    let f = kinds_filled (row_in s j) ks h i lt in
+    (f.0, cell_there (item_of s.judge.judgings j) i (Some f.0) f.1) where
+      cell_there : (o : Option Judging) (i : ℕ) (x : Option Kind) → slice_get (unwrap_or (option_map (λ judging. judging.row) o) []) i ≡ Some x → kind_in o (1 + i) ≡ x
+      cell_there None i x h = cc
+      cell_there (Some g) i x h = item_cell g.row i x h
+
+pub final_stays : (settings : SettingsValue) (es : List Event) → FinalStays settings es
+final_stays settings es full later j v h =
+    let s = reached settings es in
+    let is = shows_judging settings es j (Final v) h in
+    let answer = shows_same settings es j (Final v) h in
+    let kinds = final_full settings.rule (row_in s j) v (sym (in_full settings (row_in s j) full) ∙ answer) in
+    let r = runs s later in
+    let kept = row_same s (state_after s later) r.more j is r.lengths (λ i lt.
+    let c = full_cell s j kinds.0 kinds.1 i lt in
+    r.cells j (1 + i) ∙ ap (λ o. option_or o (cell_for s.judge.rule (counted_in s later) (task_of j (1 + i)))) c.1 ∙ sym c.1) in
+    let both = state_after-append (start settings) es later in
+    same_shows settings (es ++ later) j (Final v)
+    (subst (λ (t : State). IsJudging t j) (sym both) (row_length s (state_after s later) r.more j is r.lengths).0)
+    (ap (λ (t : State). answer_of settings.rule settings.mode (row_in t j)) both ∙ ap (answer_of settings.rule settings.mode) kept ∙ answer)
+
+-- One thread
+
+-- what was counted for a task agrees with the truth
+agrees : (rule : RuleValue) (truth : Truth) (counted : List (Task × Kind)) (task : Task) (k : Kind) → All (AgreesWith rule truth) counted → kind_for task counted ≡ Some k → AgreesWith rule truth (task, k)
+agrees rule truth [] task k honest h = cc
+agrees rule truth (p ∷ ps) task k honest h =
+    elim (same_task p.0 task) as (λ b. same_task p.0 task ≡ b → cond b (Some p.1) (kind_for task ps) ≡ Some k → AgreesWith rule truth (task, k)) [
+      | true ↦ λ e f.
+          let kind : p.1 ≡ k = cc in
+          subst (λ (t : Task). AgreesWith rule truth (t, k)) (tasks_same p.0 task e) (subst (λ (x : Kind). AgreesWith rule truth (p.0, x)) kind (honest zero p (omega arith)))
+      | false ↦ λ e f. agrees rule truth ps task k (λ i d lt. honest (suc i) d (omega arith)) f
+    ] refl h
+
+counted_kind : (rule : RuleValue) (o : Option Kind) (k : Kind) → option_map (remap_of rule) o ≡ Some k → (x : Kind) × (o ≡ Some x) × (remap_of rule x ≡ k)
+counted_kind rule None k h = cc
+counted_kind rule (Some x) k h = (x, refl, cc)
+
+known_kind : (rule : RuleValue) (o : Option Kind) (x k : Kind) → IsSomeAnd o (λ kind. remap_of rule x ≡ remap_of rule kind) → remap_of rule x ≡ k → (y : Kind) × (o ≡ Some y) × (remap_of rule y ≡ k)
+known_kind rule None x k h e = absurd h
+known_kind rule (Some y) x k h e = (y, refl, sym h ∙ e)
+
+pub equals_one_thread : (settings : SettingsValue) (es : List Event) → EqualsOneThread settings es
+equals_one_thread settings es full truth j v honest knows h =
+    let s = reached settings es in
+    let counted = counted_in (start settings) es in
+    let answer = sym (in_full settings (row_in s j) full) ∙ shows_same settings es j (Final v) h in
+    let kinds = final_full settings.rule (row_in s j) v answer in
+    let row = true_row settings.rule (cell_at s.judge.judgings j) (λ t. truth (task_of j t)) 1 (length (row_in s j)) (λ i lt.
+    let c = full_cell s j kinds.0 kinds.1 i lt in
+    let given = counted_kind settings.rule (kind_for (task_of j (1 + i)) counted) c.0 (sym (reached_cell settings es j (1 + i)) ∙ c.1) in
+    let true_ = known_kind settings.rule (truth (task_of j (1 + i))) given.0 c.0 (agrees settings.rule truth counted (task_of j (1 + i)) given.0 honest given.1) given.2 in
+    (true_.0, true_.1, c.1 ∙ ap Some (sym true_.2))) in
+    final_verdict settings.rule (row_in s j) (true_kinds settings.rule truth j (length (row_in s j))) v (ap kinds_of (sym (row_cells s j)) ∙ row) answer
+
+pub keeps_promise : (settings : SettingsValue) (es : List Event) → KeepsPromise settings es
+keeps_promise settings es = record {
+  final_is_exact = final_is_exact settings es;
+  pending_is_exact = pending_is_exact settings es;
+  final_stays = final_stays settings es;
+  counted_once = counted_once settings es;
+  equals_one_thread = equals_one_thread settings es;
+  only_counted_fills = only_counted_fills settings es;
+}
