@@ -35,13 +35,16 @@ def verdict(row):
 
 
 class Script:
-    """Writes lines and the replies to them. Each line of it has exactly one reply."""
+    """Writes lines and the replies to them. Each line but the comments has exactly one reply."""
 
-    def __init__(self, lines, replies):
+    def __init__(self, lines, replies, comment=0):
         self.lines = lines
         self.replies = replies
+        # How long the comment behind each line is, or 0 for none.
+        self.comment = comment
         self.count = 0
         self.size = 0
+        self.replied = 0
         self.reply_size = 0
         self.rows = []
         self.waiting = []
@@ -52,7 +55,12 @@ class Script:
         self.replies.write(reply + "\n")
         self.count += 1
         self.size += len(line) + 1
+        self.replied += 1
         self.reply_size += len(reply) + 1
+        if self.comment:
+            self.lines.write("#" * self.comment + "\n")
+            self.count += 1
+            self.size += self.comment + 1
 
     def problem(self, number):
         self.put(f"problem p{number} {TESTS}", f"problem p{number} version 1")
@@ -81,9 +89,9 @@ class Script:
         self.put(f"show {judging}", reply)
 
 
-def write_script(lines, replies, count=None, size=None):
+def write_script(lines, replies, count=None, size=None, comment=0):
     """Writes a script of `count` lines, or of at least `size` bytes, and returns it."""
-    script = Script(lines, replies)
+    script = Script(lines, replies, comment)
     for number in range(PROBLEMS):
         script.problem(number)
     script.submit()
