@@ -5,10 +5,12 @@
 //! body, and a contract that the checker computes.
 #![tactic(auto)]
 
+mod leases;
 mod members;
 mod records;
 mod worked;
 
+pub use leases::worked_leases;
 pub use members::Members;
 pub use records::{Filing, Host, Lease, Member, Problem, RejudgeState, Rejudging, Submission};
 pub use worked::{
