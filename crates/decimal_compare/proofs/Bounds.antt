@@ -1,11 +1,11 @@
 -- Numbers that stop at a bound.
-use Rattle.std.proofs.Common.{ℕ, zero, suc, ◌≡◌, ◌+◌, ◌-◌, ◌*◌, ◌/◌, ◌^◌, ◌<◌, ◌≤◌, ◌⊎◌, List, [], ◌∷◌, ◌++◌, Bool, true, false, cond, refl, sym, ap, ◌∙◌, subst, arith, length, take, drop, get_or, min, rules, inl, inr}
+use Rattle.std.proofs.Common.{ℕ, ◌≡◌, ◌+◌, ◌-◌, ◌*◌, ◌^◌, ◌<◌, ◌≤◌, List, ◌++◌, true, refl, sym, ap, ◌∙◌, arith, length, take, drop, min, inl, inr}
 use Rattle.std.specs.List.{fold, list_all}
-use Rattle.std.proofs.lemmas.List.{take-append-drop, length-take, length-append}
-use Rattle.std.proofs.lemmas.List.Sums.{fold-append, fold_more}
+use Rattle.std.proofs.lemmas.List.{take-append-drop, length-append}
+use Rattle.std.proofs.lemmas.List.Sums.{fold-append}
 use Rattle.std.proofs.lemmas.Nat.{pow-add, mul-le}
 use Rattle.std.proofs.lemmas.Bool.{cases_lt}
-use Rattle.std.proofs.Math.Nat.{mul-le-mul_right, pow-le-pow_right, le-mul_of_pos_right}
+use Rattle.std.proofs.Math.Nat.{pow-le-pow_right, le-mul_of_pos_right}
 use Rattle.decimal_compare.specs.Digits.{is_digit, with_digit, number_of, scaled}
 use Rattle.decimal_compare.proofs.Numbers.{ten_pos, fold_digits, number_of-lt, append_are_digits}
 use Rattle.decimal_compare.proofs.Scales.{scaled_is, take_parts}
@@ -19,9 +19,10 @@ min_none a w h = omega arith
 -- to stop at the bound first changes nothing
 pub min_times : (a p w : ℕ) → 0 < p → min (min a w * p) w ≡ min (a * p) w
 min_times a p w h = elim (cases_lt w a) [
-    inl lt ↦ rw (min_all a w (omega arith)) (min_all (w * p) w (omega (arith, le-mul_of_pos_right {m = p} w h))
-        ∙ sym (min_all (a * p) w (omega (arith, le-mul_of_pos_right {m = p} a h))))
-  | inr ge ↦ rw (min_none a w ge) refl ]
+  | inl lt ↦ rw (min_all a w (omega arith)) (min_all (w * p) w (omega (arith, le-mul_of_pos_right {m = p} w h))
+      ∙ sym (min_all (a * p) w (omega (arith, le-mul_of_pos_right {m = p} a h))))
+  | inr ge ↦ rw (min_none a w ge) refl
+]
 
 -- more digits make no smaller number
 pub fold_grows : (n : ℕ) (ds : List ℕ) → n ≤ fold with_digit n ds
@@ -31,15 +32,16 @@ fold_grows n ds = omega (arith, fold_digits n ds, le-mul_of_pos_right {m = 10 ^ 
 pub fold_stops : (start w : ℕ) (ds : List ℕ) (i n : ℕ) → n ≡ fold with_digit start (take i ds) → w ≤ n → w ≡ min (fold with_digit start ds) w
 fold_stops start w ds i n is ge =
     let whole : fold with_digit start ds ≡ fold with_digit n (drop i ds) =
-        ap (fold with_digit start) (sym (take-append-drop i ds)) ∙ fold-append with_digit start (take i ds) (drop i ds) ∙ ap (λ m. fold with_digit m (drop i ds)) (sym is)
+    ap (fold with_digit start) (sym (take-append-drop i ds)) ∙ fold-append with_digit start (take i ds) (drop i ds) ∙ ap (λ m. fold with_digit m (drop i ds)) (sym is)
     in sym (min_all (fold with_digit start ds) w (omega (arith, fold_grows n (drop i ds))))
 
 -- to stop at the bound before the digits changes nothing
 pub fold_min : (n w : ℕ) (ds : List ℕ) → min (fold with_digit (min n w) ds) w ≡ min (fold with_digit n ds) w
 fold_min n w ds = elim (cases_lt w n) [
-    inl lt ↦ rw (min_all n w (omega arith)) (min_all (fold with_digit w ds) w (fold_grows w ds)
-        ∙ sym (min_all (fold with_digit n ds) w (omega (arith, fold_grows n ds))))
-  | inr ge ↦ rw (min_none n w ge) refl ]
+  | inl lt ↦ rw (min_all n w (omega arith)) (min_all (fold with_digit w ds) w (fold_grows w ds)
+      ∙ sym (min_all (fold with_digit n ds) w (omega (arith, fold_grows n ds))))
+  | inr ge ↦ rw (min_none n w ge) refl
+]
 
 -- twelve zeros at a time
 pub zeros_step : (n w left : ℕ) → 12 ≤ left → min (min (n * 10 ^ 12) w * 10 ^ (left - 12)) w ≡ min (n * 10 ^ left) w
@@ -51,6 +53,7 @@ zeros_step n w left h =
 -- four digits at most
 pub four_digits : (ds : List ℕ) (i n : ℕ) → n ≡ fold with_digit 0 (take i ds) → list_all is_digit (take i ds) ≡ true → length (take i ds) ≤ 4 → n < 10000
 four_digits ds i n is digits few = omega (arith, number_of-lt (take i ds) digits, pow-le-pow_right {n = 10} (omega arith) few)
+
 pub three_digits : (ds : List ℕ) (i n : ℕ) → n ≡ fold with_digit 0 (take i ds) → list_all is_digit (take i ds) ≡ true → length (take i ds) ≤ 3 → n < 1000
 three_digits ds i n is digits few = omega (arith, number_of-lt (take i ds) digits, pow-le-pow_right {n = 10} (omega arith) few)
 
@@ -64,7 +67,7 @@ size_parts whole fraction taken up down w h k is =
     let kept : length (whole ++ fraction) + up - (length fraction + down) ≡ taken = omega arith in
     let zeros : taken - length whole - length fraction ≡ taken - length (whole ++ fraction) = omega arith in
     let both : fold with_digit (fold with_digit 0 (take taken whole)) (take (taken - length whole) fraction) ≡ number_of (take taken (whole ++ fraction)) =
-        sym (ap number_of (take_parts taken whole fraction) ∙ fold-append with_digit 0 (take taken whole) (take (taken - length whole) fraction)) in
+    sym (ap number_of (take_parts taken whole fraction) ∙ fold-append with_digit 0 (take taken whole) (take (taken - length whole) fraction)) in
     ap (λ m. min (m * 10 ^ (taken - length whole - length fraction)) w) (fold_min (fold with_digit 0 (take taken whole)) w (take (taken - length whole) fraction))
     ∙ min_times (fold with_digit (fold with_digit 0 (take taken whole)) (take (taken - length whole) fraction)) (10 ^ (taken - length whole - length fraction)) w (ten_pos (taken - length whole - length fraction))
     ∙ ap (λ m. min (m * 10 ^ (taken - length whole - length fraction)) w) both

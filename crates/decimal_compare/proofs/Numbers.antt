@@ -1,11 +1,11 @@
 -- The number that digits are, and how large it is.
-use Rattle.std.proofs.Common.{ℕ, zero, suc, ◌≡◌, ◌+◌, ◌-◌, ◌*◌, ◌^◌, ◌<◌, ◌≤◌, List, [], ◌∷◌, ◌++◌, Bool, true, false, cond, ◌&&◌, eqb, inl, inr, refl, sym, ap, ◌∙◌, subst, arith, length, take, drop, get_or, add-one, rules}
+use Rattle.std.proofs.Common.{ℕ, zero, suc, ◌≡◌, ◌+◌, ◌-◌, ◌*◌, ◌^◌, ◌<◌, ◌≤◌, List, [], ◌∷◌, ◌++◌, Bool, true, false, cond, ◌&&◌, eqb, inl, inr, refl, sym, ap, ◌∙◌, arith, length, take, drop, get_or}
 use Rattle.std.specs.List.{fold, list_all, take_while, prefix_len}
 use Rattle.std.proofs.lemmas.List.Sums.{fold-append, take_while-cons, prefix_len-le-length}
 use Rattle.std.proofs.lemmas.Bool.{cases_eq}
 use Rattle.std.proofs.lemmas.Bool.Decides.{nat_tests}
 use Rattle.std.proofs.lemmas.List.Folds.{list_all-append}
-use Rattle.std.proofs.Math.Nat.{pow-suc, pow-succ', mul-le-mul_right, le-mul_of_pos_right}
+use Rattle.std.proofs.Math.Nat.{pow-succ', mul-le-mul_right, le-mul_of_pos_right}
 use Rattle.decimal_compare.specs.Digits.{is_digit, with_digit, number_of}
 
 -- the first half of a conjunction that holds, and the second
@@ -112,5 +112,6 @@ pub zeros_are : (ds : List ℕ) → list_all is_digit ds ≡ true → list_all (
 zeros_are [] h = refl
 zeros_are (d ∷ ds) h =
     elim (cases_eq d 48) [
-      inl e ↦ zeros_first d ds e (zeros_are ds (and_second (is_digit d) (list_all is_digit ds) h))
-    | inr ne ↦ zeros_other d ds (and_first (is_digit d) (list_all is_digit ds) h) ne ]
+      | inl e ↦ zeros_first d ds e (zeros_are ds (and_second (is_digit d) (list_all is_digit ds) h))
+      | inr ne ↦ zeros_other d ds (and_first (is_digit d) (list_all is_digit ds) h) ne
+    ]

@@ -1,13 +1,13 @@
 -- Moving the point: which digits are left, and whether the others are zeros.
-use Rattle.std.proofs.Common.{ℕ, zero, suc, ◌≡◌, ◌+◌, ◌-◌, ◌*◌, ◌/◌, ◌^◌, ◌<◌, ◌≤◌, ◌⊎◌, List, [], ◌∷◌, ◌++◌, Bool, true, false, cond, ◌&&◌, eqb, refl, sym, ap, ◌∙◌, subst, arith, length, take, drop, min, rules, inl, inr}
-use Rattle.std.specs.List.{fold, list_all}
+use Rattle.std.proofs.Common.{ℕ, ◌≡◌, ◌+◌, ◌-◌, ◌*◌, ◌/◌, ◌^◌, ◌<◌, ◌≤◌, List, ◌++◌, true, ◌&&◌, eqb, refl, sym, ap, ◌∙◌, arith, length, take, drop, inl, inr}
+use Rattle.std.specs.List.{list_all}
 use Rattle.std.proofs.lemmas.List.{take_all, drop_all, take-append-drop, append-nil, take-append-le, drop-append-le, length-append, length-drop}
 use Rattle.std.proofs.lemmas.List.Folds.{list_all-append}
 use Rattle.std.proofs.Math.Seq.{take-append-add, drop-append-add}
 use Rattle.std.proofs.lemmas.Nat.{pow-add, div-mul-add}
 use Rattle.std.proofs.lemmas.Bool.{cases_lt, cases_eq}
-use Rattle.std.proofs.Math.Nat.{pow-suc, pow-succ', mul-le-mul_right, pow-le-pow_right, one-le-pow, mul-div_cancel, mul-div-mul_left, mul-div-mul_right, le-mul_of_pos_right}
-use Rattle.decimal_compare.specs.Digits.{is_digit, with_digit, number_of, scaled}
+use Rattle.std.proofs.Math.Nat.{pow-le-pow_right, mul-div_cancel, mul-div-mul_right, le-mul_of_pos_right}
+use Rattle.decimal_compare.specs.Digits.{is_digit, number_of, scaled}
 use Rattle.decimal_compare.proofs.Numbers.{eq_is, eq_apart, ten_pos, zeros_are, append_are_digits, number_of-append, number_of-lt, drop_are_digits}
 
 turned : (n a b : ℕ) → n * (a * b) ≡ n * b * a
@@ -93,6 +93,7 @@ take_parts n xs ys = elim (cases_lt n (length xs)) [ inl lt ↦ first_part lt | 
     first_part lt =
         let none : n - length xs ≡ 0 = omega arith in
         take-append-le n xs ys (omega arith) ∙ rw none (sym (append-nil (take n xs)))
+
     both_parts : length xs ≤ n → take n (xs ++ ys) ≡ take n xs ++ take (n - length xs) ys
     both_parts ge =
         let sum : n ≡ length xs + (n - length xs) = omega arith in
@@ -105,6 +106,7 @@ drop_parts n xs ys = elim (cases_lt n (length xs)) [ inl lt ↦ first_part lt | 
     first_part lt =
         let none : n - length xs ≡ 0 = omega arith in
         drop-append-le n xs ys (omega arith) ∙ rw none refl
+
     both_parts : length xs ≤ n → drop n (xs ++ ys) ≡ drop n xs ++ drop (n - length xs) ys
     both_parts ge =
         let sum : n ≡ length xs + (n - length xs) = omega arith in
@@ -117,6 +119,7 @@ same_or_more a r u some = elim (cases_eq r 0) [ inl e ↦ none e | inr ne ↦ mo
   where
     none : r ≡ 0 → eqb (a * u) ((a + r) * u) ≡ eqb r 0
     none e = rw e (eq_is (a * u) ((a + 0) * u) (omega arith))
+
     more : (r ≡ 0 → ⊥) → eqb (a * u) ((a + r) * u) ≡ eqb r 0
     more ne =
         let product : u ≤ r * u = omega (arith, le-mul_of_pos_right {m = r} u (omega arith)) in
@@ -126,8 +129,8 @@ exact_up : (ds : List ℕ) (up down : ℕ) → down ≤ up → eqb (scaled (numb
 exact_up ds up down le =
     let sum : up ≡ down + (up - down) = omega arith in
     let back : scaled (number_of ds) up down * 10 ^ down ≡ number_of ds * 10 ^ up =
-        ap (λ k. scaled (number_of ds) k down * 10 ^ down) sum ∙ ap (λ m. m * 10 ^ down) (scaled_up (number_of ds) down (up - down))
-        ∙ sym (turned (number_of ds) (10 ^ down) (10 ^ (up - down))) ∙ ap (λ m. number_of ds * m) (sym (pow-add 10 down (up - down))) ∙ ap (λ k. number_of ds * 10 ^ k) (sym sum)
+    ap (λ k. scaled (number_of ds) k down * 10 ^ down) sum ∙ ap (λ m. m * 10 ^ down) (scaled_up (number_of ds) down (up - down))
+    ∙ sym (turned (number_of ds) (10 ^ down) (10 ^ (up - down))) ∙ ap (λ m. number_of ds * m) (sym (pow-add 10 down (up - down))) ∙ ap (λ k. number_of ds * 10 ^ k) (sym sum)
     in
     eq_is (scaled (number_of ds) up down * 10 ^ down) (number_of ds * 10 ^ up) back ∙ rw (drop_all (length ds + up - down) ds (omega arith)) refl
 
@@ -140,9 +143,9 @@ exact_down ds up down h le =
     let dropped : ℕ = number_of (drop (length ds - (down - up)) ds) in
     let cut : IsCut (number_of ds) kept dropped (10 ^ (down - up)) = cut_is ds (down - up) h in
     let left : scaled (number_of ds) up down * 10 ^ down ≡ kept * 10 ^ (down - up) * 10 ^ up =
-        ap (λ k. scaled (number_of ds) up k * 10 ^ k) sum
-        ∙ ap (λ m. m * 10 ^ (up + (down - up))) (scaled_down (number_of ds) up (down - up) ∙ quotient (number_of ds) kept dropped (10 ^ (down - up)) cut)
-        ∙ ap (λ m. kept * m) (pow-add 10 up (down - up)) ∙ turned kept (10 ^ up) (10 ^ (down - up))
+    ap (λ k. scaled (number_of ds) up k * 10 ^ k) sum
+    ∙ ap (λ m. m * 10 ^ (up + (down - up))) (scaled_down (number_of ds) up (down - up) ∙ quotient (number_of ds) kept dropped (10 ^ (down - up)) cut)
+    ∙ ap (λ m. kept * m) (pow-add 10 up (down - up)) ∙ turned kept (10 ^ up) (10 ^ (down - up))
     in
     let right : number_of ds * 10 ^ up ≡ (kept * 10 ^ (down - up) + dropped) * 10 ^ up = ap (λ m. m * 10 ^ up) cut.whole in
     rw (left, right, same) (same_or_more (kept * 10 ^ (down - up)) dropped (10 ^ up) (ten_pos up))

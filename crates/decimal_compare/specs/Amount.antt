@@ -1,5 +1,5 @@
 -- Amounts: the decimals that a tolerance may be.
-use Rattle.std.specs.Prelude.{ℕ, ◌+◌, ◌*◌, ◌^◌, List, ◌++◌, length, Bool, true, false, ◌&&◌, not, nat_le, nat_lt, ◌==◌, if◌then◌else◌, Option, Some, None, ℤ, pos}
+use Rattle.std.specs.Prelude.{ℕ, ◌+◌, ◌*◌, ◌^◌, List, ◌++◌, length, Bool, ◌&&◌, not, nat_le, nat_lt, ◌==◌, if◌then◌else◌, Option, Some, None, ℤ, pos}
 use Rattle.decimal_compare.specs.Digits.{number_of}
 use Rattle.decimal_compare.specs.Decimal.{Numeral, numeral_of, size_of, raise_of, lower_of}
 use Rattle.decimal_compare.specs.declared.amount.Part.{Part}

@@ -1,5 +1,5 @@
 -- Within a tolerance: the two inequalities, exact.
-use Rattle.std.specs.Prelude.{ℕ, ◌*◌, ◌^◌, Bool, false, ◌||◌, Option, Some, None, ℤ, pos, ◌-ℤ◌, ◌*ℤ◌, unsigned_abs, int_le}
+use Rattle.std.specs.Prelude.{◌*◌, ◌^◌, Bool, false, ◌||◌, Option, Some, None, ℤ, pos, ◌-ℤ◌, ◌*ℤ◌, unsigned_abs, int_le}
 use Rattle.decimal_compare.specs.declared.tolerance.Tolerance.{Tolerance}
 
 -- |t - j| * 10^12 <= e * |j|

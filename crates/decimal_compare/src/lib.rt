@@ -7,6 +7,8 @@ mod amount;
 mod numeral;
 mod parts;
 mod size;
+#[cfg(test)]
+mod tests;
 mod token;
 mod tolerance;
 

@@ -1,7 +1,6 @@
-use Rattle.std.proofs.Common.{◌<◌, ◌≤◌, arith, length, take}
+use Rattle.std.proofs.Common.{◌≤◌, arith, length, take}
 use Rattle.std.proofs.lemmas.List.{length-take}
 use Rattle.decimal_compare.proofs.Bounds.{three_digits, four_digits}
-use Rattle.decimal_compare.proofs.Numbers.{digit_le}
 use Rattle.decimal_compare.proofs.numeral.exponent_digits.Goals as goal
 
 pub overflow_mul-size : goal.overflow_mul-size

@@ -1,4 +1,4 @@
-use Rattle.std.proofs.Common.{◌≡◌, ◌≤◌, ◌<◌, ◌^◌, take, length, true}
+use Rattle.std.proofs.Common.{◌≡◌, ◌≤◌, take, length, true}
 use Rattle.std.specs.List.{list_all, fold}
 use Rattle.decimal_compare.specs.Digits.{is_digit, with_digit}
 use Rattle.decimal_compare.proofs.numeral.exponent_digits.Given as goal

@@ -8,5 +8,5 @@ pub returns-then-number-ge-WIDE : goal.returns-then-number-ge-WIDE
 returns-then-number-ge-WIDE c =
     fold_stops c.args.start (10 ^ 25) c.args.digits.now (c.loop-b.b-index + 1) (c.loop-b.number * 10 + (get_or c.args.digits.now c.loop-b.b-index 0 - 48))
     (ap (λ n. with_digit n (get_or c.args.digits.now c.loop-b.b-index 0)) c.loop-b.invariant.number_is
-        ∙ sym (fold_more with_digit c.args.start c.args.digits.now c.loop-b.b-index 0 c.loop-b-test.true))
+    ∙ sym (fold_more with_digit c.args.start c.args.digits.now c.loop-b.b-index 0 c.loop-b-test.true))
     (omega arith)

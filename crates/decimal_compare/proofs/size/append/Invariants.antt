@@ -1,4 +1,4 @@
-use Rattle.std.proofs.Common.{◌≡◌, ◌≤◌, ◌<◌, ◌^◌, take}
+use Rattle.std.proofs.Common.{◌≡◌, ◌≤◌, ◌^◌, take}
 use Rattle.std.specs.List.{fold}
 use Rattle.decimal_compare.specs.Digits.{with_digit}
 use Rattle.decimal_compare.proofs.size.append.Given as goal

@@ -1,4 +1,4 @@
-use Rattle.std.proofs.Common.{◌≡◌, ◌+◌, ◌-◌, ◌∙◌, sym, arith, length}
+use Rattle.std.proofs.Common.{◌≡◌, ◌+◌, ◌-◌, ◌∙◌, arith, length}
 use Rattle.decimal_compare.specs.Decimal.{size_of, raise_of, lower_of}
 use Rattle.decimal_compare.specs.Amount.{is_exact}
 use Rattle.decimal_compare.proofs.Scales.{exact_parts}
@@ -11,5 +11,5 @@ returns c =
     let taken : c.whole_units-taken.result ≡ length c.args.parts.now.whole.now + (12 + raise_of c.args.parts.now.exponent) - lower_of c.args.parts.now.exponent = omega arith in
     c.both_only_zeros.ensures
     ∙ rw (c.past-whole.ensures, c.past-fraction.ensures, c.saturating_sub.ensures)
-      (exact_parts c.args.parts.now.whole.now c.args.parts.now.fraction.now c.whole_units-taken.result (12 + raise_of c.args.parts.now.exponent) (lower_of c.args.parts.now.exponent)
-        c.args.parts.now.whole_digits c.args.parts.now.fraction_digits taken)
+    (exact_parts c.args.parts.now.whole.now c.args.parts.now.fraction.now c.whole_units-taken.result (12 + raise_of c.args.parts.now.exponent) (lower_of c.args.parts.now.exponent)
+    c.args.parts.now.whole_digits c.args.parts.now.fraction_digits taken)

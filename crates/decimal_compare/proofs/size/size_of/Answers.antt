@@ -1,4 +1,4 @@
-use Rattle.std.proofs.Common.{◌≡◌, ◌+◌, ◌-◌, ◌*◌, ◌^◌, ◌∙◌, ap, sym, arith, length, take, min}
+use Rattle.std.proofs.Common.{◌≡◌, ◌+◌, ◌-◌, ◌^◌, ◌∙◌, ap, arith, length, min}
 use Rattle.std.proofs.lemmas.List.{length-take}
 use Rattle.decimal_compare.specs.Decimal.{size_of, raise_of, lower_of}
 use Rattle.decimal_compare.proofs.Numbers.{take_are_digits}
@@ -21,5 +21,5 @@ returns c =
     let zeros : c.whole_units-taken.result - length c.first-whole.result.now - length c.first-fraction.result.now ≡ c.whole_units-taken.result - length c.args.parts.now.whole.now - length c.args.parts.now.fraction.now = omega arith in
     c.append_zeros.ensures
     ∙ rw (zeros, c.append-number.ensures, c.append.ensures, c.first-fraction.ensures, left, c.first-whole.ensures)
-      (size_parts c.args.parts.now.whole.now c.args.parts.now.fraction.now c.whole_units-taken.result (12 + raise_of c.args.parts.now.exponent) (lower_of c.args.parts.now.exponent) (10 ^ 25)
-        c.args.parts.now.whole_digits c.args.parts.now.fraction_digits taken)
+    (size_parts c.args.parts.now.whole.now c.args.parts.now.fraction.now c.whole_units-taken.result (12 + raise_of c.args.parts.now.exponent) (lower_of c.args.parts.now.exponent) (10 ^ 25)
+    c.args.parts.now.whole_digits c.args.parts.now.fraction_digits taken)

@@ -1,0 +1,4 @@
+pub mod Fronts
+pub mod FlagSteps
+pub mod Steps
+pub mod WideTokens

@@ -1,0 +1,95 @@
+ghost use Rattle.std.specs.Prelude.{◌≡◌, ◌≢◌, ◌≤◌, ◌<◌, [], ◌∷◌, List, ℕ, length, take, drop, true, slice_index, IfSome, IfNone};
+ghost use Rattle.std.specs.Bool.{OnTrue};
+ghost use Rattle.std.specs.List.{prefix_len};
+ghost use Rattle.default_validator.specs.Pieces.{is_space, tokens, gaps};
+ghost use Rattle.default_validator.specs.Cuts.{is_token_byte, IsSameToken};
+
+fn is_space(b: u8) -> bool
+    ensures { result ≡ is_space b }
+{
+    b == b' ' || (b >= 9 && b <= 13)
+}
+
+/// How many bytes of white space stand in front.
+fn gap_len(text: &[u8]) -> usize
+    ensures { result ≡ prefix_len is_space text.now }
+{
+    for (i, b) in text.iter().enumerate() {
+        if !is_space(*b) {
+            return i;
+        }
+    }
+    text.len()
+}
+
+/// How many bytes stand in front of the first white space.
+fn token_len(text: &[u8]) -> usize
+    ensures { result ≡ prefix_len is_token_byte text.now }
+{
+    for (i, b) in text.iter().enumerate() {
+        if is_space(*b) {
+            return i;
+        }
+    }
+    text.len()
+}
+
+/// The white space in front, and what follows it.
+#[tactic(auto, using(crate::proofs::Fronts::front_within))]
+pub fn cut_gap(text: &[u8]) -> (&[u8], &[u8])
+    ensures gap { result.0.now ≡ take (prefix_len is_space text.now) text.now }
+    ensures rest { result.1.now ≡ drop (prefix_len is_space text.now) text.now }
+{
+    text.split_at(gap_len(text))
+}
+
+/// The token in front, and what follows it.
+#[tactic(auto, using(crate::proofs::Fronts::front_within))]
+pub fn cut_token(text: &[u8]) -> (&[u8], &[u8])
+    ensures token { result.0.now ≡ take (prefix_len is_token_byte text.now) text.now }
+    ensures rest { result.1.now ≡ drop (prefix_len is_token_byte text.now) text.now }
+{
+    text.split_at(token_len(text))
+}
+
+/// The first token, and what follows it.
+#[tactic(auto, using(crate::proofs::Fronts::front_is, crate::proofs::Fronts::blank_is, crate::proofs::Fronts::after_token_shorter))]
+pub fn next_token(text: &[u8]) -> Option<(&[u8], &[u8])>
+    ensures none { IfNone result (tokens text.now ≡ []) }
+    ensures some { IfSome result (λ r. tokens text.now ≡ r.0.now ∷ tokens r.1.now) }
+    ensures shorter { IfSome result (λ r. length r.1.now < length text.now) }
+{
+    let (_, text) = cut_gap(text);
+    if text.is_empty() {
+        return None;
+    }
+    Some(cut_token(text))
+}
+
+/// Whether the bytes of a token end there.
+fn ends_at(text: &[u8], len: usize) -> bool
+    requires { len ≤ length text.now }
+    ensures { OnTrue result (len < length text.now → is_space (slice_index text.now len) ≡ true) }
+{
+    len == text.len() || is_space(text[len])
+}
+
+/// The length of the token in front of both texts, where it is the same. It is found in one
+/// walk over both.
+pub fn same_token(answer: &[u8], output: &[u8]) -> Option<usize>
+    ensures { IfSome result (IsSameToken answer.now output.now) }
+{
+    let mut len = 0;
+    while len < answer.len()
+        && len < output.len()
+        && answer[len] == output[len]
+        && !is_space(answer[len])
+    {
+        len += 1;
+    }
+    if ends_at(answer, len) && ends_at(output, len) {
+        Some(len)
+    } else {
+        None
+    }
+}
