@@ -1,13 +1,13 @@
 -- Numbers that stop at a bound.
 use Rattle.std.proofs.Common.{ℕ, ◌≡◌, ◌+◌, ◌-◌, ◌*◌, ◌^◌, ◌<◌, ◌≤◌, List, ◌++◌, true, refl, sym, ap, ◌∙◌, arith, length, take, drop, min, inl, inr}
 use Rattle.std.specs.List.{fold, list_all}
-use Rattle.std.proofs.lemmas.List.{take-append-drop, length-append}
+use Rattle.std.proofs.lemmas.List.{take-append-drop, length-append, length-take}
 use Rattle.std.proofs.lemmas.List.Sums.{fold-append}
 use Rattle.std.proofs.lemmas.Nat.{pow-add, mul-le}
 use Rattle.std.proofs.lemmas.Bool.{cases_lt}
 use Rattle.std.proofs.Math.Nat.{pow-le-pow_right, le-mul_of_pos_right}
 use Rattle.decimal_compare.specs.Digits.{is_digit, with_digit, number_of, scaled}
-use Rattle.decimal_compare.proofs.Numbers.{ten_pos, fold_digits, number_of-lt, append_are_digits}
+use Rattle.decimal_compare.proofs.Numbers.{ten_pos, fold_digits, number_of-lt, append_are_digits, take_are_digits}
 use Rattle.decimal_compare.proofs.Scales.{scaled_is, take_parts}
 
 pub min_all : (a w : ℕ) → w ≤ a → min a w ≡ w
@@ -79,6 +79,25 @@ zeros_stop n p w ge some = sym (min_all (n * p) w (omega (arith, le-mul_of_pos_r
 
 pub zeros_fit : (n left : ℕ) → n ≤ 10 ^ 25 → left ≤ 12 → n * 10 ^ left < 2 ^ 128
 zeros_fit n left small few = omega (arith, mul-le n (10 ^ left) (10 ^ 25) (10 ^ 12) small (pow-le-pow_right {n = 10} (omega arith) few))
+
+-- a few of digits are a small number
+pub few_digits : (ds : List ℕ) (i n : ℕ) → n ≡ fold with_digit 0 (take i ds) → list_all is_digit ds ≡ true → length ds ≤ 12 → n < 10 ^ 12
+few_digits ds i n is digits few =
+    let le : length (take i ds) ≤ 12 = omega (arith, length-take i ds) in
+    omega (arith, number_of-lt (take i ds) (take_are_digits i ds digits), pow-le-pow_right {n = 10} (omega arith) le)
+
+-- a few digits behind a number, in one step
+pub append_few : (start : ℕ) (ds : List ℕ) → fold with_digit start ds ≡ start * 10 ^ length ds + number_of ds
+append_few start ds = fold_digits start ds
+
+pub append_fits : (start : ℕ) (ds : List ℕ) (n : ℕ) → start ≤ 10 ^ 25 → length ds ≤ 12 → n ≡ number_of ds → list_all is_digit ds ≡ true → start * 10 ^ length ds + n < 2 ^ 128
+append_fits start ds n small few is digits =
+    omega (
+      arith,
+      mul-le start (10 ^ length ds) (10 ^ 25) (10 ^ 12) small (pow-le-pow_right {n = 10} (omega arith) few),
+      number_of-lt ds digits,
+      pow-le-pow_right {n = 10} (omega arith) few,
+    )
 
 -- a small amount's product fits
 pub product_fits : (amount size : ℕ) → amount ≤ 10 ^ 14 → size < 10 ^ 24 → amount * size < 2 ^ 127

@@ -55,8 +55,16 @@ fn past(digits: &[u8], count: usize) -> &[u8]
     &digits[count.min(digits.len())..]
 }
 
-/// The number that `start` and then the digits are, or 10^25 where it is at least that.
-fn append(start: u128, digits: &[u8]) -> u128
+/// A power of ten.
+fn ten_to(places: usize) -> u128
+    requires { places ≤ 12 }
+    ensures { result ≡ 10 ^ places }
+{
+    TENS[places] as u128
+}
+
+/// `append` digit by digit, for any number of digits.
+fn append_each(start: u128, digits: &[u8]) -> u128
     requires start { start ≤ 10 ^ 25 }
     requires digits { list_all is_digit digits.now ≡ true }
     ensures { result ≡ min (fold with_digit start digits.now) (10 ^ 25) }
@@ -71,12 +79,29 @@ fn append(start: u128, digits: &[u8]) -> u128
     number
 }
 
-/// A power of ten.
-fn ten_to(places: usize) -> u128
-    requires { places ≤ 12 }
-    ensures { result ≡ 10 ^ places }
+/// The number that a few digits are.
+fn small_number(digits: &[u8]) -> u64
+    requires few { length digits.now ≤ 12 }
+    requires digits { list_all is_digit digits.now ≡ true }
+    ensures { result ≡ number_of digits.now }
 {
-    TENS[places] as u128
+    let mut number = 0;
+    for b in digits {
+        number = number * 10 + (*b - b'0') as u64;
+    }
+    number
+}
+
+/// The number that `start` and then the digits are, or 10^25 where it is at least that.
+fn append(start: u128, digits: &[u8]) -> u128
+    requires start { start ≤ 10 ^ 25 }
+    requires digits { list_all is_digit digits.now ≡ true }
+    ensures { result ≡ min (fold with_digit start digits.now) (10 ^ 25) }
+{
+    if digits.len() > 12 {
+        return append_each(start, digits);
+    }
+    (start * ten_to(digits.len()) + small_number(digits) as u128).min(WIDE)
 }
 
 /// The number with so many zeros behind it, or 10^25 where it is at least that.

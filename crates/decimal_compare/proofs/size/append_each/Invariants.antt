@@ -1,7 +1,7 @@
 use Rattle.std.proofs.Common.{◌≡◌, ◌≤◌, ◌^◌, take}
 use Rattle.std.specs.List.{fold}
 use Rattle.decimal_compare.specs.Digits.{with_digit}
-use Rattle.decimal_compare.proofs.size.append.Given as goal
+use Rattle.decimal_compare.proofs.size.append_each.Given as goal
 
 abbrev pub invariant-loop-b : goal.invariant-loop-b
 invariant-loop-b l = record {
