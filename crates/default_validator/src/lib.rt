@@ -6,6 +6,8 @@
 mod agreement;
 mod cuts;
 mod flags;
+#[cfg(test)]
+mod tests;
 mod walk;
 
 pub use flags::{FlagFault, Flags};
