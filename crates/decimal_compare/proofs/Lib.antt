@@ -1,3 +1,4 @@
 pub mod Numbers
 pub mod Scales
 pub mod Bounds
+pub mod WorkedRows

@@ -19,11 +19,17 @@ pub enum Part {
 #[derive(Clone, Copy, Debug, PartialEq, Eq)]
 pub struct BadTolerance;
 
+/// The largest relative amount, which is 1, in units.
+const RELATIVE_MOST: u128 = 1_000_000_000_000;
+
+/// An absolute amount is below this, which is 10^12, in units.
+const ABSOLUTE_LIMIT: u128 = 1_000_000_000_000_000_000_000_000;
+
 fn is_in_bounds(part: Part, size: u128) -> bool
     ensures { result ≡ is_in_bounds part size }
 {
-    let relative = size <= 1_000_000_000_000;
-    let absolute = size < 1_000_000_000_000_000_000_000_000;
+    let relative = size <= RELATIVE_MOST;
+    let absolute = size < ABSOLUTE_LIMIT;
     match part {
         Part::Relative => relative,
         Part::Absolute => absolute,

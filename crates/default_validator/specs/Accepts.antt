@@ -1,4 +1,4 @@
--- Which outputs are accepted for an answer.
+-- Which outputs are accepted for an answer (Kattis problem package format, legacy, "Default Output Validator Specification").
 use Rattle.std.specs.Prelude.{ℕ, ◌+◌, ◌^◌, List, Bool, false, ◌&&◌, ◌||◌, not, nat_le, nat_lt, ◌==◌, if◌then◌else◌, Option, Some, None, ℤ, unsigned_abs, position, is_some}
 use Rattle.std.specs.Str.{bytes_eq}
 use Rattle.std.specs.Cmp.Lexicographic.{pointwise}

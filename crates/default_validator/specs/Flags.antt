@@ -1,4 +1,4 @@
--- The flags of the validator, as their words say.
+-- The flags of the validator, as their words say (Kattis problem package format, legacy, "Default Output Validator Specification").
 use Rattle.std.specs.Prelude.{ℕ, ◌+◌, List, [], ◌∷◌, true, false, if◌then◌else◌, Option, Some, None, Result, Ok, Err, ℤ, codes}
 use Rattle.std.specs.Str.{bytes_eq}
 use Rattle.decimal_compare.specs.declared.amount.Part.{Part}
