@@ -1,11 +1,11 @@
 -- The front of a text: white space, and a token.
-use Rattle.std.proofs.Common.{ℕ, ◌≡◌, ◌<◌, ◌≤◌, List, [], ◌∷◌, ◌++◌, Bool, true, false, cond, ◌&&◌, not, refl, sym, ap, ◌∙◌, arith, length, take, drop, get_or}
+use Rattle.std.proofs.Common.{ℕ, zero, suc, ◌≡◌, ◌+◌, ◌-◌, ◌<◌, ◌≤◌, List, [], ◌∷◌, ◌++◌, Bool, true, false, cond, ◌&&◌, not, refl, sym, ap, ◌∙◌, arith, length, take, drop, get_or}
 use Rattle.std.specs.List.{list_all, prefix_len, take_while}
-use Rattle.std.proofs.lemmas.List.{take-append-drop, get_or-drop, length-drop}
+use Rattle.std.proofs.lemmas.List.{take-append-drop, get_or-drop, length-drop, take_rest}
 use Rattle.std.proofs.lemmas.List.Folds.{length-prefix_len}
-use Rattle.std.proofs.lemmas.List.Sums.{take_while-cons, prefix_len_stops, prefix_len-le-length, prefix_len_is}
+use Rattle.std.proofs.lemmas.List.Sums.{take_while-cons, prefix_len_stops, prefix_len-le-length, prefix_len_is, prefix_len-drop_yes}
 use Rattle.default_validator.specs.Pieces.{is_space, begins_token, onto_first, token_before, tokens, gap_before, gaps}
-use Rattle.default_validator.specs.Cuts.{is_token_byte, IsSameToken}
+use Rattle.default_validator.specs.Cuts.{is_token_byte, IsInToken, IsCommon}
 
 and_first : (a b : Bool) → (a && b) ≡ true → a ≡ true
 and_first true b h = refl
@@ -183,13 +183,34 @@ pub token_len_is : (text : List ℕ) (len : ℕ) → len ≤ length text → ((k
 token_len_is text len within passes ends =
     prefix_len_is is_token_byte text len 0 within passes (λ lt. ap not (ends lt))
 
-pub same_token_is : (answer output : List ℕ) (len : ℕ) → len ≤ length answer → len ≤ length output
-    → ((k : ℕ) → k < len → is_token_byte (get_or answer k 0) ≡ true) → ((k : ℕ) → k < len → is_token_byte (get_or output k 0) ≡ true)
+-- the first `len` bytes of both texts are the whole token in front of each, and are equal
+pub record IsSameToken (answer output : List ℕ) (len : ℕ) : Type 0 where
+  pub answer_len : prefix_len is_token_byte answer ≡ len
+  pub output_len : prefix_len is_token_byte output ≡ len
+  pub same : take len answer ≡ take len output
+
+pub same_token_is : (answer output : List ℕ) (len : ℕ) → IsCommon answer output len
     → (len < length answer → is_space (get_or answer len 0) ≡ true) → (len < length output → is_space (get_or output len 0) ≡ true)
-    → take len answer ≡ take len output → IsSameToken answer output len
-same_token_is answer output len within_answer within_output answer_passes output_passes answer_ends output_ends same =
+    → IsSameToken answer output len
+same_token_is answer output len common answer_ends output_ends =
     record {
-      answer_len = token_len_is answer len within_answer answer_passes answer_ends;
-      output_len = token_len_is output len within_output output_passes output_ends;
-      same = same;
+      answer_len = token_len_is answer len common.in_answer.within common.in_answer.passes answer_ends;
+      output_len = token_len_is output len common.in_output.within common.in_output.passes output_ends;
+      same = common.same;
     }
+
+-- a token whose front is known is that front, and what stands before the next white space
+known_at : (text : List ℕ) (len : ℕ) → len ≤ length text → ((k : ℕ) → k < len → is_token_byte (get_or text k 0) ≡ true) → prefix_len is_token_byte text ≡ len + prefix_len is_token_byte (drop len text)
+known_at text zero within passes = omega arith
+known_at text (suc n) within passes =
+    let before : prefix_len is_token_byte text ≡ n + prefix_len is_token_byte (drop n text) = known_at text n (omega arith) (λ k lt. passes k (omega arith)) in
+    let here : prefix_len is_token_byte (drop n text) ≡ 1 + prefix_len is_token_byte (drop (n + 1) text) = prefix_len-drop_yes is_token_byte text n 0 (omega arith) (passes n (omega arith)) in
+    let more : n + 1 ≡ suc n = omega arith in
+    let next : prefix_len is_token_byte (drop (n + 1) text) ≡ prefix_len is_token_byte (drop (suc n) text) = ap (λ k. prefix_len is_token_byte (drop k text)) more in
+    omega arith
+
+pub known_front : (text : List ℕ) (len : ℕ) → IsInToken text len → len + prefix_len is_token_byte (take (length text - len) (drop len text)) ≡ prefix_len is_token_byte text
+known_front text len known = rw (take_rest text len) (sym (known_at text len known.within known.passes))
+
+pub none_known : (text : List ℕ) → IsInToken text 0
+none_known text = record { within = omega arith; passes = λ k lt. absurd (omega arith) }

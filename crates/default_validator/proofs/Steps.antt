@@ -6,10 +6,9 @@ use Rattle.std.specs.List.{take_while}
 use Rattle.std.proofs.lemmas.Bool.{cases_lt}
 use Rattle.std.proofs.lemmas.Bool.Decides.{nat_tests}
 use Rattle.default_validator.specs.Pieces.{is_space, tokens, gaps}
-use Rattle.default_validator.specs.Cuts.{IsSameToken}
 use Rattle.default_validator.specs.Accepts.{folded, same_byte, same_word, agrees, decimals_agree, tokens_agree, accepts_of}
 use Rattle.default_validator.specs.declared.flags.Flags.{Flags}
-use Rattle.default_validator.proofs.Fronts.{IsFront, IsBlank, front_is, blank_is, after_gap, front_token, after_token, after_token_shorter}
+use Rattle.default_validator.proofs.Fronts.{IsSameToken, IsFront, IsBlank, front_is, blank_is, after_gap, front_token, after_token, after_token_shorter}
 
 -- ---- a token takes itself
 

@@ -2,12 +2,13 @@ ghost use Rattle.std.specs.Prelude.{◌≡◌, ◌≢◌, ◌≤◌, ◌<◌, []
 ghost use Rattle.std.specs.Bool.{OnTrue};
 ghost use Rattle.std.specs.List.{prefix_len};
 ghost use Rattle.default_validator.specs.Pieces.{is_space, tokens, gaps};
-ghost use Rattle.default_validator.specs.Cuts.{is_token_byte, IsSameToken};
+ghost use Rattle.default_validator.specs.Cuts.{is_token_byte, IsInToken, IsCommon};
 
 fn is_space(b: u8) -> bool
     ensures { result ≡ is_space b }
 {
-    b == b' ' || (b >= 9 && b <= 13)
+    // Most bytes of a text stand above all white space, and one test tells.
+    b <= b' ' && (b == b' ' || (b >= 9 && b <= 13))
 }
 
 /// How many bytes of white space stand in front.
@@ -43,13 +44,14 @@ pub fn cut_gap(text: &[u8]) -> (&[u8], &[u8])
     text.split_at(gap_len(text))
 }
 
-/// The token in front, and what follows it.
-#[tactic(auto, using(crate::proofs::Fronts::front_within))]
-pub fn cut_token(text: &[u8]) -> (&[u8], &[u8])
+/// The token in front, of which the first `known` bytes are known, and what follows it.
+#[tactic(auto, using(crate::proofs::Fronts::front_within, crate::proofs::Fronts::known_front))]
+pub fn cut_token(text: &[u8], known: usize) -> (&[u8], &[u8])
+    requires { IsInToken text.now known }
     ensures token { result.0.now ≡ take (prefix_len is_token_byte text.now) text.now }
     ensures rest { result.1.now ≡ drop (prefix_len is_token_byte text.now) text.now }
 {
-    text.split_at(token_len(text))
+    text.split_at(known + token_len(&text[known..]))
 }
 
 /// The first token, and what follows it.
@@ -63,33 +65,25 @@ pub fn next_token(text: &[u8]) -> Option<(&[u8], &[u8])>
     if text.is_empty() {
         return None;
     }
-    Some(cut_token(text))
+    Some(cut_token(text, 0))
 }
 
 /// Whether the bytes of a token end there.
-fn ends_at(text: &[u8], len: usize) -> bool
+pub fn ends_at(text: &[u8], len: usize) -> bool
     requires { len ≤ length text.now }
     ensures { OnTrue result (len < length text.now → is_space (slice_index text.now len) ≡ true) }
 {
     len == text.len() || is_space(text[len])
 }
 
-/// The length of the token in front of both texts, where it is the same. It is found in one
-/// walk over both.
-pub fn same_token(answer: &[u8], output: &[u8]) -> Option<usize>
-    ensures { IfSome result (IsSameToken answer.now output.now) }
+/// How many bytes of a token stand in front of both texts and are the same.
+pub fn common_len(answer: &[u8], output: &[u8]) -> usize
+    ensures { IsCommon answer.now output.now result }
 {
+    let limit = answer.len().min(output.len());
     let mut len = 0;
-    while len < answer.len()
-        && len < output.len()
-        && answer[len] == output[len]
-        && !is_space(answer[len])
-    {
+    while len < limit && answer[len] == output[len] && !is_space(answer[len]) {
         len += 1;
     }
-    if ends_at(answer, len) && ends_at(output, len) {
-        Some(len)
-    } else {
-        None
-    }
+    len
 }

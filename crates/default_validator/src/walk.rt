@@ -4,7 +4,7 @@ ghost use Rattle.default_validator.specs.Accepts.{accepts_of, wide_token_of};
 ghost use Rattle.default_validator.specs.Turns.{IsTurn};
 
 use crate::agreement::{agrees, has_tolerance, is_wide_token};
-use crate::cuts::{cut_gap, cut_token, next_token, same_token};
+use crate::cuts::{common_len, cut_gap, cut_token, ends_at, next_token};
 use crate::flags::Flags;
 
 /// What is left to compare once the tokens in front were.
@@ -36,11 +36,12 @@ fn compare_front<'a>(flags: &Flags, answer: &'a [u8], output: &'a [u8]) -> Turn<
     if output.is_empty() {
         return Turn::Ended(false);
     }
-    if let Some(len) = same_token(answer, output) {
+    let len = common_len(answer, output);
+    if ends_at(answer, len) && ends_at(output, len) {
         return Turn::Rest(&answer[len..], &output[len..]);
     }
-    let (answer_token, answer_rest) = cut_token(answer);
-    let (output_token, output_rest) = cut_token(output);
+    let (answer_token, answer_rest) = cut_token(answer, len);
+    let (output_token, output_rest) = cut_token(output, len);
     if agrees(flags, answer_token, output_token) {
         Turn::Rest(answer_rest, output_rest)
     } else {
