@@ -8,9 +8,9 @@ use decimal_compare::{Part, Tolerance, read_amount};
 /// How outputs are compared.
 #[derive(Clone, Copy, Debug, PartialEq, Eq)]
 pub struct Flags {
-    /// Letters count as upper or lower case.
+    /// Upper and lower case letters differ.
     pub case: bool,
-    /// White space counts.
+    /// The white space before, between and after the tokens counts, byte by byte.
     pub space: bool,
     /// How far numbers may differ. Where no part is set, numbers are compared as words.
     pub tolerance: Tolerance,
