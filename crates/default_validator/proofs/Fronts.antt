@@ -1,11 +1,12 @@
 -- The front of a text: white space, and a token.
-use Rattle.std.proofs.Common.{ℕ, zero, suc, ◌≡◌, ◌+◌, ◌-◌, ◌<◌, ◌≤◌, List, [], ◌∷◌, ◌++◌, Bool, true, false, cond, ◌&&◌, not, refl, sym, ap, ◌∙◌, arith, length, take, drop, get_or}
+use Rattle.std.proofs.Common.{ℕ, zero, suc, ◌≡◌, ◌+◌, ◌-◌, ◌<◌, ◌≤◌, List, [], ◌∷◌, ◌++◌, Bool, true, false, cond, ◌&&◌, ◌||◌, eqb, not, refl, sym, ap, ◌∙◌, arith, length, take, drop, get_or}
 use Rattle.std.specs.List.{list_all, prefix_len, take_while}
 use Rattle.std.proofs.lemmas.List.{take-append-drop, get_or-drop, length-drop, take_rest}
+use Rattle.std.proofs.lemmas.Bool.Decides.{nat_tests}
 use Rattle.std.proofs.lemmas.List.Folds.{length-prefix_len}
 use Rattle.std.proofs.lemmas.List.Sums.{take_while-cons, prefix_len_stops, prefix_len-le-length, prefix_len_is, prefix_len-drop_yes}
 use Rattle.default_validator.specs.Pieces.{is_space, begins_token, onto_first, token_before, tokens, gap_before, gaps}
-use Rattle.default_validator.specs.Cuts.{is_token_byte, IsInToken, IsCommon}
+use Rattle.default_validator.specs.Cuts.{is_token_byte, IsInToken, IsCommon, ends_token}
 
 and_first : (a b : Bool) → (a && b) ≡ true → a ≡ true
 and_first true b h = refl
@@ -189,13 +190,19 @@ pub record IsSameToken (answer output : List ℕ) (len : ℕ) : Type 0 where
   pub output_len : prefix_len is_token_byte output ≡ len
   pub same : take len answer ≡ take len output
 
+ends_here : (text : List ℕ) (len : ℕ) → ends_token text len ≡ true → len < length text → is_space (get_or text len 0) ≡ true
+ends_here text len ends lt = past (eqb len (length text)) (is_space (get_or text len 0)) refl ends
+  where
+    past : (e s : Bool) → eqb len (length text) ≡ e → (e || s) ≡ true → s ≡ true
+    past true s at h = absurd (grind (arith, nat_tests))
+    past false s at h = h
+
 pub same_token_is : (answer output : List ℕ) (len : ℕ) → IsCommon answer output len
-    → (len < length answer → is_space (get_or answer len 0) ≡ true) → (len < length output → is_space (get_or output len 0) ≡ true)
-    → IsSameToken answer output len
+    → ends_token answer len ≡ true → ends_token output len ≡ true → IsSameToken answer output len
 same_token_is answer output len common answer_ends output_ends =
     record {
-      answer_len = token_len_is answer len common.in_answer.within common.in_answer.passes answer_ends;
-      output_len = token_len_is output len common.in_output.within common.in_output.passes output_ends;
+      answer_len = token_len_is answer len common.in_answer.within common.in_answer.passes (ends_here answer len answer_ends);
+      output_len = token_len_is output len common.in_output.within common.in_output.passes (ends_here output len output_ends);
       same = common.same;
     }
 

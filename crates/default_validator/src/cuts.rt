@@ -2,7 +2,7 @@ ghost use Rattle.std.specs.Prelude.{◌≡◌, ◌≢◌, ◌≤◌, ◌<◌, []
 ghost use Rattle.std.specs.Bool.{OnTrue};
 ghost use Rattle.std.specs.List.{prefix_len};
 ghost use Rattle.default_validator.specs.Pieces.{is_space, tokens, gaps};
-ghost use Rattle.default_validator.specs.Cuts.{is_token_byte, IsInToken, IsCommon};
+ghost use Rattle.default_validator.specs.Cuts.{is_token_byte, IsInToken, IsCommon, ends_token};
 
 fn is_space(b: u8) -> bool
     ensures { result ≡ is_space b }
@@ -71,7 +71,7 @@ pub fn next_token(text: &[u8]) -> Option<(&[u8], &[u8])>
 /// Whether the bytes of a token end there.
 pub fn ends_at(text: &[u8], len: usize) -> bool
     requires { len ≤ length text.now }
-    ensures { OnTrue result (len < length text.now → is_space (slice_index text.now len) ≡ true) }
+    ensures { result ≡ ends_token text.now len }
 {
     len == text.len() || is_space(text[len])
 }

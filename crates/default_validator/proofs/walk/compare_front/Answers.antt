@@ -35,7 +35,7 @@ returns-then-ends_at-2 c =
     let some_answer : eqb (length (after_gap c.args.answer.now)) 0 ≡ false = rw c.cut_gap.ensures.rest at (sym c.if-is_empty.ensures) in
     let some_output : eqb (length (after_gap c.args.output.now)) 0 ≡ false = rw c.cut_gap-2.ensures.rest at (sym c.if-is_empty-2.ensures) in
     let same : IsSameToken (after_gap c.args.answer.now) (after_gap c.args.output.now) c.common_len-len.result =
-    rw (c.cut_gap.ensures.rest, c.cut_gap-2.ensures.rest) at (same_token_is c.cut_gap.result.1.now c.cut_gap-2.result.1.now c.common_len-len.result c.common_len-len.ensures c.if-ends_at.ensures c.if-ends_at-2.ensures) in
+    rw (c.cut_gap.ensures.rest, c.cut_gap-2.ensures.rest) at (same_token_is c.cut_gap.result.1.now c.cut_gap-2.result.1.now c.common_len-len.result c.common_len-len.ensures (sym c.if-ends_at.ensures) (sym c.if-ends_at-2.ensures)) in
     rw (take_rest c.cut_gap.result.1.now c.common_len-len.result, take_rest c.cut_gap-2.result.1.now c.common_len-len.result, c.cut_gap.ensures.rest, c.cut_gap-2.ensures.rest) (
       same_goes_on c.args.flags.now c.args.answer.now c.args.output.now c.common_len-len.result gap (is_some (length (after_gap c.args.answer.now)) some_answer) (is_some (length (after_gap c.args.output.now)) some_output) same,
       same_shorter c.args.answer.now c.args.output.now c.common_len-len.result (is_some (length (after_gap c.args.answer.now)) some_answer) same,
