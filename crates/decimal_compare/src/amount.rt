@@ -1,4 +1,4 @@
-ghost use Rattle.std.specs.Prelude.{◌≡◌, ◌↔◌, Some, None, IfOk, OnErr, min, ◌^◌};
+ghost use Rattle.std.specs.Prelude.{◌≡◌, Some, None, IfOk, OnErr};
 ghost use Rattle.decimal_compare.specs.Amount.{amount_of, is_in_bounds};
 
 use crate::numeral::numeral_of;

@@ -1,4 +1,4 @@
-ghost use Rattle.std.specs.Prelude.{◌≡◌, ◌≤◌, ◌<◌, ◌^◌, true, Some, None, IfSome, IfNone, length};
+ghost use Rattle.std.specs.Prelude.{◌≡◌, ◌≤◌, true, Some, None, IfSome, IfNone};
 ghost use Rattle.std.specs.List.{list_all, prefix_len};
 ghost use Rattle.decimal_compare.specs.Digits.{is_digit};
 ghost use Rattle.decimal_compare.specs.Decimal.{has_minus, after_sign, front_digits, after_digits, has_point, fraction_of, after_fraction, exponent_digits, exponent_of, numeral_of};

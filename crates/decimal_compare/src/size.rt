@@ -1,4 +1,4 @@
-ghost use Rattle.std.specs.Prelude.{◌≡◌, ◌≤◌, ◌<◌, ◌+◌, ◌-◌, ◌*◌, ◌^◌, ◌==◌, ◌&&◌, true, length, min, take, drop};
+ghost use Rattle.std.specs.Prelude.{◌≡◌, ◌≤◌, ◌+◌, ◌-◌, ◌*◌, ◌^◌, ◌==◌, ◌&&◌, true, length, min, take, drop};
 ghost use Rattle.std.specs.List.{fold, list_all};
 ghost use Rattle.decimal_compare.specs.Digits.{is_digit, with_digit, number_of};
 ghost use Rattle.decimal_compare.specs.Decimal.{size_of, raise_of, lower_of};
@@ -10,7 +10,7 @@ use crate::parts::{Exponent, Parts};
 /// The size from which a decimal is wide, in units.
 pub const WIDE: u128 = 10_000_000_000_000_000_000_000_000;
 
-/// The powers of ten up to one whole.
+/// The powers of ten up to 10^12.
 const TENS: [u64; 13] = [
     1,
     10,

@@ -1,4 +1,4 @@
-ghost use Rattle.std.specs.Prelude.{◌≡◌, ◌<◌, ◌-◌, min, ◌*◌, ◌^◌, unsigned_abs, ◌-ℤ◌, int_le, pos};
+ghost use Rattle.std.specs.Prelude.{◌≡◌, ◌<◌, ◌-◌, min, ◌*◌, ◌^◌, unsigned_abs};
 ghost use Rattle.decimal_compare.specs.Within.{is_within, is_within_relative, is_within_absolute};
 
 /// How far a team's number may be from the judge's, in units of 10^-12.

@@ -1,11 +1,11 @@
-ghost use Rattle.std.specs.Prelude.{◌≡◌, ◌<◌, ◌^◌, ◌+◌, ◌||◌, if◌then◌else◌, IfSome, Some, None, unsigned_abs, is_some, length, ℤ};
+ghost use Rattle.std.specs.Prelude.{◌≡◌, ◌<◌, ◌^◌, ◌||◌, IfSome, Some, unsigned_abs, is_some};
 ghost use Rattle.decimal_compare.specs.Decimal.{decimal_of};
-ghost use Rattle.default_validator.specs.Accepts.{folded, same_byte, same_word, narrow, numbers_agree, decimals_agree, agrees, is_wide_token};
+ghost use Rattle.default_validator.specs.Accepts.{same_byte, same_word, narrow, numbers_agree, decimals_agree, agrees, is_wide_token};
 
 use crate::flags::Flags;
 use decimal_compare::{Token, Tolerance, read_decimal, within};
 
-/// A judge's number may be compared from here down, in units.
+/// A judge's number is compared as one where its size is below this, in units.
 const JUDGE_LIMIT: u128 = 1_000_000_000_000_000_000_000_000;
 
 fn same_byte(case: bool, a: u8, b: u8) -> bool

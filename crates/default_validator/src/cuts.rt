@@ -1,7 +1,6 @@
-ghost use Rattle.std.specs.Prelude.{◌≡◌, ◌≢◌, ◌≤◌, ◌<◌, [], ◌∷◌, List, ℕ, length, take, drop, true, slice_index, IfSome, IfNone};
-ghost use Rattle.std.specs.Bool.{OnTrue};
+ghost use Rattle.std.specs.Prelude.{◌≡◌, ◌≤◌, ◌<◌, [], ◌∷◌, length, take, drop, IfSome, IfNone};
 ghost use Rattle.std.specs.List.{prefix_len};
-ghost use Rattle.default_validator.specs.Pieces.{is_space, tokens, gaps};
+ghost use Rattle.default_validator.specs.Pieces.{is_space, tokens};
 ghost use Rattle.default_validator.specs.Cuts.{is_token_byte, IsInToken, IsCommon, ends_token};
 
 fn is_space(b: u8) -> bool

@@ -1,4 +1,4 @@
-ghost use Rattle.std.specs.Prelude.{◌≡◌, ◌+◌, ◌∷◌, ◌≤◌, ◌<◌, ◌^◌, IfOk, Some, None, Ok, Err, MatchResult, length, ℕ, List};
+ghost use Rattle.std.specs.Prelude.{◌≡◌, ◌+◌, ◌∷◌, ◌≤◌, ◌<◌, ◌^◌, IfOk, Err, MatchResult, length};
 ghost use Rattle.default_validator.specs.Pieces.{tokens};
 ghost use Rattle.default_validator.specs.Flags.{part_of, with_amount, flags_from, flags_of};
 
