@@ -1,0 +1,4 @@
+pub mod Numbers
+pub mod Scales
+pub mod Bounds
+pub mod WorkedRows

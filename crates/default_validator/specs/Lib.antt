@@ -1,0 +1,5 @@
+pub mod Pieces
+pub mod Flags
+pub mod Accepts
+pub mod Cuts
+pub mod Turns

@@ -1,0 +1,17 @@
+//! The default output validator of the Kattis problem package format (legacy), section "Default
+//! Output Validator Specification": which outputs are accepted for an answer. It compares token by
+//! token. Numbers are compared exactly, with no floating point.
+//!
+//! White space is space, tab, LF, VT, FF and CR. Case folding maps A to Z to a to z. No call takes
+//! memory.
+#![tactic(auto)]
+
+mod agreement;
+mod cuts;
+mod flags;
+#[cfg(test)]
+mod tests;
+mod walk;
+
+pub use flags::{FlagFault, Flags};
+pub use walk::{accepts, wide_token};
