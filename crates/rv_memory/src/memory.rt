@@ -1,4 +1,4 @@
-ghost use Rattle.std.specs.Prelude.{ℕ, ◌≡◌, ◌+◌, ◌*◌, ◌/◌, ◌^◌, ◌++◌, ◌∷◌, ◌<◌, ◌≤◌, ◌↔◌, IfOk, IfSome, IfNone, IfErr, OnOk, OnErr, IsTrue, vec_len, length, get_or, nat_eq, true, false, [], Some};
+ghost use Rattle.std.specs.Prelude.{ℕ, ◌≡◌, ◌+◌, ◌*◌, ◌/◌, ◌^◌, ◌++◌, ◌∷◌, ◌<◌, ◌≤◌, ◌↔◌, IfOk, IfSome, IfNone, IfErr, OnOk, OnErr, IsTrue, vec_len, length, get_or, nat_eq, take, true, false, [], Some};
 ghost use Rattle.std.specs.HashMap.{get};
 ghost use Rattle.rv_memory.specs.Paged as paged;
 ghost use Rattle.rv_memory.specs.Indexed.{IsIndexed};
@@ -134,7 +134,7 @@ impl Memory {
 
     /// Stores the low 16 bits of the value at the address, the lowest byte first; its page is touched.
     #[inline(always)]
-    #[tactic(auto, using(crate::proofs::Places::indexed_set))]
+    #[tactic(auto, using(crate::proofs::Places::indexed_set, crate::proofs::Storing::store16_near))]
     pub fn store16(&mut self, at: u32, value: u32) -> Result<(), MemFault>
         ensures stored { OnOk result (self.new ≡ paged.store16 self.old at value) }
         ensures allowed { OnOk result (paged.Allows 2 self.old at) }
@@ -152,7 +152,7 @@ impl Memory {
 
     /// Stores the value at the address, the lowest byte first; its page is touched.
     #[inline(always)]
-    #[tactic(auto, using(crate::proofs::Places::indexed_set))]
+    #[tactic(auto, using(crate::proofs::Places::indexed_set, crate::proofs::Storing::store32_near))]
     pub fn store32(&mut self, at: u32, value: u32) -> Result<(), MemFault>
         ensures stored { OnOk result (self.new ≡ paged.store32 self.old at value) }
         ensures allowed { OnOk result (paged.Allows 4 self.old at) }
@@ -177,7 +177,7 @@ impl Memory {
         let first = at / 4096;
         let mut new = 0u32;
         for k in 0..span(at, count) {
-            if find(&self.index, &self.pages, first + k).is_none() {
+            if !self.has_page(first + k) {
                 new += 1;
             }
         }
@@ -195,9 +195,9 @@ impl Memory {
         let first = at / 4096;
         let kept = self.pages.len();
         for k in 0..span(at, count) {
-            if self.ensure(first + k).is_err() {
-                self.pages.truncate(kept);
-                return Err(AllocError);
+            if let Err(error) = self.ensure(first + k) {
+                self.forget_after(kept);
+                return Err(error);
             }
         }
         Ok(())
@@ -244,6 +244,12 @@ impl Memory {
 }
 
 impl Memory {
+    fn has_page(&self, number: u32) -> bool
+        ensures { result ≡ paged.is_touched self.now number }
+    {
+        find(&self.index, &self.pages, number).is_some()
+    }
+
     // Touches a page, for which there is room.
     fn ensure(&mut self, number: u32) -> Result<(), AllocError>
         requires number { number < 1048576 }
@@ -255,6 +261,14 @@ impl Memory {
             Some(_) => Ok(()),
             None => self.add(number),
         }
+    }
+
+    // Takes back the pages after the first so many.
+    #[tactic(auto, using(crate::proofs::Places::indexed_take))]
+    fn forget_after(&mut self, kept: usize)
+        ensures { self.new ≡ record { limit = self.old.limit; pages = take kept self.old.pages } }
+    {
+        self.pages.truncate(kept);
     }
 
     // Puts a byte at an address whose page was touched.
