@@ -2,8 +2,9 @@ use Rattle.std.proofs.Common.{◌≡◌, ◌≢◌, ℕ, zero, suc, ◌+◌, ◌
 use Rattle.std.proofs.lemmas.Grind.{common_steps, elements}
 use Rattle.std.proofs.lemmas.Bool.{cases_eq}
 use Rattle.std.proofs.lemmas.List.Folds.{position_or_len_push}
+use Rattle.std.proofs.lemmas.List.{length-replicate}
 use Rattle.std.specs.HashMap.{get, Updates, IsUnchanged}
-use Rattle.rv_memory.specs.Paged.{no_page, place}
+use Rattle.rv_memory.specs.Paged.{no_page, place, zeros, IsWhole}
 use Rattle.rv_memory.specs.Indexed.{Index, IsIndexed}
 use Rattle.rv_memory.specs.declared.page.Page.{Page}
 
@@ -67,3 +68,27 @@ indexed_take ix ps n w =
     record {
       listed = λ j l. let old : get nat_eq ix (get_or ps j no_page).number ≡ Some j = w.listed j (grind (arith, common_steps)) in grind (arith, elements);
     }
+
+-- ---- every page has all its bytes
+
+pub length-zeros : length zeros ≡ 4096
+unfolding zeros
+length-zeros = length-replicate {A = ℕ} 4096 0
+
+pub whole_push : (ps : List Page) (p : ℕ) → IsWhole ps → IsWhole (ps ++ record { number = p; bytes = zeros } ∷ [])
+whole_push ps p w = record {
+  whole = λ k h. elim (cases_eq k (length ps)) [
+    | inl t ↦ grind (arith, elements, length-zeros)
+    | inr t ↦ let old : length (get_or ps k no_page).bytes ≡ 4096 = w.whole k (grind (arith, common_steps)) in grind (arith, elements)
+  ];
+}
+
+pub whole_set : (ps : List Page) (k : ℕ) (q : Page) → IsWhole ps → k < length ps → length q.bytes ≡ length (get_or ps k no_page).bytes → IsWhole (set ps k q)
+whole_set ps k q w h e = record {
+  whole = λ j l.
+      let old : length (get_or ps j no_page).bytes ≡ 4096 = w.whole j (grind (arith, common_steps)) in
+      elim (cases_eq j k) [ inl t ↦ grind (arith, elements) | inr t ↦ grind (arith, elements) ];
+}
+
+pub whole_take : (ps : List Page) (n : ℕ) → IsWhole ps → IsWhole (take n ps)
+whole_take ps n w = record { whole = λ j l. let old : length (get_or ps j no_page).bytes ≡ 4096 = w.whole j (grind (arith, common_steps)) in grind (arith, elements) }
