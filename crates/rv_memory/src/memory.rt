@@ -1,11 +1,10 @@
-ghost use Rattle.std.specs.Prelude.{ℕ, ◌≡◌, ◌+◌, ◌*◌, ◌/◌, ◌%◌, ◌^◌, ◌++◌, ◌∷◌, ◌<◌, ◌≤◌, ◌↔◌, IfOk, IfSome, IfNone, IfErr, OnOk, OnErr, IsTrue, vec_len, length, get_or, nat_eq, take, true, false, [], Some};
-ghost use Rattle.std.specs.HashMap.{get};
+ghost use Rattle.std.specs.Prelude.{ℕ, ◌≡◌, ◌+◌, ◌*◌, ◌/◌, ◌%◌, ◌^◌, ◌++◌, ◌∷◌, ◌<◌, ◌≤◌, ◌↔◌, IfOk, IfSome, IfNone, IfErr, OnOk, OnErr, IsTrue, vec_len, length, get_or, take, true, false, []};
 ghost use Rattle.rv_memory.specs.Paged as paged;
 ghost use Rattle.rv_memory.specs.Indexed.{IsIndexed};
 
+use crate::index::PageIndex;
 use crate::page::{Page, blank, read8, read16, read32, write_all, write8, write16, write32};
 use std::alloc::{AllocError, Global};
-use std::collections::HashMap;
 use std::marker::Model;
 
 /// Why a load or a store was refused.
@@ -29,7 +28,7 @@ pub struct Memory {
     limit: u32,
     // For the low bits of a page's number, the place of the last such page that was used: a guess.
     recent: Vec<u32>,
-    index: HashMap<u32, u32>,
+    index: PageIndex,
     pages: Vec<Page>,
 }
 
@@ -54,7 +53,7 @@ impl Memory {
             alloc,
             limit,
             recent: Vec::new(alloc),
-            index: HashMap::new(alloc),
+            index: PageIndex::new(alloc),
             pages: Vec::new(alloc),
         }
     }
@@ -369,6 +368,7 @@ impl Memory {
 
     // Adds a page of zeros.
     fn add(&mut self, number: u32) -> Result<(), AllocError>
+        requires number { number < 1048576 }
         requires fresh { paged.place self.old.pages number ≡ length self.old.pages }
         requires room { length self.old.pages < self.old.limit }
         ensures pages { OnOk result (self.new ≡ record { limit = self.old.limit; pages = self.old.pages ++ record { number = number; bytes = paged.zeros } ∷ [] }) }
@@ -434,7 +434,7 @@ fn is_at(pages: &Vec<Page>, k: usize, number: u32) -> bool
 #[tactic(auto, using(crate::proofs::Places::place_numbered))]
 fn find_recent(
     recent: &Vec<u32>,
-    index: &HashMap<u32, u32>,
+    index: &PageIndex,
     pages: &Vec<Page>,
     number: u32,
 ) -> Option<usize>
@@ -451,12 +451,7 @@ fn find_recent(
 
 // The place of a page, if it was touched; a recent one is found at once.
 #[inline(always)]
-fn look(
-    recent: &Vec<u32>,
-    index: &HashMap<u32, u32>,
-    pages: &Vec<Page>,
-    number: u32,
-) -> Option<usize>
+fn look(recent: &Vec<u32>, index: &PageIndex, pages: &Vec<Page>, number: u32) -> Option<usize>
     requires { IsIndexed index.now pages.now.items }
     ensures none { IfNone result (paged.place pages.now.items number ≡ length pages.now.items) }
     ensures some { IfSome result (λ k. (k < length pages.now.items) × (k ≡ paged.place pages.now.items number)) }
@@ -469,12 +464,12 @@ fn look(
 
 // The place of a page, if it was touched.
 #[tactic(auto, using(crate::proofs::Places::place_numbered, crate::proofs::Places::place_unlisted))]
-fn find(index: &HashMap<u32, u32>, pages: &Vec<Page>, number: u32) -> Option<usize>
+fn find(index: &PageIndex, pages: &Vec<Page>, number: u32) -> Option<usize>
     requires { IsIndexed index.now pages.now.items }
     ensures none { IfNone result (paged.place pages.now.items number ≡ length pages.now.items) }
     ensures some { IfSome result (λ k. (k < length pages.now.items) × (k ≡ paged.place pages.now.items number)) }
 {
-    let k = index_entry(index, number);
+    let k = index.find(number);
     if is_at(pages, k, number) {
         Some(k)
     } else {
@@ -482,21 +477,9 @@ fn find(index: &HashMap<u32, u32>, pages: &Vec<Page>, number: u32) -> Option<usi
     }
 }
 
-fn index_entry(index: &HashMap<u32, u32>, number: u32) -> usize
-    ensures { (k : ℕ) → get nat_eq index.now number ≡ Some k → result ≡ k }
-{
-    match index.get(&number) {
-        Some(k) => *k as usize,
-        None => 0,
-    }
-}
-
-#[tactic(auto, using(crate::proofs::Places::indexed_push, crate::proofs::Places::whole_push))]
-fn add_page(
-    index: &mut HashMap<u32, u32>,
-    pages: &mut Vec<Page>,
-    number: u32,
-) -> Result<(), AllocError>
+#[tactic(auto, using(crate::proofs::Places::indexed_push, crate::proofs::Places::indexed_kept, crate::proofs::Places::whole_push))]
+fn add_page(index: &mut PageIndex, pages: &mut Vec<Page>, number: u32) -> Result<(), AllocError>
+    requires number { number < 1048576 }
     requires indexed { IsIndexed index.old pages.old.items }
     requires whole { paged.IsWhole pages.old.items }
     requires fresh { paged.place pages.old.items number ≡ length pages.old.items }
