@@ -110,6 +110,7 @@ fn extend_with_zeros(tops: &mut Vec<usize>) -> Result<(), AllocError>
     ensures size { OnOk result (1024 ≤ length tops.new.items) }
 {
     let len = tops.len();
+    tops.reserve(1024_usize.saturating_sub(len))?;
     for _k in len..1024 {
         tops.push(0)?;
     }
