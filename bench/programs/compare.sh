@@ -12,10 +12,13 @@ command -v qemu-riscv32 >/dev/null || { echo "skipped: qemu-riscv32 is not insta
 head -c 100000 /dev/zero | tr '\0' 'x' >"$out/long.txt"
 cat "$here"/*.c "$here"/*.h >"$out/source.txt"
 : >"$out/empty.txt"
+printf '\023\005\165\002\147\200\000\000' >"$out/code.txt" # addi a0, a0, 39; ret
 failed=0
-for name in sorting division bytes memory echo arithmetic walk calls; do
-    for input in empty source long; do
+for name in sorting division bytes memory echo patching arithmetic walk calls; do
+    for input in empty source long code; do
         case $name-$input in
+            patching-code | patching-empty) ;;
+            patching-* | *-code) continue ;;
             sorting-long | division-source | division-long | memory-source | memory-long) continue ;;
             arithmetic-source | arithmetic-long | walk-source | walk-long | calls-source | calls-long) continue ;;
         esac
