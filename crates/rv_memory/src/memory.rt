@@ -20,8 +20,8 @@ pub enum MemFault {
 
 /// The memory of a machine: 2^32 bytes, in pages of 4,096 that are made, as zeros, when they are touched.
 ///
-/// A new memory holds none; the first access takes 16 KiB for the places of recently used pages, and each new page
-/// takes its own bytes.
+/// A new memory holds no page. The first access makes two tables of 24 KiB together; each new page takes its bytes,
+/// and 4 KiB of index for each 4 MiB of addresses that are used.
 #[derive(Drop)]
 pub struct Memory {
     alloc: Global,
