@@ -1,0 +1,6 @@
+pub mod Places
+pub mod Bytes
+pub mod Touching
+pub mod Storing
+pub mod Ranges
+pub mod Laws

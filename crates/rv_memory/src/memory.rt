@@ -1,0 +1,447 @@
+ghost use Rattle.std.specs.Prelude.{ℕ, ◌≡◌, ◌+◌, ◌*◌, ◌/◌, ◌^◌, ◌++◌, ◌∷◌, ◌<◌, ◌≤◌, ◌↔◌, IfOk, IfSome, IfNone, IfErr, OnOk, OnErr, IsTrue, vec_len, length, get_or, nat_eq, take, true, false, [], Some};
+ghost use Rattle.std.specs.HashMap.{get};
+ghost use Rattle.rv_memory.specs.Paged as paged;
+ghost use Rattle.rv_memory.specs.Indexed.{IsIndexed};
+
+use crate::page::{Page, blank, read8, read16, read32, write8, write16, write32};
+use std::alloc::{AllocError, Global};
+use std::collections::HashMap;
+use std::marker::Model;
+
+/// Why a load or a store was refused.
+#[derive(Clone, Copy, Debug, PartialEq, Eq)]
+pub enum MemFault {
+    /// The address is no multiple of the width of the access.
+    Misaligned,
+    /// The page of the address is new, and `pages`, the limit, were touched already.
+    OverLimit { pages: u32 },
+    /// There was no memory for the page.
+    NoMemory,
+}
+
+/// The memory of a machine: 2^32 bytes, in pages of 4,096 that are made, as zeros, when they are touched.
+///
+/// A new memory holds none; the first access takes 16 KiB for the places of recently used pages, and each new page
+/// takes its own bytes.
+#[derive(Drop)]
+pub struct Memory {
+    alloc: Global,
+    limit: u32,
+    // For the low bits of a page's number, the place of the last such page that was used: a guess.
+    recent: Vec<u32>,
+    index: HashMap<u32, u32>,
+    pages: Vec<Page>,
+}
+
+impl Model for Memory {
+    ghost use Rattle.std.specs.Prelude.{◌≤◌, ◌<◌, ◌^◌, vec_len};
+    ghost use Rattle.rv_memory.specs.Paged.{State};
+    ghost use Rattle.rv_memory.specs.Indexed.{IsIndexed};
+
+    ghost Value = { State };
+
+    ghost view = { λ m. record { limit = m.limit; pages = m.pages.items } };
+
+    ghost invariant = { λ m. (IsIndexed m.index m.pages.items) × (vec_len m.pages ≤ m.limit) × (m.limit < 2 ^ 32) };
+}
+
+impl Memory {
+    /// A memory in which no page was touched; `limit` is in pages.
+    pub fn new(alloc: Global, limit: u32) -> Memory
+        ensures { result ≡ record { limit = limit; pages = [] } }
+    {
+        Memory {
+            alloc,
+            limit,
+            recent: Vec::new(alloc),
+            index: HashMap::new(alloc),
+            pages: Vec::new(alloc),
+        }
+    }
+
+    /// How many pages were touched.
+    pub fn pages(&self) -> u32
+        ensures count { result ≡ paged.page_count self.now }
+        ensures within { result ≤ self.now.limit }
+    {
+        self.pages.len() as u32
+    }
+
+    /// The byte at the address, whose page is touched.
+    #[inline(always)]
+    #[tactic(auto, using(crate::proofs::Bytes::byte_at_touch))]
+    pub fn load8(&mut self, at: u32) -> Result<u32, MemFault>
+        ensures value { IfOk result (λ v. v ≡ paged.byte_at self.old at) }
+        ensures byte { IfOk result (λ v. v < 2 ^ 8) }
+        ensures touched { OnOk result (self.new ≡ paged.touch self.old (at / 4096)) }
+        ensures allowed { OnOk result (paged.Allows 1 self.old at) }
+        ensures refused { IfErr result (paged.Refuses 1 self.old at) }
+        ensures unchanged { OnErr result (self.new ≡ self.old) }
+    {
+        let k = self.place(at)?;
+        Ok(read8(&self.pages[k].bytes, at))
+    }
+
+    /// The two bytes at the address, the lowest first, whose page is touched.
+    #[inline(always)]
+    #[tactic(auto, using(crate::proofs::Bytes::half_at_touch))]
+    pub fn load16(&mut self, at: u32) -> Result<u32, MemFault>
+        ensures value { IfOk result (λ v. v ≡ paged.half_at self.old at) }
+        ensures half { IfOk result (λ v. v < 2 ^ 16) }
+        ensures touched { OnOk result (self.new ≡ paged.touch self.old (at / 4096)) }
+        ensures allowed { OnOk result (paged.Allows 2 self.old at) }
+        ensures refused { IfErr result (paged.Refuses 2 self.old at) }
+        ensures unchanged { OnErr result (self.new ≡ self.old) }
+    {
+        if at % 2 != 0 {
+            return Err(MemFault::Misaligned);
+        }
+        let k = self.place(at)?;
+        Ok(read16(&self.pages[k].bytes, at))
+    }
+
+    /// The four bytes at the address, the lowest first, whose page is touched.
+    #[inline(always)]
+    #[tactic(auto, using(crate::proofs::Bytes::word_at_touch))]
+    pub fn load32(&mut self, at: u32) -> Result<u32, MemFault>
+        ensures value { IfOk result (λ v. v ≡ paged.word_at self.old at) }
+        ensures touched { OnOk result (self.new ≡ paged.touch self.old (at / 4096)) }
+        ensures allowed { OnOk result (paged.Allows 4 self.old at) }
+        ensures refused { IfErr result (paged.Refuses 4 self.old at) }
+        ensures unchanged { OnErr result (self.new ≡ self.old) }
+    {
+        if at % 4 != 0 {
+            return Err(MemFault::Misaligned);
+        }
+        let k = self.place(at)?;
+        Ok(read32(&self.pages[k].bytes, at))
+    }
+
+    /// Stores the low 8 bits of the value at the address, whose page is touched.
+    #[inline(always)]
+    #[tactic(auto, using(crate::proofs::Places::indexed_set))]
+    pub fn store8(&mut self, at: u32, value: u32) -> Result<(), MemFault>
+        ensures stored { OnOk result (self.new ≡ paged.store8 self.old at value) }
+        ensures allowed { OnOk result (paged.Allows 1 self.old at) }
+        ensures refused { IfErr result (paged.Refuses 1 self.old at) }
+        ensures unchanged { OnErr result (self.new ≡ self.old) }
+    {
+        let k = self.place(at)?;
+        let page = &mut self.pages[k];
+        write8(&mut page.bytes, at, value);
+        Ok(())
+    }
+
+    /// Stores the low 16 bits of the value at the address, the lowest byte first; its page is touched.
+    #[inline(always)]
+    #[tactic(auto, using(crate::proofs::Places::indexed_set, crate::proofs::Storing::store16_near))]
+    pub fn store16(&mut self, at: u32, value: u32) -> Result<(), MemFault>
+        ensures stored { OnOk result (self.new ≡ paged.store16 self.old at value) }
+        ensures allowed { OnOk result (paged.Allows 2 self.old at) }
+        ensures refused { IfErr result (paged.Refuses 2 self.old at) }
+        ensures unchanged { OnErr result (self.new ≡ self.old) }
+    {
+        if at % 2 != 0 {
+            return Err(MemFault::Misaligned);
+        }
+        let k = self.place(at)?;
+        let page = &mut self.pages[k];
+        write16(&mut page.bytes, at, value);
+        Ok(())
+    }
+
+    /// Stores the value at the address, the lowest byte first; its page is touched.
+    #[inline(always)]
+    #[tactic(auto, using(crate::proofs::Places::indexed_set, crate::proofs::Storing::store32_near))]
+    pub fn store32(&mut self, at: u32, value: u32) -> Result<(), MemFault>
+        ensures stored { OnOk result (self.new ≡ paged.store32 self.old at value) }
+        ensures allowed { OnOk result (paged.Allows 4 self.old at) }
+        ensures refused { IfErr result (paged.Refuses 4 self.old at) }
+        ensures unchanged { OnErr result (self.new ≡ self.old) }
+    {
+        if at % 4 != 0 {
+            return Err(MemFault::Misaligned);
+        }
+        let k = self.place(at)?;
+        let page = &mut self.pages[k];
+        write32(&mut page.bytes, at, value);
+        Ok(())
+    }
+
+    /// Whether the pages of `count` bytes from the address on may be touched: the touched ones and the new ones
+    /// together are no more than the limit. No byte, no page.
+    pub fn fits(&self, at: u32, count: u32) -> bool
+        requires { at + count ≤ 2 ^ 32 }
+        ensures { result ≡ paged.fits self.now at count }
+    {
+        let first = at / 4096;
+        let mut new = 0u32;
+        for k in 0..span(at, count) {
+            if !self.has_page(first + k) {
+                new += 1;
+            }
+        }
+        self.pages.len() as u64 + new as u64 <= self.limit as u64
+    }
+
+    /// Touches the pages of `count` bytes from the address on. Want of memory leaves the memory as it was.
+    pub fn touch_range(&mut self, at: u32, count: u32) -> Result<(), AllocError>
+        requires space { at + count ≤ 2 ^ 32 }
+        requires room { paged.fits self.old at count ≡ true }
+        ensures touched { OnOk result (self.new ≡ paged.touch_range self.old at count) }
+        ensures covered { OnOk result (paged.AllTouched self.new at count) }
+        ensures unchanged { OnErr result (self.new ≡ self.old) }
+    {
+        let first = at / 4096;
+        let kept = self.pages.len();
+        for k in 0..span(at, count) {
+            if let Err(error) = self.ensure(first + k) {
+                self.forget_after(kept);
+                return Err(error);
+            }
+        }
+        Ok(())
+    }
+
+    /// Puts the bytes from the address on.
+    pub fn copy_in(&mut self, at: u32, bytes: &[u8])
+        requires space { at + length bytes.now ≤ 2 ^ 32 }
+        requires touched { paged.AllTouched self.old at (length bytes.now) }
+        ensures { self.new ≡ paged.store_bytes self.old at bytes.now }
+    {
+        for (k, byte) in bytes.iter().enumerate() {
+            self.put(at + k as u32, *byte);
+        }
+    }
+
+    /// Appends the `count` bytes from the address on. Want of memory leaves `out` as it was.
+    pub fn copy_out(&self, at: u32, count: u32, out: &mut Vec<u8>) -> Result<(), AllocError>
+        requires { at + count ≤ 2 ^ 32 }
+        ensures ok { OnOk result (out.new.items ≡ out.old.items ++ paged.bytes_at self.now at count) }
+        ensures unchanged { OnErr result (out.new.items ≡ out.old.items) }
+    {
+        out.reserve(count as usize)?;
+        for k in 0..count {
+            out.push_reserved(self.byte(at + k));
+        }
+        Ok(())
+    }
+
+    // The place of the page of an address, which is touched.
+    #[inline(always)]
+    fn place(&mut self, at: u32) -> Result<usize, MemFault>
+        ensures ok { IfOk result (λ k. (k < length self.new.pages) × (k ≡ paged.place self.new.pages (at / 4096))) }
+        ensures touched { OnOk result (self.new ≡ paged.touch self.old (at / 4096)) }
+        ensures allowed { OnOk result (paged.is_over self.old (at / 4096) ≡ false) }
+        ensures refused { IfErr result (paged.Refuses 1 self.old at) }
+        ensures unchanged { OnErr result (self.new ≡ self.old) }
+    {
+        match find_recent(&self.recent, &self.index, &self.pages, at / 4096) {
+            Some(k) => Ok(k),
+            None => self.place_anew(at / 4096),
+        }
+    }
+}
+
+impl Memory {
+    fn has_page(&self, number: u32) -> bool
+        ensures { result ≡ paged.is_touched self.now number }
+    {
+        find(&self.index, &self.pages, number).is_some()
+    }
+
+    // Touches a page, for which there is room.
+    fn ensure(&mut self, number: u32) -> Result<(), AllocError>
+        requires number { number < 1048576 }
+        requires room { paged.is_over self.old number ≡ false }
+        ensures touched { OnOk result (self.new ≡ paged.touch self.old number) }
+        ensures unchanged { OnErr result (self.new ≡ self.old) }
+    {
+        match find(&self.index, &self.pages, number) {
+            Some(_) => Ok(()),
+            None => self.add(number),
+        }
+    }
+
+    // Takes back the pages after the first so many.
+    #[tactic(auto, using(crate::proofs::Places::indexed_take))]
+    fn forget_after(&mut self, kept: usize)
+        ensures { self.new ≡ record { limit = self.old.limit; pages = take kept self.old.pages } }
+    {
+        self.pages.truncate(kept);
+    }
+
+    // Puts a byte at an address whose page was touched.
+    #[tactic(auto, using(crate::proofs::Places::indexed_set))]
+    fn put(&mut self, at: u32, byte: u8)
+        requires { paged.is_touched self.old (at / 4096) ≡ true }
+        ensures { self.new ≡ paged.put self.old at byte }
+    {
+        if let Some(k) = find(&self.index, &self.pages, at / 4096) {
+            let page = &mut self.pages[k];
+            page.bytes[(at % 4096) as usize] = byte;
+        }
+    }
+
+    // The byte at an address, 0 where its page was not touched.
+    fn byte(&self, at: u32) -> u8
+        ensures { result ≡ paged.byte_at self.now at }
+    {
+        match find(&self.index, &self.pages, at / 4096) {
+            Some(k) => self.pages[k].bytes[(at % 4096) as usize],
+            None => 0,
+        }
+    }
+
+    // Looks the page up, or touches it.
+    #[inline(never)]
+    fn place_anew(&mut self, number: u32) -> Result<usize, MemFault>
+        requires { number < 1048576 }
+        ensures ok { IfOk result (λ k. (k < length self.new.pages) × (k ≡ paged.place self.new.pages number)) }
+        ensures touched { OnOk result (self.new ≡ paged.touch self.old number) }
+        ensures allowed { OnOk result (paged.is_over self.old number ≡ false) }
+        ensures refused { IfErr result (paged.Refuses 1 self.old (4096 * number)) }
+        ensures unchanged { OnErr result (self.new ≡ self.old) }
+    {
+        if let Some(k) = find(&self.index, &self.pages, number) {
+            remember(&mut self.recent, number, k);
+            return Ok(k);
+        }
+        let n = self.pages.len();
+        if n >= self.limit as usize {
+            return Err(MemFault::OverLimit { pages: self.limit });
+        }
+        match self.add(number) {
+            Ok(()) => Ok(n),
+            Err(_) => Err(MemFault::NoMemory),
+        }
+    }
+
+    // Adds a page of zeros.
+    fn add(&mut self, number: u32) -> Result<(), AllocError>
+        requires fresh { paged.place self.old.pages number ≡ length self.old.pages }
+        requires room { length self.old.pages < self.old.limit }
+        ensures pages { OnOk result (self.new ≡ record { limit = self.old.limit; pages = self.old.pages ++ record { number = number; bytes = paged.zeros } ∷ [] }) }
+        ensures unchanged { OnErr result (self.new ≡ self.old) }
+    {
+        let n = self.pages.len();
+        make_recent(self.alloc, &mut self.recent)?;
+        add_page(&mut self.index, &mut self.pages, number)?;
+        remember(&mut self.recent, number, n);
+        Ok(())
+    }
+}
+
+// How many pages hold one of `count` bytes from an address on.
+fn span(at: u32, count: u32) -> u32
+    requires { at + count ≤ 2 ^ 32 }
+    ensures { result ≡ paged.span at count }
+{
+    if count == 0 {
+        0
+    } else {
+        (at + (count - 1)) / 4096 - at / 4096 + 1
+    }
+}
+
+// What is guessed for a page, 0 where there is no guess yet.
+#[inline(always)]
+fn guess(recent: &Vec<u32>, number: u32) -> usize {
+    match recent.get((number % 4096) as usize) {
+        Some(k) => *k as usize,
+        None => 0,
+    }
+}
+
+fn remember(recent: &mut Vec<u32>, number: u32, k: usize)
+    requires { k < 2 ^ 32 }
+{
+    if let Some(place) = recent.get_mut((number % 4096) as usize) {
+        *place = k as u32;
+    }
+}
+
+fn make_recent(alloc: Global, recent: &mut Vec<u32>) -> Result<(), AllocError> {
+    if recent.is_empty() {
+        *recent = vec![in alloc; 0; 4096]?;
+    }
+    Ok(())
+}
+
+// Whether the page at a place has the number.
+#[inline(always)]
+fn is_at(pages: &Vec<Page>, k: usize, number: u32) -> bool
+    ensures { IsTrue result ↔ ((k < length pages.now.items) × ((get_or pages.now.items k paged.no_page).number ≡ number)) }
+{
+    match pages.get(k) {
+        Some(page) => page.number == number,
+        None => false,
+    }
+}
+
+// The place of a page that was used of late.
+#[inline(always)]
+#[tactic(auto, using(crate::proofs::Places::place_numbered))]
+fn find_recent(
+    recent: &Vec<u32>,
+    index: &HashMap<u32, u32>,
+    pages: &Vec<Page>,
+    number: u32,
+) -> Option<usize>
+    requires { IsIndexed index.now pages.now.items }
+    ensures { IfSome result (λ k. (k < length pages.now.items) × (k ≡ paged.place pages.now.items number)) }
+{
+    let k = guess(recent, number);
+    if is_at(pages, k, number) {
+        Some(k)
+    } else {
+        None
+    }
+}
+
+// The place of a page, if it was touched.
+#[tactic(auto, using(crate::proofs::Places::place_numbered, crate::proofs::Places::place_unlisted))]
+fn find(index: &HashMap<u32, u32>, pages: &Vec<Page>, number: u32) -> Option<usize>
+    requires { IsIndexed index.now pages.now.items }
+    ensures none { IfNone result (paged.place pages.now.items number ≡ length pages.now.items) }
+    ensures some { IfSome result (λ k. (k < length pages.now.items) × (k ≡ paged.place pages.now.items number)) }
+{
+    let k = index_entry(index, number);
+    if is_at(pages, k, number) {
+        Some(k)
+    } else {
+        None
+    }
+}
+
+fn index_entry(index: &HashMap<u32, u32>, number: u32) -> usize
+    ensures { (k : ℕ) → get nat_eq index.now number ≡ Some k → result ≡ k }
+{
+    match index.get(&number) {
+        Some(k) => *k as usize,
+        None => 0,
+    }
+}
+
+#[tactic(auto, using(crate::proofs::Places::indexed_push))]
+fn add_page(
+    index: &mut HashMap<u32, u32>,
+    pages: &mut Vec<Page>,
+    number: u32,
+) -> Result<(), AllocError>
+    requires indexed { IsIndexed index.old pages.old.items }
+    requires fresh { paged.place pages.old.items number ≡ length pages.old.items }
+    requires room { vec_len pages.old < 2 ^ 32 }
+    ensures pages { OnOk result (pages.new.items ≡ pages.old.items ++ record { number = number; bytes = paged.zeros } ∷ []) }
+    ensures indexed { IsIndexed index.new pages.new.items }
+    ensures unchanged { OnErr result (pages.new.items ≡ pages.old.items) }
+{
+    let n = pages.len();
+    pages.reserve(1)?;
+    index.insert(number, n as u32)?;
+    pages.push_reserved(Page {
+        number,
+        bytes: blank(),
+    });
+    Ok(())
+}
