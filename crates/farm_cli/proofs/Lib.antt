@@ -1,1 +1,4 @@
 pub mod Submits
+pub mod WordLemmas
+pub mod NumberLemmas
+pub mod Joining

@@ -1,2 +1,4 @@
 pub mod FarmShape
 pub mod FarmLayout
+pub mod NextWord
+pub mod WordList

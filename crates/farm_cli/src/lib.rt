@@ -2,5 +2,10 @@
 #![tactic(auto)]
 
 mod farm;
+mod lines;
+mod numbers;
+pub mod texts;
 
 pub use farm::Farm;
+pub use lines::read_line;
+

@@ -1,5 +1,6 @@
 -- The script: from the bytes that are read to the bytes that are written.
 use Rattle.std.specs.Prelude.{ℕ, List, [], ◌∷◌, ◌++◌, flat_map, Option, Some, None, Result, Ok, Err}
+use Rattle.std.specs.List.{join_with_byte}
 use Rattle.farm_kinds.specs.declared.events.Event.{Event}
 use Rattle.farm_kinds.specs.declared.events.LineFault.{LineFault}
 use Rattle.farm_kinds.specs.declared.events.LineFault.TheVariants as fault
@@ -7,21 +8,21 @@ use Rattle.farm_io.specs.Lines.{Cut, Whole, Long, lines_of}
 use Rattle.farm_model.specs.State.{State, SettingsValue, start}
 use Rattle.farm_model.specs.Farm.{farm_step}
 use Rattle.farm_model.specs.Grammar.{line_read}
-use Rattle.farm_model.specs.Texts.{bad_line, too_long_text, reply_text}
+use Rattle.farm_model.specs.Texts.{bad_line_words, too_long_words, reply_words}
 
--- a text and the line feed behind it
-abbrev pub ended : List ℕ → List ℕ
-ended text = text ++ 10 ∷ []
+-- the words joined by single spaces, and a line feed
+abbrev pub line_of : List (List ℕ) → List ℕ
+line_of words = join_with_byte 32 words ++ 10 ∷ []
 
 -- the state after what a line was read as, and the text that is written for it
 abbrev pub after_read : State → Result (Option Event) LineFault → State × List ℕ
 after_read s (Ok None) = (s, [])
-after_read s (Ok (Some e)) = let r = farm_step s e in (r.0, ended (reply_text r.1))
-after_read s (Err fault.BadLine) = (s, ended bad_line)
+after_read s (Ok (Some e)) = let r = farm_step s e in (r.0, line_of (reply_words r.1))
+after_read s (Err fault.BadLine) = (s, line_of bad_line_words)
 
 abbrev pub after_line : State → Cut → State × List ℕ
 after_line s (Whole text) = after_read s (line_read text)
-after_line s (Long len) = (s, ended (too_long_text len))
+after_line s (Long len) = (s, line_of (too_long_words len))
 
 -- what is written for the lines, from a state on
 abbrev pub output_from : State → List Cut → List ℕ

@@ -1,0 +1,9 @@
+pub mod Streams
+pub mod Lines
+pub mod BlockValue
+pub mod BlockShape
+pub mod ReaderValue
+pub mod ReaderShape
+pub mod Reading
+pub mod Finding
+pub mod MemoryValue

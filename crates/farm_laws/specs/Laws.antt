@@ -1,0 +1,78 @@
+-- The laws of runs: each over every list of events from the empty farm.
+use Rattle.std.specs.Prelude.{◌≡◌, ◌≢◌, ◌↔◌, ℕ, ◌≤◌, List, [], ◌++◌, length, Option, Some, None, IsSome, unwrap_or, ⊤}
+use Rattle.std.specs.Option.{option_map}
+use Rattle.farm_kinds.specs.declared.outcomes.Verdict.{Verdict}
+use Rattle.farm_kinds.specs.declared.outcomes.Answer.{Answer}
+use Rattle.farm_kinds.specs.declared.outcomes.Answer.TheVariants.{Final, Pending}
+use Rattle.farm_kinds.specs.declared.outcomes.Mode.TheVariants.{Full}
+use Rattle.farm_kinds.specs.declared.outcomes.Task.{Task}
+use Rattle.farm_kinds.specs.declared.events.Event.{Event}
+use Rattle.farm_kinds.specs.declared.events.Event.TheVariants as event
+use Rattle.farm_kinds.specs.declared.events.Reply.{Reply}
+use Rattle.farm_kinds.specs.declared.events.Reply.TheVariants as reply
+use Rattle.farm_model.specs.Numbered.{item_of}
+use Rattle.farm_model.specs.Rows.{Row, answer_of}
+use Rattle.farm_model.specs.Judgings.{rows_of}
+use Rattle.farm_model.specs.State.{State, SettingsValue, start}
+use Rattle.farm_model.specs.Farm.{farm_step}
+use Rattle.farm_model.specs.Replay.{state_after, reply_to, counted_in, counted_row, times_counted, Truth, IsHonest, KnowsAll, one_thread_verdict}
+
+-- the state after the events, from the empty farm on
+abbrev pub reached : SettingsValue → List Event → State
+reached settings es = state_after (start settings) es
+
+-- the row of a judging
+abbrev pub row_in : State → ℕ → Row
+row_in s j = unwrap_or (option_map (λ judging. judging.row) (item_of s.judge.judgings j)) []
+
+abbrev pub IsJudging : State → ℕ → Type 0
+IsJudging s j = IsSome (item_of s.judge.judgings j)
+
+-- the row of a judging, by the results that were counted
+abbrev pub replayed_row : SettingsValue → List Event → ℕ → Row
+replayed_row settings es j = counted_row settings.rule (counted_in (start settings) es) j (length (row_in (reached settings es) j))
+
+-- what `show` answers after the events
+abbrev pub Shows : SettingsValue → List Event → ℕ → Answer → Type 0
+Shows settings es j answer = reply_to (reached settings es) (event.Show j) ≡ reply.Shown answer
+
+-- A judging is reported final exactly where the results that were counted say so: `answer_of` is over all
+-- that the cells without a result could become, or with `Full` over the cells that are all filled.
+abbrev pub FinalIsExact : SettingsValue → List Event → Type 0
+FinalIsExact settings es = (j : ℕ) (v : Verdict) → IsJudging (reached settings es) j →
+    Shows settings es j (Final v) ↔ (answer_of settings.rule settings.mode (replayed_row settings es j) ≡ Final v)
+
+-- with `Full`, a judging is reported pending exactly while a test has no result that was counted
+abbrev pub PendingIsExact : SettingsValue → List Event → Type 0
+PendingIsExact settings es = settings.mode ≡ Full → (j : ℕ) → IsJudging (reached settings es) j →
+    Shows settings es j Pending ↔ ((test : ℕ) × (item_of (replayed_row settings es j) test ≡ Some None))
+
+-- what is final stays final, whatever comes later
+abbrev pub FinalStays : SettingsValue → List Event → Type 0
+FinalStays settings es = settings.mode ≡ Full → (later : List Event) (j : ℕ) (v : Verdict) →
+    Shows settings es j (Final v) → Shows settings (es ++ later) j (Final v)
+
+-- at most one result of each task is counted
+abbrev pub CountedOnce : SettingsValue → List Event → Type 0
+CountedOnce settings es = (task : Task) → times_counted (counted_in (start settings) es) task ≤ 1
+
+-- what is final is what running every test in rank order on one thread gives, where the results are honest
+abbrev pub EqualsOneThread : SettingsValue → List Event → Type 0
+EqualsOneThread settings es = settings.mode ≡ Full → (truth : Truth) (j : ℕ) (v : Verdict) →
+    IsHonest (start settings) es truth → KnowsAll truth j (length (row_in (reached settings es) j)) →
+    Shows settings es j (Final v) → v ≡ one_thread_verdict settings.rule truth j (length (row_in (reached settings es) j))
+
+-- an event that is not answered `counted`, and adds no submission, leaves every row as it was
+abbrev pub OnlyCountedFills : SettingsValue → List Event → Type 0
+OnlyCountedFills settings es = (e : Event) → reply_to (reached settings es) e ≢ reply.Counted →
+    (j : ℕ) → IsJudging (reached settings es) j → row_in (farm_step (reached settings es) e).0 j ≡ row_in (reached settings es) j
+
+-- Whatever the events, a judging is reported final exactly where its verdict is known from the results that
+-- were counted, that verdict stays and is what one thread gives, and each result counts once.
+pub record KeepsPromise (settings : SettingsValue) (es : List Event) : Type 0 where
+  pub final_is_exact : FinalIsExact settings es
+  pub pending_is_exact : PendingIsExact settings es
+  pub final_stays : FinalStays settings es
+  pub counted_once : CountedOnce settings es
+  pub equals_one_thread : EqualsOneThread settings es
+  pub only_counted_fills : OnlyCountedFills settings es

@@ -1,0 +1,10 @@
+ghost use Rattle.std.specs.Prelude.{List};
+ghost use Rattle.farm_kinds.specs.declared.events.Event.{Event};
+ghost use Rattle.farm_model.specs.State.{SettingsValue};
+ghost use Rattle.farm_laws.specs.Laws.{KeepsPromise};
+
+/// Whatever the events, a judging is reported final exactly where its verdict is known from the results
+/// that were counted, that verdict stays and is what one thread gives, and each result counts once.
+pub fn keeps_promise()
+    ensures { (settings : SettingsValue) (es : List Event) → KeepsPromise settings es }
+{}
