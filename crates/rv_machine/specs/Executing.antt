@@ -1,13 +1,19 @@
-use Rattle.std.specs.Prelude.{◌≡◌, ℕ, ◌%◌}
+use Rattle.std.specs.Prelude.{◌≡◌, ℕ, ◌/◌, ◌%◌, false, Some}
+use Rattle.rv_memory.specs.Paged as memory
 use Rattle.rv_memory.specs.declared.memory.MemFault.{MemFault}
 use Rattle.rv_memory.specs.declared.memory.MemFault.TheVariants as faults
 use Rattle.rv_machine.specs.declared.ending.Ending.TheVariants.{Trap, Memory}
 use Rattle.rv_machine.specs.declared.ending.Trap.TheVariants.{Misaligned}
 use Rattle.rv_machine.specs.declared.processor.Flow.{Flow}
 use Rattle.rv_machine.specs.declared.processor.Flow.TheVariants.{Next, Stopped}
+use Rattle.rv_machine.specs.declared.processor.Stop.{Stop}
 use Rattle.rv_machine.specs.declared.processor.Stop.TheVariants.{Ended, Call, NoMemory}
 use Rattle.rv_machine.specs.Hart.{Effect, Moves, Ends, Calls}
+use Rattle.rv_machine.specs.Operations.{fetched}
 use Rattle.rv_machine.specs.Storage.{Storage, hart_of}
+use Rattle.rv_machine.specs.Caching.{IsSmall}
+use Rattle.rv_word.specs.declared.instr.Instr.{Instr}
+use Rattle.rv_word.specs.Table.{instr as instruction_of}
 
 -- an instruction at pc has the effect; there may also be no memory for it
 abbrev pub Does : ℕ → Flow → Effect → Storage → Type 0
@@ -23,7 +29,14 @@ Does pc (Stopped Call) (Calls h) new = hart_of new pc ≡ h
 Does pc (Stopped NoMemory) o new = Unit {0}
 
 -- how a refused access stops the processor
-abbrev pub stop_of : MemFault → Flow
-stop_of faults.Misaligned = Stopped (Ended (Trap Misaligned))
-stop_of (faults.OverLimit n) = Stopped (Ended Memory)
-stop_of faults.NoMemory = Stopped NoMemory
+abbrev pub stop_of : MemFault → Stop
+stop_of faults.Misaligned = Ended (Trap Misaligned)
+stop_of (faults.OverLimit n) = Ended Memory
+stop_of faults.NoMemory = NoMemory
+
+-- the instruction at pc was fetched
+pub record Fetched (pc : ℕ) (i : Instr) (old new : Storage) : Type 0 where
+  pub within : memory.is_over old.memory (pc / 4096) ≡ false
+  pub decoded : instruction_of (memory.word_at old.memory pc) ≡ Some i
+  pub touched : hart_of new pc ≡ fetched (hart_of old pc)
+  pub small : IsSmall i

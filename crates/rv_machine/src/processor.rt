@@ -3,7 +3,7 @@ ghost use Rattle.std.specs.Int.{cast_signed, w8, w16};
 ghost use Rattle.rv_machine.specs.Hart as hart;
 ghost use Rattle.rv_machine.specs.Operations as operations;
 ghost use Rattle.rv_machine.specs.Storage.{hart_of};
-ghost use Rattle.rv_machine.specs.Executing.{Does, stop_of};
+ghost use Rattle.rv_machine.specs.Executing.{Does, Fetched, stop_of};
 ghost use Rattle.rv_machine.specs.Caching.{IsCached, IsSmall, DiffersAt};
 ghost use Rattle.rv_word.specs.Effect as effect;
 ghost use Rattle.rv_word.specs.Table.{instr as instruction_of};
@@ -240,7 +240,7 @@ impl Processor {
         let at = self.address(i, pc);
         match self.memory.load8(at) {
             Ok(v) => self.give(pc, i, signed_byte(v)),
-            Err(fault) => of_fault(fault),
+            Err(fault) => Flow::Stopped(of_fault(fault)),
         }
     }
 
@@ -254,7 +254,7 @@ impl Processor {
         let at = self.address(i, pc);
         match self.memory.load8(at) {
             Ok(v) => self.give(pc, i, v),
-            Err(fault) => of_fault(fault),
+            Err(fault) => Flow::Stopped(of_fault(fault)),
         }
     }
 
@@ -268,7 +268,7 @@ impl Processor {
         let at = self.address(i, pc);
         match self.memory.load16(at) {
             Ok(v) => self.give(pc, i, signed_half(v)),
-            Err(fault) => of_fault(fault),
+            Err(fault) => Flow::Stopped(of_fault(fault)),
         }
     }
 
@@ -282,7 +282,7 @@ impl Processor {
         let at = self.address(i, pc);
         match self.memory.load16(at) {
             Ok(v) => self.give(pc, i, v),
-            Err(fault) => of_fault(fault),
+            Err(fault) => Flow::Stopped(of_fault(fault)),
         }
     }
 
@@ -296,7 +296,7 @@ impl Processor {
         let at = self.address(i, pc);
         match self.memory.load32(at) {
             Ok(v) => self.give(pc, i, v),
-            Err(fault) => of_fault(fault),
+            Err(fault) => Flow::Stopped(of_fault(fault)),
         }
     }
 
@@ -313,7 +313,7 @@ impl Processor {
                 forget(&mut self.entries, at);
                 Flow::Next(next_pc(pc))
             }
-            Err(fault) => of_fault(fault),
+            Err(fault) => Flow::Stopped(of_fault(fault)),
         }
     }
 
@@ -330,7 +330,7 @@ impl Processor {
                 forget(&mut self.entries, at);
                 Flow::Next(next_pc(pc))
             }
-            Err(fault) => of_fault(fault),
+            Err(fault) => Flow::Stopped(of_fault(fault)),
         }
     }
 
@@ -347,40 +347,45 @@ impl Processor {
                 forget(&mut self.entries, at);
                 Flow::Next(next_pc(pc))
             }
-            Err(fault) => of_fault(fault),
+            Err(fault) => Flow::Stopped(of_fault(fault)),
         }
     }
 }
 
 impl Processor {
-    /// Fetches the instruction at pc, which is touched, decodes it and carries it out.
+    /// Fetches the instruction at pc, whose page is touched, decodes it and carries it out.
     #[inline(always)]
     pub fn step(&mut self, pc: u32) -> Flow
         requires aligned { pc % 4 ≡ 0 }
         ensures { Does pc result (operations.instruction (hart_of self.old pc)) self.new }
     {
-        match look(&self.entries, pc) {
-            Some(i) => self.operate(pc, i),
-            None => self.step_anew(pc),
-        }
+        let i = match look(&self.entries, pc) {
+            Some(i) => i,
+            None => match self.fetch(pc) {
+                Ok(i) => i,
+                Err(stop) => return Flow::Stopped(stop),
+            },
+        };
+        self.operate(pc, i)
     }
 
-    // The step where the instruction is not kept.
+    // The instruction at pc where it is not kept.
     #[inline(never)]
-    fn step_anew(&mut self, pc: u32) -> Flow
+    fn fetch(&mut self, pc: u32) -> Result<Instr, Stop>
         requires aligned { pc % 4 ≡ 0 }
-        ensures { Does pc result (operations.instruction (hart_of self.old pc)) self.new }
+        ensures ok { IfOk result (λ i. Fetched pc i self.old self.new) }
+        ensures refused { IfErr result (λ stop. Does pc (Flow.Stopped stop) (operations.instruction (hart_of self.old pc)) self.new) }
     {
         let word = match self.memory.load32(pc) {
             Ok(word) => word,
-            Err(fault) => return of_fault(fault),
+            Err(fault) => return Err(of_fault(fault)),
         };
         match decode(word) {
             Some(i) => {
                 keep(&mut self.entries, pc, i);
-                self.operate(pc, i)
+                Ok(i)
             }
-            None => Flow::Stopped(Stop::Ended(Ending::Trap(Trap::Illegal))),
+            None => Err(Stop::Ended(Ending::Trap(Trap::Illegal))),
         }
     }
 
@@ -497,12 +502,12 @@ fn relative(pc: u32, i: Instr) -> u32
 }
 
 // Why the machine stops at a fault of its memory.
-fn of_fault(fault: MemFault) -> Flow
+fn of_fault(fault: MemFault) -> Stop
     ensures { result ≡ stop_of fault }
 {
-    Flow::Stopped(match fault {
+    match fault {
         MemFault::Misaligned => Stop::Ended(Ending::Trap(Trap::Misaligned)),
         MemFault::OverLimit { .. } => Stop::Ended(Ending::Memory),
         MemFault::NoMemory => Stop::NoMemory,
-    })
+    }
 }

@@ -3,16 +3,14 @@ use Rattle.rv_word.specs.Table.{instr}
 use Rattle.rv_memory.specs.Paged as memory
 use Rattle.rv_memory.proofs.Touching.{is_touched-touch}
 use Rattle.rv_memory.proofs.Bytes.{word_at_touch}
+use Rattle.rv_machine.specs.Storage.{hart_of}
 use Rattle.rv_machine.specs.Caching.{IsCached}
 use Rattle.rv_machine.proofs.Kept.{cached_touch}
 use Rattle.rv_machine.proofs.Small.{small_instruction}
-use Rattle.rv_machine.proofs.processor.Processor.step_anew.Goals as goal
+use Rattle.rv_machine.proofs.processor.Processor.fetch.Goals as goal
 
 pub keep-requires-clause-small : goal.keep-requires-clause-small
 keep-requires-clause-small c = small_instruction c.in-Ok.word c.in-Some.i (sym c.in-Some.ensures)
-
-pub operate-requires-clause-small : goal.operate-requires-clause-small
-operate-requires-clause-small c = small_instruction c.in-Ok.word c.in-Some.i (sym c.in-Some.ensures)
 
 pub invariant_of-self-in-Some : goal.invariant_of-self-in-Some
 invariant_of-self-in-Some c =
@@ -29,3 +27,12 @@ invariant_of-self-in-Some c =
 pub invariant_of-self-in-None : goal.invariant_of-self-in-None
 invariant_of-self-in-None c =
     (rw c.in-Ok.ensures.touched (cached_touch c.self.inside.memory c.self.inside.entries.items (c.args.pc / 4096) c.self.invariant.0), c.self.invariant.1)
+
+pub returns-in-Some-clause-ok : goal.returns-in-Some-clause-ok
+returns-in-Some-clause-ok c =
+    record {
+      within = rw (← c.self.view_is) c.in-Ok.ensures.allowed.1;
+      decoded = rw (← c.self.view_is) (ap instr (sym c.in-Ok.ensures.value) ∙ sym c.in-Some.ensures);
+      touched = rw (← c.self.view_is) (ap (λ (m : memory.State). hart_of (record { regs = c.self.inside.regs; memory = m }) c.args.pc) c.in-Ok.ensures.touched);
+      small = small_instruction c.in-Ok.word c.in-Some.i (sym c.in-Some.ensures);
+    }
