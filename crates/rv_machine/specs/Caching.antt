@@ -1,4 +1,4 @@
-use Rattle.std.specs.Prelude.{◌≡◌, ◌≢◌, ℕ, ◌-◌, ◌/◌, ◌%◌, ◌<◌, true, List, length, slice_index_or, Some, pos, bit_and}
+use Rattle.std.specs.Prelude.{◌≡◌, ◌≢◌, ℕ, ◌-◌, ◌/◌, ◌%◌, ◌<◌, true, false, List, length, slice_index_or, Some, pos, bit_and}
 use Rattle.rv_word.specs.declared.instr.Op.TheVariants.{Fence}
 use Rattle.rv_word.specs.declared.instr.Instr.{Instr}
 use Rattle.rv_word.specs.Table.{instr as instruction_of}
@@ -18,6 +18,10 @@ slot at n = bit_and (at / 4) (n - 1)
 abbrev pub unused : Entry
 unused = record { at = 1; instr = record { op = Fence; rd = 0; rs1 = 0; rs2 = 0; imm = pos 0 } }
 
+-- the instruction of the entry for an address
+abbrev pub entry_of : List Entry → ℕ → Instr
+entry_of es at = (slice_index_or es (slot at (length es)) unused).instr
+
 -- an entry at its place has the instruction that is in memory at its address
 pub record IsFresh (m : memory.State) (n k : ℕ) (e : Entry) : Type 0 where
   pub place : slot e.at n ≡ k
@@ -29,6 +33,13 @@ pub record IsCached (m : memory.State) (es : List Entry) : Type 0 where
   pub some : 0 < length es
   pub small : (k : ℕ) → k < length es → IsSmall (slice_index_or es k unused).instr
   pub fresh : (k : ℕ) → k < length es → (slice_index_or es k unused).at % 4 ≡ 0 → IsFresh m (length es) k (slice_index_or es k unused)
+
+-- the instruction at pc was fetched: it is that of the entry
+pub record IsReady (pc : ℕ) (m n : memory.State) (es : List Entry) : Type 0 where
+  pub within : memory.is_over m (pc / 4096) ≡ false
+  pub decoded : instruction_of (memory.word_at m pc) ≡ Some (entry_of es pc)
+  pub touched : n ≡ memory.touch m (pc / 4096)
+  pub small : IsSmall (entry_of es pc)
 
 -- n has the words of m, but for one, and has its pages
 pub record DiffersAt (m n : memory.State) (word : ℕ) : Type 0 where

@@ -1,19 +1,21 @@
-use Rattle.std.specs.Prelude.{◌≡◌, ℕ, ◌/◌, ◌%◌, false, Some}
+use Rattle.std.specs.Prelude.{◌≡◌, ℕ, ◌%◌, List}
 use Rattle.rv_memory.specs.Paged as memory
 use Rattle.rv_memory.specs.declared.memory.MemFault.{MemFault}
 use Rattle.rv_memory.specs.declared.memory.MemFault.TheVariants as faults
 use Rattle.rv_machine.specs.declared.ending.Ending.TheVariants.{Trap, Memory}
 use Rattle.rv_machine.specs.declared.ending.Trap.TheVariants.{Misaligned}
+use Rattle.rv_machine.specs.declared.ending.Trap.TheVariants as trap
 use Rattle.rv_machine.specs.declared.processor.Flow.{Flow}
 use Rattle.rv_machine.specs.declared.processor.Flow.TheVariants.{Next, Stopped}
 use Rattle.rv_machine.specs.declared.processor.Stop.{Stop}
 use Rattle.rv_machine.specs.declared.processor.Stop.TheVariants.{Ended, Call, NoMemory}
 use Rattle.rv_machine.specs.Hart.{Effect, Moves, Ends, Calls}
-use Rattle.rv_machine.specs.Operations.{fetched}
+use Rattle.rv_machine.specs.Operations.{instruction}
 use Rattle.rv_machine.specs.Storage.{Storage, hart_of}
-use Rattle.rv_machine.specs.Caching.{IsSmall}
-use Rattle.rv_word.specs.declared.instr.Instr.{Instr}
-use Rattle.rv_word.specs.Table.{instr as instruction_of}
+use Rattle.rv_machine.specs.Caching.{IsReady}
+use Rattle.rv_machine.specs.declared.cache.Entry.{Entry}
+use Rattle.rv_machine.specs.declared.processor.Fetch.{Fetch}
+use Rattle.rv_machine.specs.declared.processor.Fetch.TheVariants.{Ready, Illegal, OverLimit, OutOfMemory}
 
 -- an instruction at pc has the effect; there may also be no memory for it
 abbrev pub Does : ℕ → Flow → Effect → Storage → Type 0
@@ -34,9 +36,9 @@ stop_of faults.Misaligned = Ended (Trap Misaligned)
 stop_of (faults.OverLimit n) = Ended Memory
 stop_of faults.NoMemory = NoMemory
 
--- the instruction at pc was fetched
-pub record Fetched (pc : ℕ) (i : Instr) (old new : Storage) : Type 0 where
-  pub within : memory.is_over old.memory (pc / 4096) ≡ false
-  pub decoded : instruction_of (memory.word_at old.memory pc) ≡ Some i
-  pub touched : hart_of new pc ≡ fetched (hart_of old pc)
-  pub small : IsSmall i
+-- the instruction at pc is ready in its entry, or the fetch stops the processor as the instruction says
+abbrev pub Readies : ℕ → Fetch → Storage → memory.State → List Entry → Type 0
+Readies pc Ready old new es = IsReady pc old.memory new es
+Readies pc Illegal old new es = Does pc (Stopped (Ended (Trap trap.Illegal))) (instruction (hart_of old pc)) (record old { memory = new })
+Readies pc OverLimit old new es = Does pc (Stopped (Ended Memory)) (instruction (hart_of old pc)) (record old { memory = new })
+Readies pc OutOfMemory old new es = Unit {0}

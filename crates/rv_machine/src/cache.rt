@@ -1,5 +1,5 @@
-ghost use Rattle.std.specs.Prelude.{ℕ, ◌≡◌, ◌+◌, ◌-◌, ◌*◌, ◌/◌, ◌%◌, ◌^◌, ◌<◌, ◌≤◌, IfOk, IfSome, true, length, vec_len, slice_set, slice_index_or};
-ghost use Rattle.rv_machine.specs.Caching.{IsCached, IsSmall, DiffersAt, slot, unused};
+ghost use Rattle.std.specs.Prelude.{ℕ, ◌≡◌, ◌+◌, ◌-◌, ◌*◌, ◌/◌, ◌%◌, ◌^◌, ◌<◌, ◌≤◌, IfOk, true, nat_eq, length, vec_len, slice_set, slice_index_or};
+ghost use Rattle.rv_machine.specs.Caching.{IsCached, IsSmall, DiffersAt, slot, entry_of, unused};
 ghost use Rattle.rv_word.specs.Table.{instr as instruction_of};
 ghost use Rattle.rv_memory.specs.Paged as memory;
 
@@ -44,19 +44,30 @@ fn place(entries: &Vec<Entry>, at: u32) -> usize
     (at / 4) as usize & (entries.len() - 1)
 }
 
-/// The instruction at an address that is a multiple of 4, where it is kept.
+/// The instruction of the entry for an address.
 #[inline(always)]
-pub fn look(entries: &Vec<Entry>, pc: u32) -> Option<Instr>
+pub fn entry_at(entries: &Vec<Entry>, pc: u32) -> Instr
     requires some { 0 < length entries.now.items }
-    requires aligned { pc % 4 ≡ 0 }
-    ensures fresh { IfSome result (λ i. (m : memory.State) → IsCached m entries.now.items → (memory.is_touched m (pc / 4096) ≡ true) × (instruction_of (memory.word_at m pc) ≡ Some i) × IsSmall i) }
+    ensures { result ≡ entry_of entries.now.items pc }
 {
-    let entry = entries[place(entries, pc)];
-    if entry.at == pc {
-        Some(entry.instr)
-    } else {
-        None
+    let entry = &entries[place(entries, pc)];
+    // Field by field, so that each is read from its byte.
+    Instr {
+        op: entry.instr.op,
+        rd: entry.instr.rd,
+        rs1: entry.instr.rs1,
+        rs2: entry.instr.rs2,
+        imm: entry.instr.imm,
     }
+}
+
+/// Whether the instruction at an address is kept.
+#[inline(always)]
+pub fn is_kept(entries: &Vec<Entry>, pc: u32) -> bool
+    requires some { 0 < length entries.now.items }
+    ensures { result ≡ nat_eq (slice_index_or entries.now.items (slot pc (length entries.now.items)) unused).at pc }
+{
+    entries[place(entries, pc)].at == pc
 }
 
 /// Keeps the instruction that is in memory at an address that is a multiple of 4.
@@ -65,6 +76,7 @@ pub fn keep(entries: &mut Vec<Entry>, pc: u32, instr: Instr)
     requires small { IsSmall instr }
     requires aligned { pc % 4 ≡ 0 }
     ensures fresh { (m : memory.State) → IsCached m entries.old.items → memory.is_touched m (pc / 4096) ≡ true → instruction_of (memory.word_at m pc) ≡ Some instr → IsCached m entries.new.items }
+    ensures kept { entry_of entries.new.items pc ≡ instr }
 {
     let k = place(entries, pc);
     entries[k] = Entry { at: pc, instr };

@@ -1,15 +1,15 @@
-ghost use Rattle.std.specs.Prelude.{ℕ, ◌≡◌, ◌≢◌, ◌+◌, ◌-◌, ◌*◌, ◌/◌, ◌%◌, ◌^◌, ◌<◌, ◌≤◌, ◌++◌, IfOk, IfErr, OnOk, OnErr, true, false, [], length, nat_eq, int_lt, slice_index, slice_set};
+ghost use Rattle.std.specs.Prelude.{ℕ, List, ◌≡◌, ◌≢◌, ◌+◌, ◌-◌, ◌*◌, ◌/◌, ◌%◌, ◌^◌, ◌<◌, ◌≤◌, ◌++◌, IfOk, IfErr, OnOk, OnErr, true, false, [], length, nat_eq, int_lt, slice_index, slice_set};
 ghost use Rattle.std.specs.Int.{cast_signed, w8, w16};
 ghost use Rattle.rv_machine.specs.Hart as hart;
 ghost use Rattle.rv_machine.specs.Operations as operations;
 ghost use Rattle.rv_machine.specs.Storage.{hart_of};
-ghost use Rattle.rv_machine.specs.Executing.{Does, Fetched, stop_of};
+ghost use Rattle.rv_machine.specs.Executing.{Does, Readies, stop_of};
 ghost use Rattle.rv_machine.specs.Caching.{IsCached, IsSmall, DiffersAt};
 ghost use Rattle.rv_word.specs.Effect as effect;
 ghost use Rattle.rv_word.specs.Table.{instr as instruction_of};
 ghost use Rattle.rv_memory.specs.Paged as memory;
 
-use crate::cache::{Entry, empty_entries, forget, forget_all, keep, look};
+use crate::cache::{Entry, empty_entries, entry_at, forget, forget_all, is_kept, keep};
 use crate::ending::{Ending, Trap};
 use farm_kinds::NoMemory;
 use rv_memory::{MemFault, Memory};
@@ -30,6 +30,15 @@ pub enum Stop {
 pub enum Flow {
     Next(u32),
     Stopped(Stop),
+}
+
+/// What comes of a fetch.
+#[derive(Clone, Copy)]
+pub enum Fetch {
+    Ready,
+    Illegal,
+    OverLimit,
+    OutOfMemory,
 }
 
 /// The registers and the memory, with the instructions that were decoded.
@@ -359,33 +368,14 @@ impl Processor {
         requires aligned { pc % 4 ≡ 0 }
         ensures { Does pc result (operations.instruction (hart_of self.old pc)) self.new }
     {
-        let i = match look(&self.entries, pc) {
-            Some(i) => i,
-            None => match self.fetch(pc) {
-                Ok(i) => i,
-                Err(stop) => return Flow::Stopped(stop),
-            },
-        };
-        self.operate(pc, i)
-    }
-
-    // The instruction at pc where it is not kept.
-    #[inline(never)]
-    fn fetch(&mut self, pc: u32) -> Result<Instr, Stop>
-        requires aligned { pc % 4 ≡ 0 }
-        ensures ok { IfOk result (λ i. Fetched pc i self.old self.new) }
-        ensures refused { IfErr result (λ stop. Does pc (Flow.Stopped stop) (operations.instruction (hart_of self.old pc)) self.new) }
-    {
-        let word = match self.memory.load32(pc) {
-            Ok(word) => word,
-            Err(fault) => return Err(of_fault(fault)),
-        };
-        match decode(word) {
-            Some(i) => {
-                keep(&mut self.entries, pc, i);
-                Ok(i)
+        match ready(&mut self.memory, &mut self.entries, pc) {
+            Fetch::Ready => {
+                let i = entry_at(&self.entries, pc);
+                self.operate(pc, i)
             }
-            None => Err(Stop::Ended(Ending::Trap(Trap::Illegal))),
+            Fetch::Illegal => Flow::Stopped(Stop::Ended(Ending::Trap(Trap::Illegal))),
+            Fetch::OverLimit => Flow::Stopped(Stop::Ended(Ending::Memory)),
+            Fetch::OutOfMemory => Flow::Stopped(Stop::NoMemory),
         }
     }
 
@@ -499,6 +489,42 @@ fn relative(pc: u32, i: Instr) -> u32
     ensures { result ≡ (pc + effect.bits i.imm) % 2 ^ 32 }
 {
     pc.wrapping_add(i.imm.cast_unsigned())
+}
+
+// Sees that the instruction at pc is in its entry.
+#[inline(always)]
+fn ready(memory: &mut Memory, entries: &mut Vec<Entry>, pc: u32) -> Fetch
+    requires aligned { pc % 4 ≡ 0 }
+    requires cached { IsCached memory.old entries.old.items }
+    ensures cached { IsCached memory.new entries.new.items }
+    ensures fetched { (regs : List ℕ) → Readies pc result (record { regs = regs; memory = memory.old }) memory.new entries.new.items }
+{
+    if is_kept(entries, pc) {
+        return Fetch::Ready;
+    }
+    fetch_anew(memory, entries, pc)
+}
+
+// Fetches and decodes the instruction at pc, and keeps it.
+#[inline(never)]
+fn fetch_anew(memory: &mut Memory, entries: &mut Vec<Entry>, pc: u32) -> Fetch
+    requires aligned { pc % 4 ≡ 0 }
+    requires cached { IsCached memory.old entries.old.items }
+    ensures cached { IsCached memory.new entries.new.items }
+    ensures fetched { (regs : List ℕ) → Readies pc result (record { regs = regs; memory = memory.old }) memory.new entries.new.items }
+{
+    let word = match memory.load32(pc) {
+        Ok(word) => word,
+        Err(MemFault::OverLimit { .. }) => return Fetch::OverLimit,
+        Err(_) => return Fetch::OutOfMemory,
+    };
+    match decode(word) {
+        Some(i) => {
+            keep(entries, pc, i);
+            Fetch::Ready
+        }
+        None => Fetch::Illegal,
+    }
 }
 
 // Why the machine stops at a fault of its memory.
