@@ -1,12 +1,15 @@
-use Rattle.std.proofs.Common.{◌≡◌, ◌≢◌, ℕ, zero, suc, ◌+◌, ◌*◌, ◌/◌, ◌%◌, ◌<◌, ◌≤◌, ◌⊎◌, true, List, [], ◌∷◌, length, get_or, set, refl, ◌∙◌, ap, arith, inl, inr}
-use Rattle.std.proofs.lemmas.Bool.{cases_eq}
+use Rattle.std.proofs.Common.{◌≡◌, ◌≢◌, ℕ, zero, suc, ◌+◌, ◌-◌, ◌*◌, ◌/◌, ◌%◌, ◌<◌, ◌≤◌, ◌⊎◌, Bool, true, List, [], ◌∷◌, ◌++◌, length, get_or, set, refl, ◌∙◌, ap, arith, inl, inr}
+use Rattle.std.proofs.lemmas.Bool.{cases_eq, cases_lt}
+use Rattle.std.proofs.lemmas.List.{get_or-set_same}
 use Rattle.std.proofs.lemmas.Grind.{common_steps, elements}
-use Rattle.rv_memory.specs.Paged.{State, no_page, place, touch, byte_at, word_at, is_touched, write, put, store_bytes, store8, store16, store32, touch_pages, touch_range, span}
+use Rattle.rv_memory.specs.Paged.{State, no_page, place, zeros, touch, byte_at, word_at, is_touched, write, put, store_bytes, half_bytes, word_bytes, store8, store16, store32, touch_pages, touch_range, span, IsWhole, ChangesBytes, TouchesPage}
+use Rattle.rv_memory.specs.PageBytes.{set_bytes}
 use Rattle.rv_memory.specs.declared.page.Page.{Page}
-use Rattle.rv_memory.proofs.Bytes.{byte_at_touch}
-use Rattle.rv_memory.proofs.Touching.{touched_touch, is_touched_touch}
-use Rattle.rv_memory.proofs.Storing.{place_after_write, is_touched_put}
-use Rattle.rv_memory.proofs.Ranges.{is_touched_touch_pages}
+use Rattle.rv_memory.proofs.Places.{whole_push, whole_set}
+use Rattle.rv_memory.proofs.Bytes.{byte_at_touch, touch_cases}
+use Rattle.rv_memory.proofs.Touching.{touched_touch, is_touched_touch, is_touched-touch, is_touched_other}
+use Rattle.rv_memory.proofs.Storing.{place_after_write, is_touched_put, is_touched_write, is_touched_store_bytes, store_bytes_in_page}
+use Rattle.rv_memory.proofs.Ranges.{is_touched_touch_pages, limit-touch}
 
 -- the page at the place of a number has that number
 number_at_place : (ps : List Page) (p : ℕ) → place ps p < length ps → (get_or ps (place ps p) no_page).number ≡ p
@@ -51,32 +54,7 @@ byte_at_store_bytes s a x (b ∷ bs) out =
     let rest : (x < a + 1) ⊎ (a + 1 + length bs ≤ x) = elim out [ inl l ↦ inl (omega arith) | inr g ↦ inr (omega arith) ] in
     byte_at_store_bytes (put s a b) (a + 1) x bs rest ∙ byte_at_put s a b x apart
 
-pub byte_at_store8 : (s : State) (a v x : ℕ) → x ≢ a → byte_at (store8 s a v) x ≡ byte_at s x
-byte_at_store8 s a v x other = byte_at_put s a (v % 0x100) x other
-
-pub byte_at_store16 : (s : State) (a v x : ℕ) → x ≢ a → x ≢ a + 1 → byte_at (store16 s a v) x ≡ byte_at s x
-byte_at_store16 s a v x p q = byte_at_put (put s a (v % 0x100)) (a + 1) (v / 0x100 % 0x100) x q ∙ byte_at_put s a (v % 0x100) x p
-
-pub byte_at_store32 : (s : State) (a v x : ℕ) → x ≢ a → x ≢ a + 1 → x ≢ a + 2 → x ≢ a + 3 → byte_at (store32 s a v) x ≡ byte_at s x
-byte_at_store32 s a v x p q r t =
-    let one = put s a (v % 0x100) in
-    let two = put one (a + 1) (v / 0x100 % 0x100) in
-    let three = put two (a + 2) (v / 0x10000 % 0x100) in
-    byte_at_put three (a + 3) (v / 0x1000000 % 0x100) x t ∙ byte_at_put two (a + 2) (v / 0x10000 % 0x100) x r ∙ byte_at_put one (a + 1) (v / 0x100 % 0x100) x q ∙ byte_at_put s a (v % 0x100) x p
-
 -- ---- nor any other word
-
-pub word_at_store8 : (s : State) (a v b : ℕ) → b % 4 ≡ 0 → b ≢ a / 4 * 4 → word_at (store8 s a v) b ≡ word_at s b
-word_at_store8 s a v b g n =
-    omega (arith, byte_at_store8 s a v b (omega arith), byte_at_store8 s a v (b + 1) (omega arith), byte_at_store8 s a v (b + 2) (omega arith), byte_at_store8 s a v (b + 3) (omega arith))
-
-pub word_at_store16 : (s : State) (a v b : ℕ) → a % 2 ≡ 0 → b % 4 ≡ 0 → b ≢ a / 4 * 4 → word_at (store16 s a v) b ≡ word_at s b
-word_at_store16 s a v b h g n =
-    omega (arith, byte_at_store16 s a v b (omega arith) (omega arith), byte_at_store16 s a v (b + 1) (omega arith) (omega arith), byte_at_store16 s a v (b + 2) (omega arith) (omega arith), byte_at_store16 s a v (b + 3) (omega arith) (omega arith))
-
-pub word_at_store32 : (s : State) (a v b : ℕ) → a % 4 ≡ 0 → b % 4 ≡ 0 → a ≢ b → word_at (store32 s a v) b ≡ word_at s b
-word_at_store32 s a v b h g n =
-    omega (arith, byte_at_store32 s a v b (omega arith) (omega arith) (omega arith) (omega arith), byte_at_store32 s a v (b + 1) (omega arith) (omega arith) (omega arith) (omega arith), byte_at_store32 s a v (b + 2) (omega arith) (omega arith) (omega arith) (omega arith), byte_at_store32 s a v (b + 3) (omega arith) (omega arith) (omega arith) (omega arith))
 
 -- a word that no byte of a range lies in
 pub word_at_store_bytes : (s : State) (a b : ℕ) (bs : List ℕ) → (b + 4 ≤ a) ⊎ (a + length bs ≤ b) → word_at (store_bytes s a bs) b ≡ word_at s b
@@ -86,23 +64,34 @@ word_at_store_bytes s a b bs out =
       | inr g ↦ omega (arith, byte_at_store_bytes s a b bs (inr (omega arith)), byte_at_store_bytes s a (b + 1) bs (inr (omega arith)), byte_at_store_bytes s a (b + 2) bs (inr (omega arith)), byte_at_store_bytes s a (b + 3) bs (inr (omega arith)))
     ]
 
+pub word_at_store8 : (s : State) (a v b : ℕ) → b % 4 ≡ 0 → b ≢ a / 4 * 4 → word_at (store8 s a v) b ≡ word_at s b
+word_at_store8 s a v b g n =
+    omega (arith, byte_at_put s a (v % 0x100) b (omega arith), byte_at_put s a (v % 0x100) (b + 1) (omega arith), byte_at_put s a (v % 0x100) (b + 2) (omega arith), byte_at_put s a (v % 0x100) (b + 3) (omega arith))
+
+apart : (a b n : ℕ) → a % n ≡ 0 → (n ≡ 2) ⊎ (n ≡ 4) → b % 4 ≡ 0 → b ≢ a / 4 * 4 → (b + 4 ≤ a) ⊎ (a + n ≤ b)
+apart a b n h w g other = elim w [
+  | inl two ↦ let e : a % 2 ≡ 0 = rw two at h in rw two (side a b 2 (omega arith))
+  | inr four ↦ let e : a % 4 ≡ 0 = rw four at h in rw four (side a b 4 (omega arith))
+] where
+  side : (a b n : ℕ) → (a < b + 4 → a + n ≤ b) → (b + 4 ≤ a) ⊎ (a + n ≤ b)
+  side a b n f = elim (cases_lt a (b + 4)) [ inl l ↦ inr (f l) | inr g ↦ inl g ]
+
+pub word_at_store16 : (s : State) (a v b : ℕ) → a % 2 ≡ 0 → b % 4 ≡ 0 → b ≢ a / 4 * 4 → word_at (store16 s a v) b ≡ word_at s b
+word_at_store16 s a v b h g n = word_at_store_bytes s a b (half_bytes v) (apart a b 2 h (inl refl) g n)
+
+pub word_at_store32 : (s : State) (a v b : ℕ) → a % 4 ≡ 0 → b % 4 ≡ 0 → a ≢ b → word_at (store32 s a v) b ≡ word_at s b
+word_at_store32 s a v b h g n = word_at_store_bytes s a b (word_bytes v) (apart a b 4 h (inr refl) g (omega arith))
+
 -- ---- what was touched stays touched
 
 pub is_touched_store8 : (s : State) (a v m : ℕ) → is_touched s m ≡ true → is_touched (store8 s a v) m ≡ true
 is_touched_store8 s a v m h = is_touched_put s a (v % 0x100) m ∙ is_touched_touch s (a / 4096) m h
 
-again : (s : State) (a b m : ℕ) → is_touched s m ≡ true → is_touched (put s a b) m ≡ true
-again s a b m h = is_touched_put s a b m ∙ is_touched_touch s (a / 4096) m h
-
 pub is_touched_store16 : (s : State) (a v m : ℕ) → is_touched s m ≡ true → is_touched (store16 s a v) m ≡ true
-is_touched_store16 s a v m h = again (put s a (v % 0x100)) (a + 1) (v / 0x100 % 0x100) m (again s a (v % 0x100) m h)
+is_touched_store16 s a v m h = is_touched_store_bytes s a m (half_bytes v) h
 
 pub is_touched_store32 : (s : State) (a v m : ℕ) → is_touched s m ≡ true → is_touched (store32 s a v) m ≡ true
-is_touched_store32 s a v m h =
-    let one = put s a (v % 0x100) in
-    let two = put one (a + 1) (v / 0x100 % 0x100) in
-    let three = put two (a + 2) (v / 0x10000 % 0x100) in
-    again three (a + 3) (v / 0x1000000 % 0x100) m (again two (a + 2) (v / 0x10000 % 0x100) m (again one (a + 1) (v / 0x100 % 0x100) m (again s a (v % 0x100) m h)))
+is_touched_store32 s a v m h = is_touched_store_bytes s a m (word_bytes v) h
 
 pub is_touched_touch_range : (s : State) (a n m : ℕ) → is_touched s m ≡ true → is_touched (touch_range s a n) m ≡ true
 is_touched_touch_range s a n m h = is_touched_touch_pages s (a / 4096) (span a n) m h
@@ -118,3 +107,72 @@ word_at_touch_range s a n b =
     let p = a / 4096 in
     let k = span a n in
     omega (arith, byte_at_touch_pages s p k b, byte_at_touch_pages s p k (b + 1), byte_at_touch_pages s p k (b + 2), byte_at_touch_pages s p k (b + 3))
+
+-- ---- what is put at an address is there
+
+whole_touch : (s : State) (p : ℕ) → IsWhole s.pages → IsWhole (touch s p).pages
+whole_touch s p w = elim (touch_cases s p) [ inl t ↦ rw t w | inr t ↦ rw t (whole_push s.pages p w) ]
+
+whole_put : (s : State) (a b : ℕ) → IsWhole s.pages → IsWhole (put s a b).pages
+whole_put s a b w =
+    let t = touch s (a / 4096) in
+    let k = place t.pages (a / 4096) in
+    let q = get_or t.pages k no_page in
+    whole_set t.pages k (record { number = q.number; bytes = set q.bytes (a % 4096) b }) (whole_touch s (a / 4096) w) (touched_touch s (a / 4096)) (grind (arith, common_steps))
+
+byte_at-put : (s : State) (a b : ℕ) → IsWhole s.pages → byte_at (put s a b) a ≡ b
+byte_at-put s a b w =
+    let p = a / 4096 in
+    let t = touch s p in
+    let k = place t.pages p in
+    let q = get_or t.pages k no_page in
+    let r : Page = record { number = q.number; bytes = set q.bytes (a % 4096) b } in
+    let l : k < length t.pages = touched_touch s p in
+    let n : length q.bytes ≡ 4096 = (whole_touch s p w).whole k l in
+    let e : place (set t.pages k r) p ≡ k = place_after_write t.pages p p (set q.bytes (a % 4096) b) in
+    let same : get_or (set t.pages k r) k no_page ≡ r = get_or-set_same t.pages k r no_page l in
+    ap (λ (i : ℕ). get_or (get_or (set t.pages k r) i no_page).bytes (a % 4096) 0) e
+    ∙ ap (λ (v : Page). get_or v.bytes (a % 4096) 0) same
+    ∙ get_or-set_same q.bytes (a % 4096) b 0 (omega arith)
+
+there_store_bytes : (s : State) (a : ℕ) (bs : List ℕ) → IsWhole s.pages → (k : ℕ) → k < length bs → byte_at (store_bytes s a bs) (a + k) ≡ get_or bs k 0
+there_store_bytes s a [] w k l = absurd (omega arith)
+there_store_bytes s a (b ∷ bs) w zero l =
+    let e : a + 0 ≡ a = omega arith in
+    rw e (byte_at_store_bytes (put s a b) (a + 1) a bs (inl (omega arith)) ∙ byte_at-put s a b w)
+there_store_bytes s a (b ∷ bs) w (suc k) l =
+    let e : a + suc k ≡ a + 1 + k = omega arith in
+    rw e (there_store_bytes (put s a b) (a + 1) bs (whole_put s a b w) k (omega arith))
+
+pub changes_store_bytes : (s : State) (a : ℕ) (bs : List ℕ) → IsWhole s.pages → ChangesBytes s (store_bytes s a bs) a bs
+changes_store_bytes s a bs w = record { there = there_store_bytes s a bs w; elsewhere = λ x out. byte_at_store_bytes s a x bs out }
+
+pub changes_store8 : (s : State) (a v : ℕ) → IsWhole s.pages → ChangesBytes s (store8 s a v) a (v % 0x100 ∷ [])
+changes_store8 s a v w = changes_store_bytes s a (v % 0x100 ∷ []) w
+
+pub changes_store16 : (s : State) (a v : ℕ) → IsWhole s.pages → ChangesBytes s (store16 s a v) a (half_bytes v)
+changes_store16 s a v w = changes_store_bytes s a (half_bytes v) w
+
+pub changes_store32 : (s : State) (a v : ℕ) → IsWhole s.pages → ChangesBytes s (store32 s a v) a (word_bytes v)
+changes_store32 s a v w = changes_store_bytes s a (word_bytes v) w
+
+-- ---- which pages are touched
+
+touches_write : (s : State) (p : ℕ) (f : List ℕ → List ℕ) → TouchesPage s (write (touch s p) p f) p
+touches_write s p f = record {
+  this = is_touched_write (touch s p) p p f ∙ is_touched-touch s p;
+  others = λ m other. is_touched_write (touch s p) p m f ∙ is_touched_other s p m other;
+  limit = limit-touch s p;
+}
+
+pub touches_store8 : (s : State) (a v : ℕ) → TouchesPage s (store8 s a v) (a / 4096)
+touches_store8 s a v = touches_write s (a / 4096) (λ bs. set bs (a % 4096) (v % 0x100))
+
+in_page : (s t : State) (p : ℕ) (f : List ℕ → List ℕ) → t ≡ write (touch s p) p f → TouchesPage s t p
+in_page s t p f e = rw e (touches_write s p f)
+
+pub touches_store16 : (s : State) (a v : ℕ) → a % 2 ≡ 0 → TouchesPage s (store16 s a v) (a / 4096)
+touches_store16 s a v h = in_page s (store16 s a v) (a / 4096) (set_bytes (a % 4096) (half_bytes v)) (store_bytes_in_page s a (v % 0x100) (v / 0x100 % 0x100 ∷ []) (omega arith))
+
+pub touches_store32 : (s : State) (a v : ℕ) → a % 4 ≡ 0 → TouchesPage s (store32 s a v) (a / 4096)
+touches_store32 s a v h = in_page s (store32 s a v) (a / 4096) (set_bytes (a % 4096) (word_bytes v)) (store_bytes_in_page s a (v % 0x100) (v / 0x100 % 0x100 ∷ v / 0x10000 % 0x100 ∷ v / 0x1000000 % 0x100 ∷ []) (omega arith))

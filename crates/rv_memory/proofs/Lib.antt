@@ -4,3 +4,4 @@ pub mod Touching
 pub mod Storing
 pub mod Ranges
 pub mod Laws
+pub mod Paging

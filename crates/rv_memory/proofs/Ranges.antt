@@ -1,6 +1,6 @@
 use Rattle.std.proofs.Common.{◌≡◌, ◌≢◌, ℕ, zero, suc, ◌+◌, ◌-◌, ◌*◌, ◌/◌, ◌<◌, ◌≤◌, ◌⊎◌, Bool, true, false, nat_eq, nat_lt, nat_le, List, [], ◌∷◌, ◌++◌, length, take, refl, arith, inl, inr, ap, ◌∙◌, sym, add-one, if◌then◌else◌}
 use Rattle.std.proofs.lemmas.Grind.{common_steps, elements}
-use Rattle.std.proofs.lemmas.Bool.{cases_eq}
+use Rattle.std.proofs.lemmas.Bool.{cases_eq, cases_Bool}
 use Rattle.rv_memory.specs.Paged.{State, place, zeros, touch, is_touched, is_over, touch_pages, touch_range, span, fits, AllTouched}
 use Rattle.rv_memory.specs.declared.page.Page.{Page}
 use Rattle.rv_memory.proofs.Bytes.{touch_cases}
@@ -55,13 +55,10 @@ room_left s p k n l h =
     let grow : length (touch_pages s p (k + 1)).pages ≤ length (touch_pages s p n).pages = rw e at (touch_pages_grows s p (k + 1) (n - (k + 1))) in
     let more : length (touch_pages s p (k + 1)).pages ≡ length t.pages + (if is_touched t (p + k) then 0 else 1) = ap (λ (x : State). length x.pages) (touch_pages-more s p k) ∙ length-touch t (p + k) in
     let lim : t.limit ≡ s.limit = limit-touch_pages s p k in
-    elim (both (is_touched t (p + k))) [
+    elim (cases_Bool (is_touched t (p + k))) [
       | inl b ↦ rw b refl
       | inr b ↦ let m : length (touch_pages s p (k + 1)).pages ≡ length t.pages + 1 = rw b at more in rw b (grind arith)
-    ] where
-      both : (b : Bool) → (b ≡ true) ⊎ (b ≡ false)
-      both true = inl refl
-      both false = inr refl
+    ]
 
 -- the pages that were there stand first
 pub take-touch_pages : (s : State) (p k : ℕ) → (length s.pages ≤ length (touch_pages s p k).pages) × (take (length s.pages) (touch_pages s p k).pages ≡ s.pages)

@@ -1,9 +1,11 @@
-use Rattle.std.proofs.Common.{◌≡◌, ◌≢◌, ℕ, zero, suc, ◌+◌, ◌*◌, ◌/◌, ◌%◌, ◌<◌, ◌≤◌, ◌⊎◌, Bool, true, nat_eq, List, [], ◌∷◌, ◌++◌, length, get_or, set, refl, arith, inl, inr, ap, ◌∙◌, sym, append_assoc, take}
+use Rattle.std.proofs.Common.{◌≡◌, ◌≢◌, ℕ, zero, suc, ◌+◌, ◌*◌, ◌/◌, ◌%◌, ◌<◌, ◌≤◌, ◌⊎◌, Bool, true, nat_eq, List, [], ◌∷◌, ◌++◌, length, get_or, set, refl, arith, inl, inr, ap, ◌∙◌, sym, append_assoc, take, drop, ◌-◌}
 use Rattle.std.proofs.lemmas.Grind.{common_steps, elements}
 use Rattle.std.proofs.lemmas.Bool.{cases_eq}
 use Rattle.std.proofs.lemmas.List.{get_or-set_same, set-set}
 use Rattle.std.proofs.lemmas.List.Folds.{position_or_len-set}
-use Rattle.rv_memory.specs.Paged.{State, no_page, place, touch, is_touched, byte_at, bytes_at, write, put, store_bytes, store16, store32}
+use Rattle.std.proofs.Math.Seq.{take-add}
+use Rattle.rv_memory.specs.Paged.{State, no_page, place, touch, is_touched, byte_at, bytes_at, write, put, store_bytes, half_bytes, word_bytes, store16, store32}
+use Rattle.rv_memory.specs.PageBytes.{set_bytes}
 use Rattle.rv_memory.specs.declared.page.Page.{Page}
 use Rattle.rv_memory.proofs.Touching.{touched_touch, is_touched_by, touched_by, touch_again, is_touched_touch, is_touched-touch}
 
@@ -38,43 +40,67 @@ put_near t p a b f l e =
     let touched : is_touched (write t p f) p ≡ true = is_touched_write t p p f ∙ touched_by t p l in
     rw (e, touch_again (write t p f) p touched) (write-write t p f (λ bs. set bs (a % 4096) b) l)
 
-pub store16_near : (s : State) (a v : ℕ) → a % 2 ≡ 0 →
-    write (touch s (a / 4096)) (a / 4096) (λ bs. set (set bs (a % 4096) (v % 0x100)) (a % 4096 + 1) (v / 0x100 % 0x100)) ≡ store16 s a v
-store16_near s a v h =
-    let p = a / 4096 in
-    let t = touch s p in
-    let l : place t.pages p < length t.pages = touched_touch s p in
-    let o : (a + 1) % 4096 ≡ a % 4096 + 1 = omega arith in
-    sym (put_near t p (a + 1) (v / 0x100 % 0x100) (λ bs. set bs (a % 4096) (v % 0x100)) l (omega arith) ∙ ap (λ (k : ℕ). write t p (λ bs. set (set bs (a % 4096) (v % 0x100)) k (v / 0x100 % 0x100))) o)
-
-pub store32_near : (s : State) (a v : ℕ) → a % 4 ≡ 0 →
-    write (touch s (a / 4096)) (a / 4096) (λ bs. set (set (set (set bs (a % 4096) (v % 0x100)) (a % 4096 + 1) (v / 0x100 % 0x100)) (a % 4096 + 2) (v / 0x10000 % 0x100)) (a % 4096 + 3) (v / 0x1000000 % 0x100)) ≡ store32 s a v
-store32_near s a v h =
-    let p = a / 4096 in
-    let t = touch s p in
-    let l : place t.pages p < length t.pages = touched_touch s p in
-    let x : (a + 1) % 4096 ≡ a % 4096 + 1 = omega arith in
-    let y : (a + 2) % 4096 ≡ a % 4096 + 2 = omega arith in
-    let z : (a + 3) % 4096 ≡ a % 4096 + 3 = omega arith in
-    let one = put_near t p (a + 1) (v / 0x100 % 0x100) (λ bs. set bs (a % 4096) (v % 0x100)) l (omega arith) in
-    let two = put_near t p (a + 2) (v / 0x10000 % 0x100) (λ bs. set (set bs (a % 4096) (v % 0x100)) ((a + 1) % 4096) (v / 0x100 % 0x100)) l (omega arith) in
-    let three = put_near t p (a + 3) (v / 0x1000000 % 0x100) (λ bs. set (set (set bs (a % 4096) (v % 0x100)) ((a + 1) % 4096) (v / 0x100 % 0x100)) ((a + 2) % 4096) (v / 0x10000 % 0x100)) l (omega arith) in
-    sym (ap (λ (u : State). put (put u (a + 2) (v / 0x10000 % 0x100)) (a + 3) (v / 0x1000000 % 0x100)) one
-    ∙ ap (λ (u : State). put u (a + 3) (v / 0x1000000 % 0x100)) two ∙ three
-    ∙ ap (λ (i : ℕ). write t p (λ bs. set (set (set (set bs (a % 4096) (v % 0x100)) i (v / 0x100 % 0x100)) ((a + 2) % 4096) (v / 0x10000 % 0x100)) ((a + 3) % 4096) (v / 0x1000000 % 0x100))) x
-    ∙ ap (λ (i : ℕ). write t p (λ bs. set (set (set (set bs (a % 4096) (v % 0x100)) (a % 4096 + 1) (v / 0x100 % 0x100)) i (v / 0x10000 % 0x100)) ((a + 3) % 4096) (v / 0x1000000 % 0x100))) y
-    ∙ ap (λ (i : ℕ). write t p (λ bs. set (set (set (set bs (a % 4096) (v % 0x100)) (a % 4096 + 1) (v / 0x100 % 0x100)) (a % 4096 + 2) (v / 0x10000 % 0x100)) i (v / 0x1000000 % 0x100))) z)
-
 -- ---- bytes one after the other
 
-pub store_bytes-append : (s : State) (a b : ℕ) (bs : List ℕ) → store_bytes s a (bs ++ b ∷ []) ≡ put (store_bytes s a bs) (a + length bs) b
-store_bytes-append s a b [] = ap (λ (i : ℕ). put s i b) (omega arith)
-store_bytes-append s a b (c ∷ bs) = store_bytes-append (put s a c) (a + 1) b bs ∙ ap (λ (i : ℕ). put (store_bytes (put s a c) (a + 1) bs) i b) (omega arith)
+pub store_bytes-append : (s : State) (a : ℕ) (bs cs : List ℕ) → store_bytes s a (bs ++ cs) ≡ store_bytes (store_bytes s a bs) (a + length bs) cs
+store_bytes-append s a [] cs = ap (λ (i : ℕ). store_bytes s i cs) (omega arith)
+store_bytes-append s a (b ∷ bs) cs = store_bytes-append (put s a b) (a + 1) bs cs ∙ ap (λ (i : ℕ). store_bytes (store_bytes (put s a b) (a + 1) bs) i cs) (omega arith)
+
+pub set_bytes-append : (o : ℕ) (bs cs page : List ℕ) → set_bytes o (bs ++ cs) page ≡ set_bytes (o + length bs) cs (set_bytes o bs page)
+set_bytes-append o [] cs page = ap (λ (i : ℕ). set_bytes i cs page) (omega arith)
+set_bytes-append o (b ∷ bs) cs page = set_bytes-append (o + 1) bs cs (set page o b) ∙ ap (λ (i : ℕ). set_bytes i cs (set_bytes (o + 1) bs (set page o b))) (omega arith)
+
+pub set_bytes_take : (o k : ℕ) (bs page : List ℕ) → k < length bs → set (set_bytes o (take k bs) page) (o + k) (get_or bs k 0) ≡ set_bytes o (take (k + 1) bs) page
+set_bytes_take o k bs page l =
+    let cut : take (k + 1) bs ≡ take k bs ++ get_or bs k 0 ∷ [] = grind (arith, common_steps) in
+    let len : length (take k bs) ≡ k = grind (arith, common_steps) in
+    sym (ap (λ (xs : List ℕ). set_bytes o xs page) cut ∙ set_bytes-append o (take k bs) (get_or bs k 0 ∷ []) page ∙ ap (λ (n : ℕ). set (set_bytes o (take k bs) page) (o + n) (get_or bs k 0)) len)
 
 -- bytes that are put leave the touched pages touched
 pub is_touched_store_bytes : (s : State) (a m : ℕ) (bs : List ℕ) → is_touched s m ≡ true → is_touched (store_bytes s a bs) m ≡ true
 is_touched_store_bytes s a m [] h = h
 is_touched_store_bytes s a m (b ∷ bs) h = is_touched_store_bytes (put s a b) (a + 1) m bs (is_touched_put s a b m ∙ is_touched_touch s (a / 4096) m h)
+
+-- bytes that go to a page that was written to
+pub store_bytes_near : (t : State) (p a : ℕ) (f : List ℕ → List ℕ) (bs : List ℕ) → place t.pages p < length t.pages → a / 4096 ≡ p → a % 4096 + length bs ≤ 4096 →
+    store_bytes (write t p f) a bs ≡ write t p (λ page. set_bytes (a % 4096) bs (f page))
+store_bytes_near t p a f [] l e h = refl
+store_bytes_near t p a f (b ∷ []) l e h = put_near t p a b f l e
+store_bytes_near t p a f (b ∷ c ∷ bs) l e h =
+    let next : (a + 1) % 4096 ≡ a % 4096 + 1 = omega arith in
+    let g : List ℕ → List ℕ = λ page. set (f page) (a % 4096) b in
+    ap (λ (u : State). store_bytes u (a + 1) (c ∷ bs)) (put_near t p a b f l e)
+    ∙ store_bytes_near t p (a + 1) g (c ∷ bs) l (omega arith) (omega arith)
+    ∙ ap (λ (o : ℕ). write t p (λ page. set_bytes o (c ∷ bs) (g page))) next
+
+-- bytes that lie in one page are written to it
+pub store_bytes_in_page : (s : State) (a b : ℕ) (bs : List ℕ) → a % 4096 + length bs < 4096 →
+    store_bytes s a (b ∷ bs) ≡ write (touch s (a / 4096)) (a / 4096) (set_bytes (a % 4096) (b ∷ bs))
+store_bytes_in_page s a b [] h = refl
+store_bytes_in_page s a b (c ∷ bs) h =
+    let p = a / 4096 in
+    let t = touch s p in
+    let next : (a + 1) % 4096 ≡ a % 4096 + 1 = omega arith in
+    let g : List ℕ → List ℕ = λ page. set page (a % 4096) b in
+    store_bytes_near t p (a + 1) g (c ∷ bs) (touched_touch s p) (omega arith) (omega arith)
+    ∙ ap (λ (o : ℕ). write t p (λ page. set_bytes o (c ∷ bs) (g page))) next
+
+in_touched : (s : State) (a : ℕ) (bs : List ℕ) → is_touched s (a / 4096) ≡ true → 0 < length bs → a % 4096 + length bs ≤ 4096 → store_bytes s a bs ≡ write s (a / 4096) (set_bytes (a % 4096) bs)
+in_touched s a [] t some h = absurd (omega arith)
+in_touched s a (b ∷ bs) t some h = store_bytes_in_page s a b bs (omega arith) ∙ ap (λ (u : State). write u (a / 4096) (set_bytes (a % 4096) (b ∷ bs))) (touch_again s (a / 4096) t)
+
+pub store_bytes_in_touched : (s : State) (a : ℕ) (bs : List ℕ) → is_touched s (a / 4096) ≡ true → 0 < length bs → a % 4096 + length bs ≤ 4096 → write s (a / 4096) (set_bytes (a % 4096) bs) ≡ store_bytes s a bs
+store_bytes_in_touched s a bs t some h = sym (in_touched s a bs t some h)
+
+pub store16_in_page : (s : State) (a v : ℕ) → a % 2 ≡ 0 → write (touch s (a / 4096)) (a / 4096) (set_bytes (a % 4096) (half_bytes v)) ≡ store16 s a v
+store16_in_page s a v h = sym (store_bytes_in_page s a (v % 0x100) (v / 0x100 % 0x100 ∷ []) (omega arith))
+
+pub store32_in_page : (s : State) (a v : ℕ) → a % 4 ≡ 0 → write (touch s (a / 4096)) (a / 4096) (set_bytes (a % 4096) (word_bytes v)) ≡ store32 s a v
+store32_in_page s a v h = sym (store_bytes_in_page s a (v % 0x100) (v / 0x100 % 0x100 ∷ v / 0x10000 % 0x100 ∷ v / 0x1000000 % 0x100 ∷ []) (omega arith))
+
+pub length_set_bytes : (o : ℕ) (bs page : List ℕ) → length (set_bytes o bs page) ≡ length page
+length_set_bytes o [] page = refl
+length_set_bytes o (b ∷ bs) page = length_set_bytes (o + 1) bs (set page o b) ∙ grind (arith, common_steps)
 
 -- ---- bytes that are read one after the other
 
@@ -87,8 +113,10 @@ bytes_at-more s a (suc k) =
 pub bytes_at-pushed : (xs ys : List ℕ) (s : State) (a k b : ℕ) → ys ≡ xs ++ bytes_at s a k → b ≡ byte_at s (a + k) → ys ++ b ∷ [] ≡ xs ++ bytes_at s a (k + 1)
 bytes_at-pushed xs ys s a k b e f = rw (e, f, bytes_at-more s a k) (append_assoc xs (bytes_at s a k) (byte_at s (a + k) ∷ []))
 
-pub store_bytes-take : (s : State) (a k : ℕ) (bs : List ℕ) → k < length bs → put (store_bytes s a (take k bs)) (a + k) (get_or bs k 0) ≡ store_bytes s a (take (k + 1) bs)
-store_bytes-take s a k bs l =
-    let cut : take (k + 1) bs ≡ take k bs ++ get_or bs k 0 ∷ [] = grind (arith, common_steps) in
-    let len : length (take k bs) ≡ k = grind (arith, common_steps) in
-    sym (ap (λ (xs : List ℕ). store_bytes s a xs) cut ∙ store_bytes-append s a (get_or bs k 0) (take k bs) ∙ ap (λ (n : ℕ). put (store_bytes s a (take k bs)) (a + n) (get_or bs k 0)) len)
+-- a further piece of the bytes
+pub store_bytes-piece : (s : State) (a i j : ℕ) (bs : List ℕ) → i ≤ j → j ≤ length bs → store_bytes (store_bytes s a (take i bs)) (a + i) (take (j - i) (drop i bs)) ≡ store_bytes s a (take j bs)
+store_bytes-piece s a i j bs h l =
+    let sum : j ≡ i + (j - i) = omega arith in
+    let cut : take j bs ≡ take i bs ++ take (j - i) (drop i bs) = ap (λ (n : ℕ). take n bs) sum ∙ take-add i (j - i) bs in
+    let len : length (take i bs) ≡ i = grind (arith, common_steps) in
+    sym (ap (λ (xs : List ℕ). store_bytes s a xs) cut ∙ store_bytes-append s a (take i bs) (take (j - i) (drop i bs)) ∙ ap (λ (n : ℕ). store_bytes (store_bytes s a (take i bs)) (a + n) (take (j - i) (drop i bs))) len)

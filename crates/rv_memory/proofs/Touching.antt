@@ -1,6 +1,6 @@
 use Rattle.std.proofs.Common.{◌≡◌, ◌≢◌, ℕ, zero, suc, ◌+◌, ◌<◌, ◌≤◌, ◌⊎◌, Bool, true, false, nat_eq, nat_lt, nat_le, List, [], ◌∷◌, ◌++◌, length, get_or, take, refl, arith, inl, inr, ap, ◌∙◌, sym, if◌then◌else◌}
 use Rattle.std.proofs.lemmas.Grind.{common_steps, elements}
-use Rattle.std.proofs.lemmas.Bool.{cases_eq}
+use Rattle.std.proofs.lemmas.Bool.{cases_eq, cases_Bool}
 use Rattle.std.proofs.lemmas.List.Folds.{position_or_len_push}
 use Rattle.rv_memory.specs.Paged.{State, no_page, place, zeros, touch, is_touched, is_over}
 use Rattle.rv_memory.specs.declared.page.Page.{Page}
@@ -66,10 +66,7 @@ touch_new s p h = rw h refl
 
 -- a new page is one more
 pub length-touch : (s : State) (p : ℕ) → length (touch s p).pages ≡ length s.pages + (if is_touched s p then 0 else 1)
-length-touch s p = elim (cases_bool (is_touched s p)) [
+length-touch s p = elim (cases_Bool (is_touched s p)) [
   | inl t ↦ rw (t) (omega arith)
   | inr t ↦ rw (t) (grind (arith, common_steps))
-] where
-  cases_bool : (b : Bool) → (b ≡ true) ⊎ (b ≡ false)
-  cases_bool true = inl refl
-  cases_bool false = inr refl
+]

@@ -1,4 +1,4 @@
-use Rattle.std.specs.Prelude.{◌≡◌, ◌≢◌, ℕ, zero, suc, ◌+◌, ◌-◌, ◌*◌, ◌/◌, ◌%◌, ◌≤◌, ◌<◌, Bool, true, false, nat_eq, nat_lt, nat_le, if◌then◌else◌, List, [], ◌∷◌, ◌++◌, length, get_or, set, replicate}
+use Rattle.std.specs.Prelude.{◌≡◌, ◌≢◌, ℕ, zero, suc, ◌+◌, ◌-◌, ◌*◌, ◌/◌, ◌%◌, ◌≤◌, ◌<◌, ◌⊎◌, Bool, true, false, nat_eq, nat_lt, nat_le, if◌then◌else◌, List, [], ◌∷◌, ◌++◌, length, get_or, set, replicate}
 use Rattle.std.specs.List.{position_or_len}
 use Rattle.rv_memory.specs.declared.page.Page.{Page}
 use Rattle.rv_memory.specs.declared.memory.MemFault.{MemFault}
@@ -51,7 +51,7 @@ abbrev pub bytes_at : State → ℕ → ℕ → List ℕ
 bytes_at s a zero = []
 bytes_at s a (suc n) = byte_at s a ∷ bytes_at s (a + 1) n
 
--- ---- touching pages
+-- ---- touching
 
 -- a page is touched: a new one has zeros
 abbrev pub touch : State → ℕ → State
@@ -95,20 +95,43 @@ write s p f =
 abbrev pub put : State → ℕ → ℕ → State
 put s a b = write (touch s (a / 4096)) (a / 4096) (λ bs. set bs (a % 4096) b)
 
--- bytes are put from an address on
+-- bytes are put one after the other, from an address on
 abbrev pub store_bytes : State → ℕ → List ℕ → State
 store_bytes s a [] = s
 store_bytes s a (b ∷ bs) = store_bytes (put s a b) (a + 1) bs
 
--- the low one, two or four bytes of a number are stored, the lowest first
+-- the low two bytes, and the four bytes, of a number, the lowest first
+abbrev pub half_bytes : ℕ → List ℕ
+half_bytes v = v % 0x100 ∷ v / 0x100 % 0x100 ∷ []
+
+abbrev pub word_bytes : ℕ → List ℕ
+word_bytes v = v % 0x100 ∷ v / 0x100 % 0x100 ∷ v / 0x10000 % 0x100 ∷ v / 0x1000000 % 0x100 ∷ []
+
 abbrev pub store8 : State → ℕ → ℕ → State
 store8 s a v = put s a (v % 0x100)
 
 abbrev pub store16 : State → ℕ → ℕ → State
-store16 s a v = put (put s a (v % 0x100)) (a + 1) (v / 0x100 % 0x100)
+store16 s a v = store_bytes s a (half_bytes v)
 
 abbrev pub store32 : State → ℕ → ℕ → State
-store32 s a v = put (put (put (put s a (v % 0x100)) (a + 1) (v / 0x100 % 0x100)) (a + 2) (v / 0x10000 % 0x100)) (a + 3) (v / 0x1000000 % 0x100)
+store32 s a v = store_bytes s a (word_bytes v)
+
+-- ---- what a change leaves as it was
+
+-- each touched page has all its bytes
+pub record IsWhole (pages : List Page) : Type 0 where
+  pub whole : (k : ℕ) → k < length pages → length (get_or pages k no_page).bytes ≡ 4096
+
+-- new has these bytes from an address on, and every other byte of old
+pub record ChangesBytes (old new : State) (a : ℕ) (bs : List ℕ) : Type 0 where
+  pub there : (k : ℕ) → k < length bs → byte_at new (a + k) ≡ get_or bs k 0
+  pub elsewhere : (x : ℕ) → (x < a) ⊎ (a + length bs ≤ x) → byte_at new x ≡ byte_at old x
+
+-- new has the touched pages of old and this one, and its limit
+pub record TouchesPage (old new : State) (p : ℕ) : Type 0 where
+  pub this : is_touched new p ≡ true
+  pub others : (m : ℕ) → m ≢ p → is_touched new m ≡ is_touched old m
+  pub limit : new.limit ≡ old.limit
 
 -- ---- when an access of so many bytes (1, 2 or 4) at an address is allowed, and why it is refused
 

@@ -2,6 +2,7 @@
 //! limit of pages.
 #![tactic(auto)]
 
+mod index;
 mod memory;
 mod page;
 

@@ -1,11 +1,10 @@
-ghost use Rattle.std.specs.Prelude.{ℕ, ◌≡◌, ◌+◌, ◌*◌, ◌/◌, ◌^◌, ◌++◌, ◌∷◌, ◌<◌, ◌≤◌, ◌↔◌, IfOk, IfSome, IfNone, IfErr, OnOk, OnErr, IsTrue, vec_len, length, get_or, nat_eq, take, true, false, [], Some};
-ghost use Rattle.std.specs.HashMap.{get};
+ghost use Rattle.std.specs.Prelude.{ℕ, ◌≡◌, ◌+◌, ◌*◌, ◌/◌, ◌%◌, ◌^◌, ◌++◌, ◌∷◌, ◌<◌, ◌≤◌, ◌↔◌, IfOk, IfSome, IfNone, IfErr, OnOk, OnErr, IsTrue, vec_len, length, get_or, take, true, false, []};
 ghost use Rattle.rv_memory.specs.Paged as paged;
 ghost use Rattle.rv_memory.specs.Indexed.{IsIndexed};
 
-use crate::page::{Page, blank, read8, read16, read32, write8, write16, write32};
+use crate::index::PageIndex;
+use crate::page::{Page, blank, read8, read16, read32, write_all, write8, write16, write32};
 use std::alloc::{AllocError, Global};
-use std::collections::HashMap;
 use std::marker::Model;
 
 /// Why a load or a store was refused.
@@ -29,20 +28,20 @@ pub struct Memory {
     limit: u32,
     // For the low bits of a page's number, the place of the last such page that was used: a guess.
     recent: Vec<u32>,
-    index: HashMap<u32, u32>,
+    index: PageIndex,
     pages: Vec<Page>,
 }
 
 impl Model for Memory {
     ghost use Rattle.std.specs.Prelude.{◌≤◌, ◌<◌, ◌^◌, vec_len};
-    ghost use Rattle.rv_memory.specs.Paged.{State};
+    ghost use Rattle.rv_memory.specs.Paged.{State, IsWhole};
     ghost use Rattle.rv_memory.specs.Indexed.{IsIndexed};
 
     ghost Value = { State };
 
     ghost view = { λ m. record { limit = m.limit; pages = m.pages.items } };
 
-    ghost invariant = { λ m. (IsIndexed m.index m.pages.items) × (vec_len m.pages ≤ m.limit) × (m.limit < 2 ^ 32) };
+    ghost invariant = { λ m. (IsIndexed m.index m.pages.items) × (IsWhole m.pages.items) × (vec_len m.pages ≤ m.limit) × (m.limit < 2 ^ 32) };
 }
 
 impl Memory {
@@ -54,7 +53,7 @@ impl Memory {
             alloc,
             limit,
             recent: Vec::new(alloc),
-            index: HashMap::new(alloc),
+            index: PageIndex::new(alloc),
             pages: Vec::new(alloc),
         }
     }
@@ -119,53 +118,44 @@ impl Memory {
 
     /// Stores the low 8 bits of the value at the address, whose page is touched.
     #[inline(always)]
-    #[tactic(auto, using(crate::proofs::Places::indexed_set))]
+    #[tactic(auto, using(crate::proofs::Laws::changes_store8, crate::proofs::Laws::touches_store8))]
     pub fn store8(&mut self, at: u32, value: u32) -> Result<(), MemFault>
         ensures stored { OnOk result (self.new ≡ paged.store8 self.old at value) }
+        ensures changes { OnOk result (paged.ChangesBytes self.old self.new at (value % 0x100 ∷ [])) }
+        ensures touches { OnOk result (paged.TouchesPage self.old self.new (at / 4096)) }
         ensures allowed { OnOk result (paged.Allows 1 self.old at) }
         ensures refused { IfErr result (paged.Refuses 1 self.old at) }
         ensures unchanged { OnErr result (self.new ≡ self.old) }
     {
-        let k = self.place(at)?;
-        let page = &mut self.pages[k];
-        write8(&mut page.bytes, at, value);
-        Ok(())
+        self.set8(at, value)
     }
 
     /// Stores the low 16 bits of the value at the address, the lowest byte first; its page is touched.
     #[inline(always)]
-    #[tactic(auto, using(crate::proofs::Places::indexed_set, crate::proofs::Storing::store16_near))]
+    #[tactic(auto, using(crate::proofs::Laws::changes_store16, crate::proofs::Laws::touches_store16))]
     pub fn store16(&mut self, at: u32, value: u32) -> Result<(), MemFault>
         ensures stored { OnOk result (self.new ≡ paged.store16 self.old at value) }
+        ensures changes { OnOk result (paged.ChangesBytes self.old self.new at (paged.half_bytes value)) }
+        ensures touches { OnOk result (paged.TouchesPage self.old self.new (at / 4096)) }
         ensures allowed { OnOk result (paged.Allows 2 self.old at) }
         ensures refused { IfErr result (paged.Refuses 2 self.old at) }
         ensures unchanged { OnErr result (self.new ≡ self.old) }
     {
-        if at % 2 != 0 {
-            return Err(MemFault::Misaligned);
-        }
-        let k = self.place(at)?;
-        let page = &mut self.pages[k];
-        write16(&mut page.bytes, at, value);
-        Ok(())
+        self.set16(at, value)
     }
 
     /// Stores the value at the address, the lowest byte first; its page is touched.
     #[inline(always)]
-    #[tactic(auto, using(crate::proofs::Places::indexed_set, crate::proofs::Storing::store32_near))]
+    #[tactic(auto, using(crate::proofs::Laws::changes_store32, crate::proofs::Laws::touches_store32))]
     pub fn store32(&mut self, at: u32, value: u32) -> Result<(), MemFault>
         ensures stored { OnOk result (self.new ≡ paged.store32 self.old at value) }
+        ensures changes { OnOk result (paged.ChangesBytes self.old self.new at (paged.word_bytes value)) }
+        ensures touches { OnOk result (paged.TouchesPage self.old self.new (at / 4096)) }
         ensures allowed { OnOk result (paged.Allows 4 self.old at) }
         ensures refused { IfErr result (paged.Refuses 4 self.old at) }
         ensures unchanged { OnErr result (self.new ≡ self.old) }
     {
-        if at % 4 != 0 {
-            return Err(MemFault::Misaligned);
-        }
-        let k = self.place(at)?;
-        let page = &mut self.pages[k];
-        write32(&mut page.bytes, at, value);
-        Ok(())
+        self.set32(at, value)
     }
 
     /// Whether the pages of `count` bytes from the address on may be touched: the touched ones and the new ones
@@ -209,8 +199,12 @@ impl Memory {
         requires touched { paged.AllTouched self.old at (length bytes.now) }
         ensures { self.new ≡ paged.store_bytes self.old at bytes.now }
     {
-        for (k, byte) in bytes.iter().enumerate() {
-            self.put(at + k as u32, *byte);
+        let mut done = 0;
+        while done < bytes.len() {
+            let here = at + done as u32;
+            let end = bytes.len().min(done + (4096 - here as usize % 4096));
+            self.put_in_page(here, &bytes[done..end]);
+            done = end;
         }
     }
 
@@ -227,12 +221,64 @@ impl Memory {
         Ok(())
     }
 
+    #[inline(always)]
+    #[tactic(auto, using(crate::proofs::Places::indexed_set, crate::proofs::Places::whole_set))]
+    fn set8(&mut self, at: u32, value: u32) -> Result<(), MemFault>
+        ensures stored { OnOk result (self.new ≡ paged.store8 self.old at value) }
+        ensures whole { OnOk result (paged.IsWhole self.old.pages) }
+        ensures allowed { OnOk result (paged.Allows 1 self.old at) }
+        ensures refused { IfErr result (paged.Refuses 1 self.old at) }
+        ensures unchanged { OnErr result (self.new ≡ self.old) }
+    {
+        let k = self.place(at)?;
+        let page = &mut self.pages[k];
+        write8(&mut page.bytes, at, value);
+        Ok(())
+    }
+
+    #[inline(always)]
+    #[tactic(auto, using(crate::proofs::Places::indexed_set, crate::proofs::Places::whole_set, crate::proofs::Storing::store16_in_page, crate::proofs::Storing::length_set_bytes))]
+    fn set16(&mut self, at: u32, value: u32) -> Result<(), MemFault>
+        ensures stored { OnOk result (self.new ≡ paged.store16 self.old at value) }
+        ensures whole { OnOk result (paged.IsWhole self.old.pages) }
+        ensures allowed { OnOk result (paged.Allows 2 self.old at) }
+        ensures refused { IfErr result (paged.Refuses 2 self.old at) }
+        ensures unchanged { OnErr result (self.new ≡ self.old) }
+    {
+        if at % 2 != 0 {
+            return Err(MemFault::Misaligned);
+        }
+        let k = self.place(at)?;
+        let page = &mut self.pages[k];
+        write16(&mut page.bytes, at, value);
+        Ok(())
+    }
+
+    #[inline(always)]
+    #[tactic(auto, using(crate::proofs::Places::indexed_set, crate::proofs::Places::whole_set, crate::proofs::Storing::store32_in_page, crate::proofs::Storing::length_set_bytes))]
+    fn set32(&mut self, at: u32, value: u32) -> Result<(), MemFault>
+        ensures stored { OnOk result (self.new ≡ paged.store32 self.old at value) }
+        ensures whole { OnOk result (paged.IsWhole self.old.pages) }
+        ensures allowed { OnOk result (paged.Allows 4 self.old at) }
+        ensures refused { IfErr result (paged.Refuses 4 self.old at) }
+        ensures unchanged { OnErr result (self.new ≡ self.old) }
+    {
+        if at % 4 != 0 {
+            return Err(MemFault::Misaligned);
+        }
+        let k = self.place(at)?;
+        let page = &mut self.pages[k];
+        write32(&mut page.bytes, at, value);
+        Ok(())
+    }
+
     // The place of the page of an address, which is touched.
     #[inline(always)]
     fn place(&mut self, at: u32) -> Result<usize, MemFault>
         ensures ok { IfOk result (λ k. (k < length self.new.pages) × (k ≡ paged.place self.new.pages (at / 4096))) }
         ensures touched { OnOk result (self.new ≡ paged.touch self.old (at / 4096)) }
         ensures allowed { OnOk result (paged.is_over self.old (at / 4096) ≡ false) }
+        ensures whole { OnOk result (paged.IsWhole self.old.pages) }
         ensures refused { IfErr result (paged.Refuses 1 self.old at) }
         ensures unchanged { OnErr result (self.new ≡ self.old) }
     {
@@ -264,22 +310,24 @@ impl Memory {
     }
 
     // Takes back the pages after the first so many.
-    #[tactic(auto, using(crate::proofs::Places::indexed_take))]
+    #[tactic(auto, using(crate::proofs::Places::indexed_take, crate::proofs::Places::whole_take))]
     fn forget_after(&mut self, kept: usize)
         ensures { self.new ≡ record { limit = self.old.limit; pages = take kept self.old.pages } }
     {
         self.pages.truncate(kept);
     }
 
-    // Puts a byte at an address whose page was touched.
-    #[tactic(auto, using(crate::proofs::Places::indexed_set))]
-    fn put(&mut self, at: u32, byte: u8)
-        requires { paged.is_touched self.old (at / 4096) ≡ true }
-        ensures { self.new ≡ paged.put self.old at byte }
+    // Puts bytes that lie in one page, which was touched.
+    #[tactic(auto, using(crate::proofs::Places::indexed_set, crate::proofs::Places::whole_set, crate::proofs::Storing::store_bytes_in_touched, crate::proofs::Storing::length_set_bytes))]
+    fn put_in_page(&mut self, at: u32, bytes: &[u8])
+        requires some { 0 < length bytes.now }
+        requires one { at % 4096 + length bytes.now ≤ 4096 }
+        requires touched { paged.is_touched self.old (at / 4096) ≡ true }
+        ensures { self.new ≡ paged.store_bytes self.old at bytes.now }
     {
         if let Some(k) = find(&self.index, &self.pages, at / 4096) {
             let page = &mut self.pages[k];
-            page.bytes[(at % 4096) as usize] = byte;
+            write_all(&mut page.bytes, (at % 4096) as usize, bytes);
         }
     }
 
@@ -287,7 +335,7 @@ impl Memory {
     fn byte(&self, at: u32) -> u8
         ensures { result ≡ paged.byte_at self.now at }
     {
-        match find(&self.index, &self.pages, at / 4096) {
+        match look(&self.recent, &self.index, &self.pages, at / 4096) {
             Some(k) => self.pages[k].bytes[(at % 4096) as usize],
             None => 0,
         }
@@ -300,6 +348,7 @@ impl Memory {
         ensures ok { IfOk result (λ k. (k < length self.new.pages) × (k ≡ paged.place self.new.pages number)) }
         ensures touched { OnOk result (self.new ≡ paged.touch self.old number) }
         ensures allowed { OnOk result (paged.is_over self.old number ≡ false) }
+        ensures whole { OnOk result (paged.IsWhole self.old.pages) }
         ensures refused { IfErr result (paged.Refuses 1 self.old (4096 * number)) }
         ensures unchanged { OnErr result (self.new ≡ self.old) }
     {
@@ -319,6 +368,7 @@ impl Memory {
 
     // Adds a page of zeros.
     fn add(&mut self, number: u32) -> Result<(), AllocError>
+        requires number { number < 1048576 }
         requires fresh { paged.place self.old.pages number ≡ length self.old.pages }
         requires room { length self.old.pages < self.old.limit }
         ensures pages { OnOk result (self.new ≡ record { limit = self.old.limit; pages = self.old.pages ++ record { number = number; bytes = paged.zeros } ∷ [] }) }
@@ -384,7 +434,7 @@ fn is_at(pages: &Vec<Page>, k: usize, number: u32) -> bool
 #[tactic(auto, using(crate::proofs::Places::place_numbered))]
 fn find_recent(
     recent: &Vec<u32>,
-    index: &HashMap<u32, u32>,
+    index: &PageIndex,
     pages: &Vec<Page>,
     number: u32,
 ) -> Option<usize>
@@ -399,14 +449,27 @@ fn find_recent(
     }
 }
 
-// The place of a page, if it was touched.
-#[tactic(auto, using(crate::proofs::Places::place_numbered, crate::proofs::Places::place_unlisted))]
-fn find(index: &HashMap<u32, u32>, pages: &Vec<Page>, number: u32) -> Option<usize>
+// The place of a page, if it was touched; a recent one is found at once.
+#[inline(always)]
+fn look(recent: &Vec<u32>, index: &PageIndex, pages: &Vec<Page>, number: u32) -> Option<usize>
     requires { IsIndexed index.now pages.now.items }
     ensures none { IfNone result (paged.place pages.now.items number ≡ length pages.now.items) }
     ensures some { IfSome result (λ k. (k < length pages.now.items) × (k ≡ paged.place pages.now.items number)) }
 {
-    let k = index_entry(index, number);
+    match find_recent(recent, index, pages, number) {
+        Some(k) => Some(k),
+        None => find(index, pages, number),
+    }
+}
+
+// The place of a page, if it was touched.
+#[tactic(auto, using(crate::proofs::Places::place_numbered, crate::proofs::Places::place_unlisted))]
+fn find(index: &PageIndex, pages: &Vec<Page>, number: u32) -> Option<usize>
+    requires { IsIndexed index.now pages.now.items }
+    ensures none { IfNone result (paged.place pages.now.items number ≡ length pages.now.items) }
+    ensures some { IfSome result (λ k. (k < length pages.now.items) × (k ≡ paged.place pages.now.items number)) }
+{
+    let k = index.find(number);
     if is_at(pages, k, number) {
         Some(k)
     } else {
@@ -414,26 +477,16 @@ fn find(index: &HashMap<u32, u32>, pages: &Vec<Page>, number: u32) -> Option<usi
     }
 }
 
-fn index_entry(index: &HashMap<u32, u32>, number: u32) -> usize
-    ensures { (k : ℕ) → get nat_eq index.now number ≡ Some k → result ≡ k }
-{
-    match index.get(&number) {
-        Some(k) => *k as usize,
-        None => 0,
-    }
-}
-
-#[tactic(auto, using(crate::proofs::Places::indexed_push))]
-fn add_page(
-    index: &mut HashMap<u32, u32>,
-    pages: &mut Vec<Page>,
-    number: u32,
-) -> Result<(), AllocError>
+#[tactic(auto, using(crate::proofs::Places::indexed_push, crate::proofs::Places::indexed_kept, crate::proofs::Places::whole_push))]
+fn add_page(index: &mut PageIndex, pages: &mut Vec<Page>, number: u32) -> Result<(), AllocError>
+    requires number { number < 1048576 }
     requires indexed { IsIndexed index.old pages.old.items }
+    requires whole { paged.IsWhole pages.old.items }
     requires fresh { paged.place pages.old.items number ≡ length pages.old.items }
     requires room { vec_len pages.old < 2 ^ 32 }
     ensures pages { OnOk result (pages.new.items ≡ pages.old.items ++ record { number = number; bytes = paged.zeros } ∷ []) }
     ensures indexed { IsIndexed index.new pages.new.items }
+    ensures whole { paged.IsWhole pages.new.items }
     ensures unchanged { OnErr result (pages.new.items ≡ pages.old.items) }
 {
     let n = pages.len();

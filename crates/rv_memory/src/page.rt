@@ -1,5 +1,6 @@
-ghost use Rattle.std.specs.Prelude.{◌≡◌, ◌+◌, ◌*◌, ◌/◌, ◌%◌, ◌<◌, slice_index, slice_set};
+ghost use Rattle.std.specs.Prelude.{◌≡◌, ◌+◌, ◌*◌, ◌/◌, ◌%◌, ◌<◌, ◌≤◌, length, slice_index, slice_set};
 ghost use Rattle.rv_memory.specs.Paged as paged;
+ghost use Rattle.rv_memory.specs.PageBytes.{set_bytes};
 
 /// A page: its number, which is the address of its first byte divided by 4,096, and its bytes.
 #[derive(Drop)]
@@ -57,7 +58,7 @@ pub fn write8(bytes: &mut [u8; 4096], at: u32, value: u32)
 #[inline(always)]
 pub fn write16(bytes: &mut [u8; 4096], at: u32, value: u32)
     requires { at % 2 ≡ 0 }
-    ensures { let o = at % 4096 in bytes.new ≡ slice_set (slice_set bytes.old o (value % 0x100)) (o + 1) (value / 0x100 % 0x100) }
+    ensures { bytes.new ≡ set_bytes (at % 4096) (paged.half_bytes value) bytes.old }
 {
     let offset = (at % 4096) as usize;
     bytes[offset] = (value % 0x100) as u8;
@@ -67,11 +68,21 @@ pub fn write16(bytes: &mut [u8; 4096], at: u32, value: u32)
 #[inline(always)]
 pub fn write32(bytes: &mut [u8; 4096], at: u32, value: u32)
     requires { at % 4 ≡ 0 }
-    ensures { let o = at % 4096 in bytes.new ≡ slice_set (slice_set (slice_set (slice_set bytes.old o (value % 0x100)) (o + 1) (value / 0x100 % 0x100)) (o + 2) (value / 0x10000 % 0x100)) (o + 3) (value / 0x1000000 % 0x100) }
+    ensures { bytes.new ≡ set_bytes (at % 4096) (paged.word_bytes value) bytes.old }
 {
     let offset = (at % 4096) as usize;
     bytes[offset] = (value % 0x100) as u8;
     bytes[offset + 1] = (value / 0x100 % 0x100) as u8;
     bytes[offset + 2] = (value / 0x10000 % 0x100) as u8;
     bytes[offset + 3] = (value / 0x1000000 % 0x100) as u8;
+}
+
+/// Writes the bytes from an offset on.
+pub fn write_all(bytes: &mut [u8; 4096], offset: usize, from: &[u8])
+    requires { offset + length from.now ≤ 4096 }
+    ensures { bytes.new ≡ set_bytes offset from.now bytes.old }
+{
+    for (k, byte) in from.iter().enumerate() {
+        bytes[offset + k] = *byte;
+    }
 }
