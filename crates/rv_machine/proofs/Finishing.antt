@@ -15,7 +15,7 @@ use Rattle.rv_machine.specs.Stepping.{State, Outcome, Next, End, Finish, transfe
 
 -- ---- a step that goes on costs at least 1 and keeps the limits
 
-abbrev Charges : State → Outcome → Type 0
+abbrev pub Charges : State → Outcome → Type 0
 Charges s (Next t) = (s.cost < t.cost) × (t.limits ≡ s.limits)
 Charges s (End e t) = Unit {0}
 
@@ -48,18 +48,18 @@ charges_applied s (Moves h) = (omega arith, refl)
 charges_applied s (Ends e h) = tt
 charges_applied s (Calls h) = charges_call (record s { hart = h })
 
-charges_step : (s : State) → Charges s (machine_step s)
+pub charges_step : (s : State) → Charges s (machine_step s)
 charges_step s = charges_choice s (nat_lt s.limits.instructions (s.cost + 1)) _ _ tt (charges_applied s (instruction s.hart))
 
 -- ---- the finish does not depend on how many steps are allowed for, if they are enough
 
-abbrev left : State → ℕ
+abbrev pub left : State → ℕ
 left s = s.limits.instructions - s.cost
 
 abbrev time_out : State → Finish
 time_out s = record { ending = Time; state = s }
 
-no_time : (s : State) → s.limits.instructions ≤ s.cost → machine_step s ≡ End Time s
+pub no_time : (s : State) → s.limits.instructions ≤ s.cost → machine_step s ≡ End Time s
 no_time s h = grind arith
 
 -- with no step left there is no time

@@ -1,9 +1,10 @@
-use Rattle.std.proofs.Common.{zero, suc, replicate, refl, ◌≡◌, ◌≢◌, ℕ, ◌+◌, ◌-◌, ◌*◌, ◌/◌, ◌%◌, ◌<◌, List, length, get_or, arith, ap, ◌∙◌, lit<}
+use Rattle.std.proofs.Common.{zero, suc, replicate, refl, ◌≡◌, ◌≢◌, ℕ, ◌+◌, ◌-◌, ◌*◌, ◌/◌, ◌%◌, ◌<◌, List, [], ◌∷◌, ◌++◌, take, length, get_or, arith, ap, ◌∙◌, sym, lit<}
 use Rattle.std.proofs.lemmas.Nat.{and_le_r}
-use Rattle.rv_word.specs.Table.{instr}
+use Rattle.std.proofs.lemmas.Grind.{common_steps}
+use Rattle.rv_word.specs.Table.{instruction_of}
 use Rattle.rv_memory.specs.Paged as memory
 use Rattle.rv_memory.proofs.Laws.{byte_at_put, word_at_store8, word_at_store16, word_at_store32, is_touched_store8, is_touched_store16, is_touched_store32}
-use Rattle.rv_memory.proofs.Storing.{is_touched_put}
+use Rattle.rv_memory.proofs.Storing.{is_touched_put, store_bytes-append}
 use Rattle.rv_memory.proofs.Touching.{is_touched_touch}
 use Rattle.rv_memory.proofs.Bytes.{word_at_touch}
 use Rattle.rv_machine.specs.Caching.{IsCached, IsFresh, IsSmall, DiffersAt, slot, unused}
@@ -21,7 +22,7 @@ kept_others m n es word k w d e other =
       fresh = λ j l g.
           let f : IsFresh m (length es) j (get_or es j unused) = w.fresh j l g in
           let at : (get_or es j unused).at ≢ word = λ same. other (let r : slot word (length es) ≡ j = rw same at f.place in let q : j ≡ k = cc in rw (← q) same) in
-          record { place = f.place; touched = d.pages ((get_or es j unused).at / 4096) f.touched; same = ap instr (d.words (get_or es j unused).at g at) ∙ f.same };
+          record { place = f.place; touched = d.pages ((get_or es j unused).at / 4096) f.touched; same = ap instruction_of (d.words (get_or es j unused).at g at) ∙ f.same };
     }
 
 pub cached_touch : (m : memory.State) (es : List Entry) (p : ℕ) → IsCached m es → IsCached (memory.touch m p) es
@@ -31,7 +32,7 @@ cached_touch m es p w =
       small = w.small;
       fresh = λ j l g.
           let f : IsFresh m (length es) j (get_or es j unused) = w.fresh j l g in
-          record { place = f.place; touched = is_touched_touch m p ((get_or es j unused).at / 4096) f.touched; same = ap instr (word_at_touch m p (get_or es j unused).at) ∙ f.same };
+          record { place = f.place; touched = is_touched_touch m p ((get_or es j unused).at / 4096) f.touched; same = ap instruction_of (word_at_touch m p (get_or es j unused).at) ∙ f.same };
     }
 
 pub differ_store32 : (m : memory.State) (a v : ℕ) → a % 4 ≡ 0 → DiffersAt m (memory.store32 m a v) (a / 4 * 4)
@@ -80,3 +81,10 @@ cached_touch_pages m es p (suc k) w = cached_touch (memory.touch_pages m p k) es
 
 pub cached_touch_range : (m : memory.State) (es : List Entry) (at n : ℕ) → IsCached m es → IsCached (memory.touch_range m at n) es
 cached_touch_range m es at n w = cached_touch_pages m es (at / 4096) (memory.span at n) w
+
+-- one byte more is stored
+pub stored_more : (s : memory.State) (a k : ℕ) (bs : List ℕ) → k < length bs → memory.put (memory.store_bytes s a (take k bs)) (a + k) (get_or bs k 0) ≡ memory.store_bytes s a (take (k + 1) bs)
+stored_more s a k bs l =
+    let cut : take (k + 1) bs ≡ take k bs ++ get_or bs k 0 ∷ [] = grind (arith, common_steps) in
+    let len : length (take k bs) ≡ k = grind (arith, common_steps) in
+    sym (ap (λ (xs : List ℕ). memory.store_bytes s a xs) cut ∙ store_bytes-append s a (take k bs) (get_or bs k 0 ∷ []) ∙ ap (λ (n : ℕ). memory.put (memory.store_bytes s a (take k bs)) (a + n) (get_or bs k 0)) len)

@@ -4,3 +4,4 @@ pub mod Doing
 pub mod Small
 pub mod Finishing
 pub mod Outputs
+pub mod Repeating

@@ -2,7 +2,7 @@ use Rattle.std.proofs.Common.{◌≡◌, ℕ, Bool, true, false, List, [], ◌�
 use Rattle.rv_word.specs.declared.instr.Op.{Op}
 use Rattle.rv_word.specs.declared.instr.Op.TheVariants.{Lui, Auipc, Jal, Jalr, Beq, Bne, Blt, Bge, Bltu, Bgeu, Lb, Lh, Lw, Lbu, Lhu, Sb, Sh, Sw, Addi, Slti, Sltiu, Xori, Ori, Andi, Slli, Srli, Srai, Add, Sub, Sll, Slt, Sltu, Xor, Srl, Sra, Or, And, Mul, Mulh, Mulhsu, Mulhu, Div, Divu, Rem, Remu, Fence, Ecall, Ebreak}
 use Rattle.rv_word.specs.declared.instr.Instr.{Instr}
-use Rattle.rv_word.specs.Table.{Row, table, read, instr, form_r, form_i, form_h, form_s, form_b, form_u, form_j, bare}
+use Rattle.rv_word.specs.Table.{Row, table, read, instruction_of, form_r, form_i, form_h, form_s, form_b, form_u, form_j, bare}
 use Rattle.rv_machine.specs.Caching.{IsSmall}
 
 small_r : (o : Op) (w : ℕ) → IsSmall (form_r o w)
@@ -45,6 +45,6 @@ small_read [] w i h e = absurd (cc)
 small_read (r ∷ rs) w i h e = choose_small (r.is_in w) (r.form r.op w) i (read rs w) (h.0 w) (small_read rs w i h.1) e
 
 -- an instruction names registers among the 32
-pub small_instruction : (w : ℕ) (i : Instr) → instr w ≡ Some i → IsSmall i
-unfolding instr
+pub small_instruction : (w : ℕ) (i : Instr) → instruction_of w ≡ Some i → IsSmall i
+unfolding instruction_of
 small_instruction w i e = small_read table w i table_small e

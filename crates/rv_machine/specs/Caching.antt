@@ -1,7 +1,7 @@
 use Rattle.std.specs.Prelude.{◌≡◌, ◌≢◌, ℕ, ◌-◌, ◌/◌, ◌%◌, ◌<◌, true, false, List, length, slice_index_or, Some, pos, bit_and}
 use Rattle.rv_word.specs.declared.instr.Op.TheVariants.{Fence}
 use Rattle.rv_word.specs.declared.instr.Instr.{Instr}
-use Rattle.rv_word.specs.Table.{instr as instruction_of}
+use Rattle.rv_word.specs.Table.{instruction_of}
 use Rattle.rv_memory.specs.Paged as memory
 use Rattle.rv_machine.specs.declared.cache.Entry.{Entry}
 

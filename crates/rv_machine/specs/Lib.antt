@@ -6,3 +6,4 @@ pub mod Running
 pub mod Storage
 pub mod Executing
 pub mod Caching
+pub mod Laws

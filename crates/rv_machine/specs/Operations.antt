@@ -3,7 +3,7 @@ use Rattle.std.specs.Int.{cast_signed, w8, w16}
 use Rattle.rv_word.specs.declared.instr.Op.{Op}
 use Rattle.rv_word.specs.declared.instr.Op.TheVariants.{Lui, Auipc, Jal, Jalr, Beq, Bne, Blt, Bge, Bltu, Bgeu, Lb, Lh, Lw, Lbu, Lhu, Sb, Sh, Sw, Addi, Slti, Sltiu, Xori, Ori, Andi, Slli, Srli, Srai, Add, Sub, Sll, Slt, Sltu, Xor, Srl, Sra, Or, And, Mul, Mulh, Mulhsu, Mulhu, Div, Divu, Rem, Remu, Fence, Ecall, Ebreak}
 use Rattle.rv_word.specs.declared.instr.Instr.{Instr}
-use Rattle.rv_word.specs.Table.{instr as instruction_of}
+use Rattle.rv_word.specs.Table.{instruction_of}
 use Rattle.rv_word.specs.Effect.{effect, signed, bits}
 use Rattle.rv_memory.specs.Paged as memory
 use Rattle.rv_machine.specs.declared.ending.Ending.TheVariants.{Trap, Memory}

@@ -1,6 +1,6 @@
 ghost use Rattle.std.specs.Prelude.{ℕ, ◌≡◌, ◌+◌, ◌-◌, ◌*◌, ◌/◌, ◌%◌, ◌^◌, ◌<◌, ◌≤◌, IfOk, true, nat_eq, length, vec_len, slice_set, slice_index_or};
 ghost use Rattle.rv_machine.specs.Caching.{IsCached, IsSmall, DiffersAt, slot, entry_of, unused};
-ghost use Rattle.rv_word.specs.Table.{instr as instruction_of};
+ghost use Rattle.rv_word.specs.Table.{instruction_of};
 ghost use Rattle.rv_memory.specs.Paged as memory;
 
 use rv_word::{Instr, Op};

@@ -4,9 +4,13 @@
 mod cache;
 mod ending;
 mod files;
+mod laws;
 mod machine;
 mod processor;
+#[cfg(test)]
+mod tests;
 
 pub use ending::{Ending, Trap};
 pub use files::{Extra, Files};
+pub use laws::finish_is_the_first_ending;
 pub use machine::Machine;

@@ -6,7 +6,7 @@ ghost use Rattle.rv_machine.specs.Storage.{hart_of};
 ghost use Rattle.rv_machine.specs.Executing.{Does, Readies, stop_of};
 ghost use Rattle.rv_machine.specs.Caching.{IsCached, IsSmall, DiffersAt};
 ghost use Rattle.rv_word.specs.Effect as effect;
-ghost use Rattle.rv_word.specs.Table.{instr as instruction_of};
+ghost use Rattle.rv_word.specs.Table.{instruction_of};
 ghost use Rattle.rv_memory.specs.Paged as memory;
 
 use crate::cache::{Entry, empty_entries, entry_at, forget, forget_all, is_kept, keep};

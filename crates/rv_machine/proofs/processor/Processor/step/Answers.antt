@@ -1,5 +1,4 @@
 use Rattle.std.proofs.Common.{refl}
-use Rattle.rv_machine.specs.Storage.{Storage}
 use Rattle.rv_machine.proofs.Doing.{ready_does}
 use Rattle.rv_machine.proofs.processor.Processor.step.Goals as goal
 
