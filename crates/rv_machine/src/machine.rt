@@ -51,7 +51,8 @@ impl<'a> Machine<'a> {
         files: Files<'a>,
     ) -> Result<Machine<'a>, NoMemory>
         requires { is_raw_image image.now ≡ true }
-        ensures { IfOk result (λ m. m ≡ running.loaded image.now limits (inputs_of files.entry)) }
+        ensures value { IfOk result (λ m. m ≡ running.loaded image.now limits (inputs_of files.entry)) }
+        ensures run { IfOk result (λ m. running.finish_of m ≡ stepping.run_of image.now limits (inputs_of files.entry)) }
     {
         let mut processor = Processor::new(alloc, limits.pages, image.len() / 4)?;
         let mut answer = Some(Ok(Ending::Memory));
@@ -70,7 +71,8 @@ impl<'a> Machine<'a> {
         })
     }
 
-    /// Runs the program to its end. Called again, it gives the same answer and changes nothing.
+    /// Runs the program to its end. Called again, it gives the same answer and changes nothing: after `NoMemory` it is
+    /// `NoMemory` again, and the output, the cost and the pages are those of a run that was not finished.
     pub fn run(&mut self) -> Result<Ending, NoMemory>
         ensures ok { IfOk result (λ e. running.finish_of self.old ≡ record { ending = e; state = self.new.state }) }
         ensures kept { self.new.answer ≡ Some result }
@@ -280,6 +282,7 @@ impl<'a> Machine<'a> {
         requires time { self.old.state.cost + 1 + n ≤ self.old.state.limits.instructions }
         ensures { stepping.Next self.new.state ≡ stepping.answers self.old.state value n }
     {
+        // A number that was read is known to fit its type, and so does a cost up to the limit.
         let _limit = self.limits.instructions;
         self.processor.set_register(10, value);
         self.pc = next_pc(self.pc);
