@@ -8,6 +8,7 @@ use crate::ending::{Ending, Trap};
 use crate::files::Files;
 use crate::processor::{Flow, Processor, Stop, next_pc};
 use farm_kinds::{Limits, NoMemory};
+use rv_memory::Memory;
 use std::alloc::Global;
 use std::marker::Model;
 
@@ -54,12 +55,16 @@ impl<'a> Machine<'a> {
         ensures value { IfOk result (λ m. m ≡ running.loaded image.now limits (inputs_of files.entry)) }
         ensures run { IfOk result (λ m. running.finish_of m ≡ stepping.run_of image.now limits (inputs_of files.entry)) }
     {
-        let mut processor = Processor::new(alloc, limits.pages, image.len() / 4)?;
+        let mut memory = Memory::new(alloc, limits.pages);
         let mut answer = Some(Ok(Ending::Memory));
-        if processor.fits(BASE, image.len() as u32) {
-            processor.copy_in(BASE, image)?;
+        if memory.fits(BASE, image.len() as u32) {
+            match memory.touch_range(BASE, image.len() as u32) {
+                Ok(()) => memory.copy_in(BASE, image),
+                Err(_) => return Err(NoMemory),
+            }
             answer = None;
         }
+        let processor = Processor::new(alloc, memory, image.len() / 4)?;
         Ok(Machine {
             limits,
             processor,

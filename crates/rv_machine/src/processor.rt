@@ -62,17 +62,17 @@ impl Model for Processor {
 }
 
 impl Processor {
-    /// Registers and a memory in which no page was touched; the stack pointer x2 is 0x7FFFFFF0. There is room for the
-    /// decoded instructions of a program of so many words, up to 4,096.
-    pub fn new(alloc: Global, pages: u32, words: usize) -> Result<Processor, NoMemory>
-        ensures { IfOk result (λ p. p ≡ record { regs = hart.first_regs; memory = record { limit = pages; pages = [] } }) }
+    /// A processor over a memory, with the registers of the start: x2, the stack pointer, is 0x7FFFFFF0. There is room
+    /// for the decoded instructions of a program of so many words, up to 4,096.
+    pub fn new(alloc: Global, memory: Memory, words: usize) -> Result<Processor, NoMemory>
+        ensures { IfOk result (λ p. p ≡ record { regs = hart.first_regs; memory = memory }) }
     {
         let mut regs = [0; 32];
         regs[2] = 0x7FFF_FFF0;
         match empty_entries(alloc, room_for(words)) {
             Ok(entries) => Ok(Processor {
                 regs,
-                memory: Memory::new(alloc, pages),
+                memory,
                 entries,
             }),
             Err(_) => Err(NoMemory),

@@ -39,7 +39,8 @@ fn run(rt: &HostRuntime, command: Command<'_>) -> io::Result<()> {
     let mut stdin = Vec::new(rt.alloc());
     rt.reader().read_to_end(&mut stdin)?;
     if !raw_image(image.as_slice()) {
-        return rt.eprintln("ending noimage");
+        rt.eprintln("no raw image")?;
+        return Err(io::Error::from(io::ErrorKind::InvalidData));
     }
     let files = Files {
         stdin: stdin.as_slice(),
