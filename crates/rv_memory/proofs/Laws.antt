@@ -1,8 +1,8 @@
-use Rattle.std.proofs.Common.{◌≡◌, ◌≢◌, ℕ, zero, suc, ◌+◌, ◌-◌, ◌*◌, ◌/◌, ◌%◌, ◌<◌, ◌≤◌, ◌⊎◌, Bool, true, List, [], ◌∷◌, ◌++◌, length, get_or, set, refl, ◌∙◌, ap, arith, inl, inr}
+use Rattle.std.proofs.Common.{◌≡◌, ◌≢◌, ℕ, zero, suc, ◌+◌, ◌*◌, ◌/◌, ◌%◌, ◌<◌, ◌≤◌, ◌⊎◌, true, List, [], ◌∷◌, length, get_or, set, refl, ◌∙◌, ap, arith, inl, inr}
 use Rattle.std.proofs.lemmas.Bool.{cases_eq, cases_lt}
 use Rattle.std.proofs.lemmas.List.{get_or-set_same}
 use Rattle.std.proofs.lemmas.Grind.{common_steps, elements}
-use Rattle.rv_memory.specs.Paged.{State, no_page, place, zeros, touch, byte_at, word_at, is_touched, write, put, store_bytes, half_bytes, word_bytes, store8, store16, store32, touch_pages, touch_range, span, IsWhole, ChangesBytes, TouchesPage}
+use Rattle.rv_memory.specs.Paged.{State, no_page, place, touch, byte_at, word_at, is_touched, write, put, store_bytes, half_bytes, word_bytes, store8, store16, store32, touch_pages, touch_range, span, IsWhole, ChangesBytes, TouchesPage}
 use Rattle.rv_memory.specs.PageBytes.{set_bytes}
 use Rattle.rv_memory.specs.declared.page.Page.{Page}
 use Rattle.rv_memory.proofs.Places.{whole_push, whole_set}

@@ -1,7 +1,7 @@
-use Rattle.std.proofs.Common.{◌≡◌, ◌≢◌, ℕ, zero, suc, ◌+◌, ◌-◌, ◌*◌, ◌/◌, ◌<◌, ◌≤◌, ◌⊎◌, Bool, true, false, nat_eq, nat_lt, nat_le, List, [], ◌∷◌, ◌++◌, length, take, refl, arith, inl, inr, ap, ◌∙◌, sym, add-one, if◌then◌else◌}
-use Rattle.std.proofs.lemmas.Grind.{common_steps, elements}
+use Rattle.std.proofs.Common.{◌≡◌, ℕ, zero, suc, ◌+◌, ◌-◌, ◌/◌, ◌<◌, ◌≤◌, Bool, true, false, List, length, take, refl, arith, inl, inr, ap, ◌∙◌, add-one, if◌then◌else◌}
+use Rattle.std.proofs.lemmas.Grind.{common_steps}
 use Rattle.std.proofs.lemmas.Bool.{cases_eq, cases_Bool}
-use Rattle.rv_memory.specs.Paged.{State, place, zeros, touch, is_touched, is_over, touch_pages, touch_range, span, fits, AllTouched}
+use Rattle.rv_memory.specs.Paged.{State, zeros, touch, is_touched, is_over, touch_pages, touch_range, span, fits, AllTouched}
 use Rattle.rv_memory.specs.declared.page.Page.{Page}
 use Rattle.rv_memory.proofs.Bytes.{touch_cases}
 use Rattle.rv_memory.proofs.Touching.{is_touched_touch, is_touched-touch, is_touched_other, length-touch}

@@ -1,13 +1,12 @@
-use Rattle.std.proofs.Common.{◌≡◌, ◌≢◌, ℕ, zero, suc, ◌+◌, ◌*◌, ◌/◌, ◌%◌, ◌<◌, ◌≤◌, ◌⊎◌, Bool, true, nat_eq, List, [], ◌∷◌, ◌++◌, length, get_or, set, refl, arith, inl, inr, ap, ◌∙◌, sym, append_assoc, take, drop, ◌-◌}
-use Rattle.std.proofs.lemmas.Grind.{common_steps, elements}
-use Rattle.std.proofs.lemmas.Bool.{cases_eq}
+use Rattle.std.proofs.Common.{◌≡◌, ℕ, zero, suc, ◌+◌, ◌/◌, ◌%◌, ◌<◌, ◌≤◌, true, nat_eq, List, [], ◌∷◌, ◌++◌, length, get_or, set, refl, arith, ap, ◌∙◌, sym, append_assoc, take, drop, ◌-◌}
+use Rattle.std.proofs.lemmas.Grind.{common_steps}
 use Rattle.std.proofs.lemmas.List.{get_or-set_same, set-set}
 use Rattle.std.proofs.lemmas.List.Folds.{position_or_len-set}
 use Rattle.std.proofs.Math.Seq.{take-add}
 use Rattle.rv_memory.specs.Paged.{State, no_page, place, touch, is_touched, byte_at, bytes_at, write, put, store_bytes, half_bytes, word_bytes, store16, store32}
 use Rattle.rv_memory.specs.PageBytes.{set_bytes}
 use Rattle.rv_memory.specs.declared.page.Page.{Page}
-use Rattle.rv_memory.proofs.Touching.{touched_touch, is_touched_by, touched_by, touch_again, is_touched_touch, is_touched-touch}
+use Rattle.rv_memory.proofs.Touching.{touched_touch, touched_by, touch_again, is_touched_touch}
 
 pub place_after_write : (ps : List Page) (p m : ℕ) (bs : List ℕ) → place (set ps (place ps p) (record { number = (get_or ps (place ps p) no_page).number; bytes = bs })) m ≡ place ps m
 place_after_write ps p m bs = position_or_len-set (λ q. nat_eq q.number m) ps (place ps p) (record { number = (get_or ps (place ps p) no_page).number; bytes = bs }) no_page refl

@@ -1,8 +1,8 @@
-use Rattle.std.proofs.Common.{◌≡◌, ◌≢◌, ℕ, zero, suc, ◌+◌, ◌<◌, ◌≤◌, ◌⊎◌, Bool, true, false, nat_eq, nat_lt, nat_le, List, [], ◌∷◌, ◌++◌, length, get_or, take, refl, arith, inl, inr, ap, ◌∙◌, sym, if◌then◌else◌}
-use Rattle.std.proofs.lemmas.Grind.{common_steps, elements}
+use Rattle.std.proofs.Common.{◌≡◌, ◌≢◌, ℕ, ◌+◌, ◌<◌, ◌≤◌, true, nat_lt, List, [], ◌∷◌, ◌++◌, length, refl, arith, inl, inr, ap, ◌∙◌, if◌then◌else◌}
+use Rattle.std.proofs.lemmas.Grind.{common_steps}
 use Rattle.std.proofs.lemmas.Bool.{cases_eq, cases_Bool}
 use Rattle.std.proofs.lemmas.List.Folds.{position_or_len_push}
-use Rattle.rv_memory.specs.Paged.{State, no_page, place, zeros, touch, is_touched, is_over}
+use Rattle.rv_memory.specs.Paged.{State, place, zeros, touch, is_touched}
 use Rattle.rv_memory.specs.declared.page.Page.{Page}
 use Rattle.rv_memory.proofs.Bytes.{touch_cases}
 
@@ -60,9 +60,6 @@ is_touched_other s p m other =
 -- a page that was touched is touched in vain
 pub touch_again : (s : State) (p : ℕ) → is_touched s p ≡ true → touch s p ≡ s
 touch_again s p h = rw h refl
-
-pub touch_new : (s : State) (p : ℕ) → is_touched s p ≡ false → touch s p ≡ record { limit = s.limit; pages = s.pages ++ record { number = p; bytes = zeros } ∷ [] }
-touch_new s p h = rw h refl
 
 -- a new page is one more
 pub length-touch : (s : State) (p : ℕ) → length (touch s p).pages ≡ length s.pages + (if is_touched s p then 0 else 1)

@@ -11,16 +11,13 @@ pub record State : Type 0 where
   pub limit : ℕ
   pub pages : List Page
 
--- the page of an address; where it begins there
-abbrev pub page_of : ℕ → ℕ
-page_of a = a / 4096
+-- An address a lies in page a / 4096, at offset a % 4096 there.
 
-abbrev pub offset_of : ℕ → ℕ
-offset_of a = a % 4096
-
+-- the bytes of a new page
 unfoldable pub zeros : List ℕ
 zeros = replicate 4096 0
 
+-- what stands for a page where there is none
 abbrev pub no_page : Page
 no_page = record { number = 0; bytes = [] }
 
@@ -28,6 +25,7 @@ no_page = record { number = 0; bytes = [] }
 abbrev pub place : List Page → ℕ → ℕ
 place ps p = position_or_len (λ q. nat_eq q.number p) ps
 
+-- the set of touched pages
 abbrev pub is_touched : State → ℕ → Bool
 is_touched s p = nat_lt (place s.pages p) (length s.pages)
 

@@ -1,4 +1,4 @@
-ghost use Rattle.std.specs.Prelude.{◌≡◌, ◌≢◌, ℕ, ◌/◌, ◌<◌, ◌≤◌, IfOk, IfSome, IfNone, OnOk, OnErr, length, get_or, Some, true, false};
+ghost use Rattle.std.specs.Prelude.{◌≡◌, ◌≢◌, ℕ, ◌/◌, ◌<◌, ◌≤◌, IfOk, IfSome, IfNone, OnOk, OnErr, length, get_or, Some, [], true, false};
 ghost use Rattle.rv_memory.specs.PageIndex as paging;
 
 use std::alloc::{AllocError, Global};
@@ -19,7 +19,10 @@ pub struct PageIndex {
 }
 
 impl PageIndex {
-    pub fn new(alloc: Global) -> PageIndex {
+    pub fn new(alloc: Global) -> PageIndex
+        ensures tops { result.tops.items ≡ [] }
+        ensures leaves { result.leaves.items ≡ [] }
+    {
         PageIndex {
             tops: Vec::new(alloc),
             leaves: Vec::new(alloc),
@@ -110,6 +113,7 @@ fn extend_with_zeros(tops: &mut Vec<usize>) -> Result<(), AllocError>
     ensures size { OnOk result (1024 ≤ length tops.new.items) }
 {
     let len = tops.len();
+    tops.reserve(1024_usize.saturating_sub(len))?;
     for _k in len..1024 {
         tops.push(0)?;
     }

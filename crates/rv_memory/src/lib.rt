@@ -5,5 +5,7 @@
 mod index;
 mod memory;
 mod page;
+#[cfg(test)]
+mod tests;
 
 pub use memory::{MemFault, Memory};

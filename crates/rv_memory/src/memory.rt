@@ -284,7 +284,14 @@ impl Memory {
     {
         match find_recent(&self.recent, &self.index, &self.pages, at / 4096) {
             Some(k) => Ok(k),
-            None => self.place_anew(at / 4096),
+            None => {
+                let k = self.recall(at / 4096);
+                if k < self.pages.len() {
+                    Ok(k)
+                } else {
+                    self.touch(at / 4096)
+                }
+            }
         }
     }
 }
@@ -341,10 +348,27 @@ impl Memory {
         }
     }
 
-    // Looks the page up, or touches it.
+    // The place of a page, which is the next to be guessed, or the number of pages where it was not touched.
     #[inline(never)]
-    fn place_anew(&mut self, number: u32) -> Result<usize, MemFault>
-        requires { number < 1048576 }
+    fn recall(&mut self, number: u32) -> usize
+        ensures place { result ≡ paged.place self.old.pages number }
+        ensures bound { result ≤ length self.old.pages }
+        ensures unchanged { self.new ≡ self.old }
+    {
+        match find(&self.index, &self.pages, number) {
+            Some(k) => {
+                remember(&mut self.recent, number, k);
+                k
+            }
+            None => self.pages.len(),
+        }
+    }
+
+    // Touches a new page; gives its place.
+    #[inline(never)]
+    fn touch(&mut self, number: u32) -> Result<usize, MemFault>
+        requires number { number < 1048576 }
+        requires fresh { paged.place self.old.pages number ≡ length self.old.pages }
         ensures ok { IfOk result (λ k. (k < length self.new.pages) × (k ≡ paged.place self.new.pages number)) }
         ensures touched { OnOk result (self.new ≡ paged.touch self.old number) }
         ensures allowed { OnOk result (paged.is_over self.old number ≡ false) }
@@ -352,10 +376,6 @@ impl Memory {
         ensures refused { IfErr result (paged.Refuses 1 self.old (4096 * number)) }
         ensures unchanged { OnErr result (self.new ≡ self.old) }
     {
-        if let Some(k) = find(&self.index, &self.pages, number) {
-            remember(&mut self.recent, number, k);
-            return Ok(k);
-        }
         let n = self.pages.len();
         if n >= self.limit as usize {
             return Err(MemFault::OverLimit { pages: self.limit });

@@ -1,4 +1,4 @@
-use Rattle.std.proofs.Common.{◌≡◌, ℕ, ◌+◌, ◌∙◌, List, set, get_or, ap}
+use Rattle.std.proofs.Common.{ℕ, ◌+◌, ◌∙◌, List, set, get_or, ap}
 use Rattle.rv_memory.proofs.Storing.{set_bytes_take}
 use Rattle.rv_memory.proofs.page.write_all.Goals as goal
 

@@ -1,4 +1,4 @@
-use Rattle.std.proofs.Common.{◌≡◌, ℕ, ◌+◌, ◌-◌, ◌/◌, ◌≤◌, ◌∙◌, true, take, drop, length, ap, arith}
+use Rattle.std.proofs.Common.{◌≡◌, ◌+◌, ◌-◌, ◌/◌, ◌≤◌, ◌∙◌, true, take, drop, length, ap, arith}
 use Rattle.std.proofs.lemmas.Grind.{common_steps}
 use Rattle.rv_memory.specs.Paged.{State, is_touched, store_bytes}
 use Rattle.rv_memory.proofs.Storing.{is_touched_store_bytes, store_bytes-piece}

@@ -1,4 +1,4 @@
-use Rattle.std.proofs.Common.{◌≡◌, ◌∙◌, arith}
+use Rattle.std.proofs.Common.{◌∙◌, arith}
 use Rattle.rv_memory.proofs.Storing.{bytes_at-pushed}
 use Rattle.rv_memory.proofs.memory.Memory.copy_out.Goals as goal
 

@@ -1,4 +1,4 @@
-use Rattle.std.proofs.Common.{◌≡◌, ℕ, ◌+◌, ◌/◌, false, true, length, arith}
+use Rattle.std.proofs.Common.{◌≡◌, ◌+◌, ◌/◌, false, true, length, arith}
 use Rattle.rv_memory.specs.Paged.{is_touched, touch_pages}
 use Rattle.rv_memory.proofs.Ranges.{length-touch_pages}
 use Rattle.rv_memory.proofs.memory.Memory.fits.Goals as goal

@@ -1,6 +1,6 @@
-use Rattle.std.proofs.Common.{◌≡◌, ℕ, ◌+◌, ◌/◌, ◌<◌, ◌∙◌, length, take, ap, arith}
+use Rattle.std.proofs.Common.{◌≡◌, ℕ, ◌/◌, ◌<◌, ◌∙◌, length, ap, arith}
 use Rattle.std.proofs.lemmas.Grind.{common_steps}
-use Rattle.rv_memory.specs.Paged.{State, touch_pages, touch_range, span}
+use Rattle.rv_memory.specs.Paged.{touch_pages, touch_range, span}
 use Rattle.rv_memory.proofs.Ranges.{room_in_range, touched_range, undone}
 use Rattle.rv_memory.proofs.memory.Memory.touch_range.Goals as goal
 
