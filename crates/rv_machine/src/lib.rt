@@ -1,0 +1,16 @@
+//! A machine that runs RV32IM programs and counts their instructions, pages and bytes of output.
+#![tactic(auto)]
+
+mod cache;
+mod ending;
+mod files;
+mod laws;
+mod machine;
+mod processor;
+#[cfg(test)]
+mod tests;
+
+pub use ending::{Ending, Trap};
+pub use files::{Extra, Files};
+pub use laws::finish_is_the_first_ending;
+pub use machine::Machine;

@@ -1,0 +1,539 @@
+ghost use Rattle.std.specs.Prelude.{ℕ, List, ◌≡◌, ◌≢◌, ◌+◌, ◌-◌, ◌*◌, ◌/◌, ◌%◌, ◌^◌, ◌<◌, ◌≤◌, ◌++◌, IfOk, IfErr, OnOk, OnErr, true, false, [], length, nat_eq, int_lt, slice_index, slice_set};
+ghost use Rattle.std.specs.Int.{cast_signed, w8, w16};
+ghost use Rattle.rv_machine.specs.Hart as hart;
+ghost use Rattle.rv_machine.specs.Operations as operations;
+ghost use Rattle.rv_machine.specs.Storage.{hart_of};
+ghost use Rattle.rv_machine.specs.Executing.{Does, Readies, stop_of};
+ghost use Rattle.rv_machine.specs.Caching.{IsCached, IsSmall, DiffersAt};
+ghost use Rattle.rv_word.specs.Effect as effect;
+ghost use Rattle.rv_word.specs.Table.{instruction_of};
+ghost use Rattle.rv_memory.specs.Paged as memory;
+
+use crate::cache::{Entry, empty_entries, entry_at, forget, forget_all, is_kept, keep};
+use crate::ending::{Ending, Trap};
+use farm_kinds::NoMemory;
+use rv_memory::{MemFault, Memory};
+use rv_word::{Instr, Op, alu, decode};
+use std::alloc::Global;
+use std::marker::Model;
+
+/// Why the processor does not go on by itself.
+#[derive(Clone, Copy)]
+pub enum Stop {
+    Ended(Ending),
+    Call,
+    NoMemory,
+}
+
+/// What comes after an instruction: the address of the next one, or a stop.
+#[derive(Clone, Copy)]
+pub enum Flow {
+    Next(u32),
+    Stopped(Stop),
+}
+
+/// What comes of a fetch.
+#[derive(Clone, Copy)]
+pub enum Fetch {
+    Ready,
+    Illegal,
+    OverLimit,
+    OutOfMemory,
+}
+
+/// The registers and the memory, with the instructions that were decoded.
+#[derive(Drop)]
+pub struct Processor {
+    regs: [u32; 32],
+    memory: Memory,
+    entries: Vec<Entry>,
+}
+
+impl Model for Processor {
+    ghost use Rattle.std.specs.Prelude.{◌≡◌, slice_index};
+    ghost use Rattle.rv_machine.specs.Storage.{Storage};
+    ghost use Rattle.rv_machine.specs.Caching.{IsCached};
+
+    ghost Value = { Storage };
+
+    ghost view = { λ p. record { regs = p.regs; memory = p.memory } };
+
+    ghost invariant = { λ p. (IsCached p.memory p.entries.items) × (slice_index p.regs 0 ≡ 0) };
+}
+
+impl Processor {
+    /// A processor over a memory, with the registers of the start: x2, the stack pointer, is 0x7FFFFFF0. There is room
+    /// for the decoded instructions of a program of so many words, up to 4,096.
+    pub fn new(alloc: Global, memory: Memory, words: usize) -> Result<Processor, NoMemory>
+        ensures { IfOk result (λ p. p ≡ record { regs = hart.first_regs; memory = memory }) }
+    {
+        let mut regs = [0; 32];
+        regs[2] = 0x7FFF_FFF0;
+        match empty_entries(alloc, room_for(words)) {
+            Ok(entries) => Ok(Processor {
+                regs,
+                memory,
+                entries,
+            }),
+            Err(_) => Err(NoMemory),
+        }
+    }
+
+    /// How many pages were touched.
+    pub fn pages(&self) -> u32
+        ensures { result ≡ memory.page_count self.now.memory }
+    {
+        self.memory.pages()
+    }
+
+    pub fn register(&self, r: u8) -> u32
+        requires { r < 32 }
+        ensures { result ≡ slice_index self.now.regs r }
+    {
+        self.reg(r)
+    }
+
+    pub fn set_register(&mut self, r: u8, v: u32)
+        requires { r < 32 }
+        ensures { self.new ≡ record self.old { regs = hart.written self.old.regs r v } }
+    {
+        self.write(r, v);
+    }
+
+    /// Whether the pages of n bytes at an address are within the limit, with those that were touched.
+    pub fn fits(&self, at: u32, n: u32) -> bool
+        requires { at + n ≤ 2 ^ 32 }
+        ensures { result ≡ memory.fits self.now.memory at n }
+    {
+        self.memory.fits(at, n)
+    }
+
+    /// Touches the pages of n bytes at an address.
+    pub fn touch(&mut self, at: u32, n: u32) -> Result<(), NoMemory>
+        requires space { at + n ≤ 2 ^ 32 }
+        requires room { memory.fits self.old.memory at n ≡ true }
+        ensures ok { OnOk result (self.new ≡ record self.old { memory = memory.touch_range self.old.memory at n }) }
+    {
+        match self.memory.touch_range(at, n) {
+            Ok(()) => Ok(()),
+            Err(_) => Err(NoMemory),
+        }
+    }
+
+    /// Puts bytes from an address on, whose pages are touched.
+    pub fn copy_in(&mut self, at: u32, bytes: &[u8]) -> Result<(), NoMemory>
+        requires space { at + length bytes.now ≤ 2 ^ 32 }
+        requires few { length bytes.now < 2 ^ 32 }
+        requires room { memory.fits self.old.memory at (length bytes.now) ≡ true }
+        ensures ok { OnOk result (self.new ≡ record self.old { memory = memory.store_bytes (memory.touch_range self.old.memory at (length bytes.now)) at bytes.now }) }
+    {
+        match self.memory.touch_range(at, bytes.len() as u32) {
+            Ok(()) => {
+                self.memory.copy_in(at, bytes);
+                forget_all(&mut self.entries, at, bytes);
+                Ok(())
+            }
+            Err(_) => Err(NoMemory),
+        }
+    }
+
+    /// Appends the n bytes from an address on.
+    pub fn copy_out(&self, at: u32, n: u32, out: &mut Vec<u8>) -> Result<(), NoMemory>
+        requires { at + n ≤ 2 ^ 32 }
+        ensures ok { OnOk result (out.new.items ≡ out.old.items ++ memory.bytes_at self.now.memory at n) }
+        ensures unchanged { OnErr result (out.new.items ≡ out.old.items) }
+    {
+        match self.memory.copy_out(at, n, out) {
+            Ok(()) => Ok(()),
+            Err(_) => Err(NoMemory),
+        }
+    }
+
+    #[inline(always)]
+    fn reg(&self, r: u8) -> u32
+        requires { r < 32 }
+        ensures { result ≡ slice_index self.now.regs r }
+    {
+        self.regs[r as usize]
+    }
+
+    // Writes a register; x0 is 0 again.
+    #[inline(always)]
+    #[tactic(auto, using(crate::proofs::Registers::written_twice))]
+    fn write(&mut self, r: u8, v: u32)
+        requires { r < 32 }
+        ensures { self.new ≡ record self.old { regs = hart.written self.old.regs r v } }
+    {
+        self.regs[r as usize] = v;
+        self.regs[0] = 0;
+    }
+
+    #[inline(always)]
+    fn address(&self, i: Instr, pc: u32) -> u32
+        requires { IsSmall i }
+        ensures { result ≡ hart.address (hart_of self.now pc) i }
+    {
+        self.reg(i.rs1).wrapping_add(i.imm.cast_unsigned())
+    }
+
+    // Gives rd a value.
+    #[inline(always)]
+    fn give(&mut self, pc: u32, i: Instr, v: u32) -> Flow
+        requires small { IsSmall i }
+        requires aligned { pc % 4 ≡ 0 }
+        ensures { Does pc result (hart.gives (hart_of self.old pc) i v) self.new }
+    {
+        self.write(i.rd, v);
+        Flow::Next(next_pc(pc))
+    }
+
+    #[inline(always)]
+    fn jump(&mut self, pc: u32, i: Instr, to: u32) -> Flow
+        requires small { IsSmall i }
+        requires aligned { pc % 4 ≡ 0 }
+        ensures { Does pc result (hart.jumps (hart_of self.old pc) i to) self.new }
+    {
+        if to % 4 != 0 {
+            return Flow::Stopped(Stop::Ended(Ending::Trap(Trap::Jump)));
+        }
+        self.write(i.rd, next_pc(pc));
+        Flow::Next(to)
+    }
+
+    #[inline(always)]
+    fn branch(&mut self, pc: u32, i: Instr, taken: bool) -> Flow
+        requires aligned { pc % 4 ≡ 0 }
+        ensures { Does pc result (hart.branches (hart_of self.old pc) i taken) self.new }
+    {
+        if !taken {
+            return Flow::Next(next_pc(pc));
+        }
+        let to = relative(pc, i);
+        if to % 4 != 0 {
+            return Flow::Stopped(Stop::Ended(Ending::Trap(Trap::Jump)));
+        }
+        Flow::Next(to)
+    }
+
+    #[inline(always)]
+    fn compute(&mut self, pc: u32, i: Instr, op: Op) -> Flow
+        requires small { IsSmall i }
+        requires aligned { pc % 4 ≡ 0 }
+        requires op { effect.HasEffect op }
+        ensures { Does pc result (operations.computes op (hart_of self.old pc) i) self.new }
+    {
+        let v = alu(op, self.reg(i.rs1), self.reg(i.rs2));
+        self.give(pc, i, v)
+    }
+
+    #[inline(always)]
+    fn compute_imm(&mut self, pc: u32, i: Instr, op: Op) -> Flow
+        requires small { IsSmall i }
+        requires aligned { pc % 4 ≡ 0 }
+        requires op { effect.HasEffect op }
+        ensures { Does pc result (operations.computes_imm op (hart_of self.old pc) i) self.new }
+    {
+        let v = alu(op, self.reg(i.rs1), i.imm.cast_unsigned());
+        self.give(pc, i, v)
+    }
+}
+
+impl Processor {
+    #[inline(always)]
+    #[tactic(auto, using(crate::proofs::Kept::cached_touch))]
+    fn load_byte(&mut self, pc: u32, i: Instr) -> Flow
+        requires small { IsSmall i }
+        requires aligned { pc % 4 ≡ 0 }
+        ensures { Does pc result (operations.loads 1 operations.signed_byte (hart_of self.old pc) i) self.new }
+    {
+        let at = self.address(i, pc);
+        match self.memory.load8(at) {
+            Ok(v) => self.give(pc, i, signed_byte(v)),
+            Err(fault) => Flow::Stopped(of_fault(fault)),
+        }
+    }
+
+    #[inline(always)]
+    #[tactic(auto, using(crate::proofs::Kept::cached_touch))]
+    fn load_byte_unsigned(&mut self, pc: u32, i: Instr) -> Flow
+        requires small { IsSmall i }
+        requires aligned { pc % 4 ≡ 0 }
+        ensures { Does pc result (operations.loads 1 memory.byte_at (hart_of self.old pc) i) self.new }
+    {
+        let at = self.address(i, pc);
+        match self.memory.load8(at) {
+            Ok(v) => self.give(pc, i, v),
+            Err(fault) => Flow::Stopped(of_fault(fault)),
+        }
+    }
+
+    #[inline(always)]
+    #[tactic(auto, using(crate::proofs::Kept::cached_touch))]
+    fn load_half(&mut self, pc: u32, i: Instr) -> Flow
+        requires small { IsSmall i }
+        requires aligned { pc % 4 ≡ 0 }
+        ensures { Does pc result (operations.loads 2 operations.signed_half (hart_of self.old pc) i) self.new }
+    {
+        let at = self.address(i, pc);
+        match self.memory.load16(at) {
+            Ok(v) => self.give(pc, i, signed_half(v)),
+            Err(fault) => Flow::Stopped(of_fault(fault)),
+        }
+    }
+
+    #[inline(always)]
+    #[tactic(auto, using(crate::proofs::Kept::cached_touch))]
+    fn load_half_unsigned(&mut self, pc: u32, i: Instr) -> Flow
+        requires small { IsSmall i }
+        requires aligned { pc % 4 ≡ 0 }
+        ensures { Does pc result (operations.loads 2 memory.half_at (hart_of self.old pc) i) self.new }
+    {
+        let at = self.address(i, pc);
+        match self.memory.load16(at) {
+            Ok(v) => self.give(pc, i, v),
+            Err(fault) => Flow::Stopped(of_fault(fault)),
+        }
+    }
+
+    #[inline(always)]
+    #[tactic(auto, using(crate::proofs::Kept::cached_touch))]
+    fn load_word(&mut self, pc: u32, i: Instr) -> Flow
+        requires small { IsSmall i }
+        requires aligned { pc % 4 ≡ 0 }
+        ensures { Does pc result (operations.loads 4 memory.word_at (hart_of self.old pc) i) self.new }
+    {
+        let at = self.address(i, pc);
+        match self.memory.load32(at) {
+            Ok(v) => self.give(pc, i, v),
+            Err(fault) => Flow::Stopped(of_fault(fault)),
+        }
+    }
+
+    #[inline(always)]
+    fn store8(&mut self, pc: u32, i: Instr) -> Flow
+        requires small { IsSmall i }
+        requires aligned { pc % 4 ≡ 0 }
+        ensures { Does pc result (operations.stores 1 memory.store8 (hart_of self.old pc) i) self.new }
+    {
+        let at = self.address(i, pc);
+        let v = self.reg(i.rs2);
+        match self.memory.store8(at, v) {
+            Ok(()) => {
+                forget(&mut self.entries, at);
+                Flow::Next(next_pc(pc))
+            }
+            Err(fault) => Flow::Stopped(of_fault(fault)),
+        }
+    }
+
+    #[inline(always)]
+    fn store16(&mut self, pc: u32, i: Instr) -> Flow
+        requires small { IsSmall i }
+        requires aligned { pc % 4 ≡ 0 }
+        ensures { Does pc result (operations.stores 2 memory.store16 (hart_of self.old pc) i) self.new }
+    {
+        let at = self.address(i, pc);
+        let v = self.reg(i.rs2);
+        match self.memory.store16(at, v) {
+            Ok(()) => {
+                forget(&mut self.entries, at);
+                Flow::Next(next_pc(pc))
+            }
+            Err(fault) => Flow::Stopped(of_fault(fault)),
+        }
+    }
+
+    #[inline(always)]
+    fn store32(&mut self, pc: u32, i: Instr) -> Flow
+        requires small { IsSmall i }
+        requires aligned { pc % 4 ≡ 0 }
+        ensures { Does pc result (operations.stores 4 memory.store32 (hart_of self.old pc) i) self.new }
+    {
+        let at = self.address(i, pc);
+        let v = self.reg(i.rs2);
+        match self.memory.store32(at, v) {
+            Ok(()) => {
+                forget(&mut self.entries, at);
+                Flow::Next(next_pc(pc))
+            }
+            Err(fault) => Flow::Stopped(of_fault(fault)),
+        }
+    }
+}
+
+impl Processor {
+    /// Fetches the instruction at pc, whose page is touched, decodes it and carries it out.
+    #[inline(always)]
+    pub fn step(&mut self, pc: u32) -> Flow
+        requires aligned { pc % 4 ≡ 0 }
+        ensures { Does pc result (operations.instruction (hart_of self.old pc)) self.new }
+    {
+        match ready(&mut self.memory, &mut self.entries, pc) {
+            Fetch::Ready => {
+                let i = entry_at(&self.entries, pc);
+                self.operate(pc, i)
+            }
+            Fetch::Illegal => Flow::Stopped(Stop::Ended(Ending::Trap(Trap::Illegal))),
+            Fetch::OverLimit => Flow::Stopped(Stop::Ended(Ending::Memory)),
+            Fetch::OutOfMemory => Flow::Stopped(Stop::NoMemory),
+        }
+    }
+
+    /// Carries out an instruction that stands at pc.
+    #[inline(always)]
+    fn operate(&mut self, pc: u32, i: Instr) -> Flow
+        requires small { IsSmall i }
+        requires aligned { pc % 4 ≡ 0 }
+        ensures { Does pc result (operations.operation i.op (hart_of self.old pc) i) self.new }
+    {
+        match i.op {
+            Op::Lui => self.give(pc, i, i.imm.cast_unsigned()),
+            Op::Auipc => self.give(pc, i, relative(pc, i)),
+            Op::Jal => self.jump(pc, i, relative(pc, i)),
+            Op::Jalr => self.jump(pc, i, self.address(i, pc) / 2 * 2),
+            Op::Beq => self.branch(pc, i, self.reg(i.rs1) == self.reg(i.rs2)),
+            Op::Bne => self.branch(pc, i, self.reg(i.rs1) != self.reg(i.rs2)),
+            Op::Blt => self.branch(pc, i, less(self.reg(i.rs1), self.reg(i.rs2))),
+            Op::Bge => self.branch(pc, i, !less(self.reg(i.rs1), self.reg(i.rs2))),
+            Op::Bltu => self.branch(pc, i, self.reg(i.rs1) < self.reg(i.rs2)),
+            Op::Bgeu => self.branch(pc, i, self.reg(i.rs1) >= self.reg(i.rs2)),
+            Op::Lb => self.load_byte(pc, i),
+            Op::Lh => self.load_half(pc, i),
+            Op::Lw => self.load_word(pc, i),
+            Op::Lbu => self.load_byte_unsigned(pc, i),
+            Op::Lhu => self.load_half_unsigned(pc, i),
+            Op::Sb => self.store8(pc, i),
+            Op::Sh => self.store16(pc, i),
+            Op::Sw => self.store32(pc, i),
+            Op::Addi => self.compute_imm(pc, i, Op::Addi),
+            Op::Slti => self.compute_imm(pc, i, Op::Slti),
+            Op::Sltiu => self.compute_imm(pc, i, Op::Sltiu),
+            Op::Xori => self.compute_imm(pc, i, Op::Xori),
+            Op::Ori => self.compute_imm(pc, i, Op::Ori),
+            Op::Andi => self.compute_imm(pc, i, Op::Andi),
+            Op::Slli => self.compute_imm(pc, i, Op::Slli),
+            Op::Srli => self.compute_imm(pc, i, Op::Srli),
+            Op::Srai => self.compute_imm(pc, i, Op::Srai),
+            Op::Add => self.compute(pc, i, Op::Add),
+            Op::Sub => self.compute(pc, i, Op::Sub),
+            Op::Sll => self.compute(pc, i, Op::Sll),
+            Op::Slt => self.compute(pc, i, Op::Slt),
+            Op::Sltu => self.compute(pc, i, Op::Sltu),
+            Op::Xor => self.compute(pc, i, Op::Xor),
+            Op::Srl => self.compute(pc, i, Op::Srl),
+            Op::Sra => self.compute(pc, i, Op::Sra),
+            Op::Or => self.compute(pc, i, Op::Or),
+            Op::And => self.compute(pc, i, Op::And),
+            Op::Mul => self.compute(pc, i, Op::Mul),
+            Op::Mulh => self.compute(pc, i, Op::Mulh),
+            Op::Mulhsu => self.compute(pc, i, Op::Mulhsu),
+            Op::Mulhu => self.compute(pc, i, Op::Mulhu),
+            Op::Div => self.compute(pc, i, Op::Div),
+            Op::Divu => self.compute(pc, i, Op::Divu),
+            Op::Rem => self.compute(pc, i, Op::Rem),
+            Op::Remu => self.compute(pc, i, Op::Remu),
+            Op::Fence => Flow::Next(next_pc(pc)),
+            Op::Ecall => Flow::Stopped(Stop::Call),
+            Op::Ebreak => Flow::Stopped(Stop::Ended(Ending::Trap(Trap::Break))),
+        }
+    }
+}
+
+#[inline(always)]
+fn less(a: u32, b: u32) -> bool
+    ensures { result ≡ int_lt (effect.signed a) (effect.signed b) }
+{
+    a.cast_signed() < b.cast_signed()
+}
+
+// A byte and a half-word with their sign.
+#[inline(always)]
+fn signed_byte(v: u32) -> u32
+    requires { v < 2 ^ 8 }
+    ensures { result ≡ effect.bits (cast_signed w8 v) }
+{
+    i32::from((v as u8).cast_signed()).cast_unsigned()
+}
+
+#[inline(always)]
+fn signed_half(v: u32) -> u32
+    requires { v < 2 ^ 16 }
+    ensures { result ≡ effect.bits (cast_signed w16 v) }
+{
+    i32::from((v as u16).cast_signed()).cast_unsigned()
+}
+
+// For how many instructions there is room: a power of two.
+fn room_for(words: usize) -> usize
+    ensures { 0 < result }
+{
+    if words <= 64 {
+        64
+    } else if words <= 512 {
+        512
+    } else {
+        4096
+    }
+}
+
+#[inline(always)]
+pub fn next_pc(pc: u32) -> u32
+    ensures value { result ≡ (pc + 4) % 2 ^ 32 }
+    ensures aligned { pc % 4 ≡ 0 → result % 4 ≡ 0 }
+{
+    pc.wrapping_add(4)
+}
+
+#[inline(always)]
+fn relative(pc: u32, i: Instr) -> u32
+    ensures { result ≡ (pc + effect.bits i.imm) % 2 ^ 32 }
+{
+    pc.wrapping_add(i.imm.cast_unsigned())
+}
+
+// Sees that the instruction at pc is in its entry.
+#[inline(always)]
+fn ready(memory: &mut Memory, entries: &mut Vec<Entry>, pc: u32) -> Fetch
+    requires aligned { pc % 4 ≡ 0 }
+    requires cached { IsCached memory.old entries.old.items }
+    ensures cached { IsCached memory.new entries.new.items }
+    ensures fetched { (regs : List ℕ) → Readies pc result (record { regs = regs; memory = memory.old }) memory.new entries.new.items }
+{
+    if is_kept(entries, pc) {
+        return Fetch::Ready;
+    }
+    fetch_anew(memory, entries, pc)
+}
+
+// Fetches and decodes the instruction at pc, and keeps it.
+#[inline(never)]
+fn fetch_anew(memory: &mut Memory, entries: &mut Vec<Entry>, pc: u32) -> Fetch
+    requires aligned { pc % 4 ≡ 0 }
+    requires cached { IsCached memory.old entries.old.items }
+    ensures cached { IsCached memory.new entries.new.items }
+    ensures fetched { (regs : List ℕ) → Readies pc result (record { regs = regs; memory = memory.old }) memory.new entries.new.items }
+{
+    let word = match memory.load32(pc) {
+        Ok(word) => word,
+        Err(MemFault::OverLimit { .. }) => return Fetch::OverLimit,
+        Err(_) => return Fetch::OutOfMemory,
+    };
+    match decode(word) {
+        Some(i) => {
+            keep(entries, pc, i);
+            Fetch::Ready
+        }
+        None => Fetch::Illegal,
+    }
+}
+
+// Why the machine stops at a fault of its memory.
+fn of_fault(fault: MemFault) -> Stop
+    ensures { result ≡ stop_of fault }
+{
+    match fault {
+        MemFault::Misaligned => Stop::Ended(Ending::Trap(Trap::Misaligned)),
+        MemFault::OverLimit { .. } => Stop::Ended(Ending::Memory),
+        MemFault::NoMemory => Stop::NoMemory,
+    }
+}
