@@ -1,6 +1,0 @@
-pub mod Submits
-pub mod WordLemmas
-pub mod NumberLemmas
-pub mod Joining
-pub mod Sessions
-pub mod Completing

@@ -1,5 +1,1 @@
-pub mod FarmShape
-pub mod FarmLayout
-pub mod NextWord
-pub mod WordList
-pub mod Session
+pub mod CommandLine

@@ -2,13 +2,8 @@
 #![tactic(auto)]
 
 mod exit;
-mod farm;
-mod lines;
-mod numbers;
-mod script;
 #[cfg(test)]
 mod tests;
-mod texts;
 mod top;
 
 pub use exit::Exit;

@@ -3,12 +3,13 @@ ghost use Rattle.farm_io.specs.Streams.{Rose};
 ghost use Rattle.farm_model.specs.State.{standard_settings, start};
 ghost use Rattle.farm_kinds.specs.declared.events.Event.{Event};
 ghost use Rattle.farm_laws.specs.Laws.{KeepsPromise};
-ghost use Rattle.farm_cli.specs.Session.{AllAnswered, LinesAnswered, FrontAnswered, TookLimit, IsScript, IsShort};
+ghost use Rattle.script_session.specs.Session.{AllAnswered, LinesAnswered, FrontAnswered, TookLimit, IsShort};
+ghost use Rattle.farm_cli.specs.CommandLine.{IsScript};
 
 use crate::exit::Exit;
-use crate::farm::Farm;
-use crate::script::run_script;
+use farm_core::Farm;
 use farm_io::{Sink, Source};
+use script_session::{ScriptEnd, run_script};
 use std::alloc::Global;
 
 /// Whether the words are those of `farm script`.
@@ -61,5 +62,11 @@ pub fn farm_main<S: Source, K: Sink>(
         return Exit::Usage;
     }
     let mut farm = Farm::new(alloc);
-    run_script(alloc, &mut farm, input, out)
+    match run_script(alloc, &mut farm, input, out) {
+        ScriptEnd::Done => Exit::Done,
+        ScriptEnd::ReadFault => Exit::ReadFault,
+        ScriptEnd::WriteFault => Exit::WriteFault,
+        ScriptEnd::InputLimit => Exit::InputLimit,
+        ScriptEnd::NoMemory => Exit::Memory,
+    }
 }

@@ -1,7 +1,7 @@
 use Rattle.std.proofs.Common.{ℕ, ◌≡◌, ◌≤◌, ◌<◌, List, [], ◌∷◌, length, get_or, map, arith, sym, ap, ◌∙◌}
 use Rattle.std.specs.Prelude.{codes, string_bytes}
 use Rattle.std.proofs.lemmas.Slice.Eq.{bytes_eq-Decides}
-use Rattle.farm_cli.specs.Session.{IsScript}
+use Rattle.farm_cli.specs.CommandLine.{IsScript}
 use Rattle.farm_cli.proofs.top.is_script.Goals as goal
 
 -- two words, of which the second is `script`

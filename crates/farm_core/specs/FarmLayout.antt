@@ -1,0 +1,22 @@
+-- How a farm lies in memory. There are no hosts, no rejudgings and no audit texts, and nothing waits to be verified.
+use Rattle.std.specs.Prelude.{◌≤◌, [], false, length}
+use Rattle.farm_model.specs.State.{State}
+use Rattle.farm_core.specs.FarmShape.{AreShort}
+use Rattle.farm_core.specs.declared.farm.Farm.TheInside.{Inside}
+
+abbrev pub farm_value : Inside → State
+farm_value a = record {
+  judge = a.judge;
+  verification = false;
+  problems = a.problems.items;
+  hosts = [];
+  submissions = a.submissions.items;
+  filings = a.filings.items;
+  rejudgings = [];
+  texts = [];
+}
+
+pub record IsFarmLayout (a : Inside) : Type 0 where
+  pub short : AreShort a.problems.items
+  pub problems : length a.problems.items ≤ 1000
+  pub submissions : length a.submissions.items ≤ 100000

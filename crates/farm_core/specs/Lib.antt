@@ -1,0 +1,2 @@
+pub mod FarmShape
+pub mod FarmLayout
