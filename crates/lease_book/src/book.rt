@@ -1,6 +1,6 @@
-ghost use Rattle.std.specs.Prelude.{◌≡◌, ◌+◌, ◌-◌, ◌<◌, ◌≤◌, ◌^◌, length, is_some, None, OnOk, OnErr, IfNone, if◌then◌else◌, vec_len, vec_capacity, ◌==◌};
-ghost use Rattle.farm_model.specs.Leases.{lease_on, held_count, with_lease, without_task, without_host, renewed, ended_at, left_after, first_due};
-ghost use Rattle.lease_book.specs.Book.{empty_book, room, IsSinglyLeased, without_lease, without_judging, judging_count};
+ghost use Rattle.std.specs.Prelude.{◌≡◌, ◌+◌, ◌-◌, ◌<◌, ◌≤◌, ◌^◌, length, is_some, None, OnOk, OnErr, IfNone, OnSome, if◌then◌else◌, vec_len, vec_capacity, ◌==◌};
+ghost use Rattle.farm_model.specs.Leases.{lease_on, held_count, with_lease, without_task, without_host, renewed, first_due};
+ghost use Rattle.lease_book.specs.Book.{empty_book, room, IsSinglyLeased, without_lease, without_judging, judging_count, NoneEnds, OneEnds};
 
 use crate::choose::{first_due, held_count, is_same_task, lease_on};
 use farm_kinds::{NoMemory, Task};
@@ -109,7 +109,11 @@ impl LeaseBook {
             return false;
         };
         end_task(&mut self.leases, task);
-        self.leases.push_reserved(Lease { until, ..lease });
+        self.leases.push_reserved(Lease {
+            host: lease.host,
+            task,
+            until,
+        });
         true
     }
 
@@ -133,11 +137,12 @@ impl LeaseBook {
         ensures leases { self.new.leases ≡ without_lease self.old.leases result }
         ensures spare { self.new.spare ≡ self.old.spare + (if is_some result then 1 else 0) }
         ensures room { room self.new ≡ room self.old }
-        ensures later { left_after self.new.leases now ≡ left_after self.old.leases now }
-        ensures fewer { length (ended_at self.old.leases now) ≡ length (ended_at self.new.leases now) + (if is_some result then 1 else 0) }
-        ensures done { IfNone result (left_after self.new.leases now ≡ self.new.leases) }
+        ensures none { IfNone result (NoneEnds self.old.leases now) }
+        ensures one { OnSome result (OneEnds self.old.leases self.new.leases now) }
     {
-        let lease = first_due(&self.leases, now)?;
+        let Some(lease) = first_due(&self.leases, now) else {
+            return None;
+        };
         end_task(&mut self.leases, lease.task);
         Some(lease)
     }
