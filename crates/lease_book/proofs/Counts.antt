@@ -1,7 +1,7 @@
 -- How many items of a list pass a test, and what filters make of that.
-use Rattle.std.proofs.Common.{ℕ, ◌≡◌, ◌+◌, ◌≤◌, List, [], ◌∷◌, ◌++◌, Option, Some, None, Bool, true, false, not, cond, refl, sym, ap, ◌∙◌, subst, arith, length, filter, find, count_by, is_some, fold}
+use Rattle.std.proofs.Common.{ℕ, ◌≡◌, ◌+◌, ◌≤◌, List, [], ◌∷◌, ◌++◌, Some, None, Bool, true, false, not, cond, refl, sym, ap, ◌∙◌, arith, length, filter, find, count_by, is_some, fold}
 use Rattle.std.specs.List.{reduce}
-use Rattle.std.proofs.lemmas.List.Sums.{sum_by-cons, sum_by_push, length-filter, count_by-le-length}
+use Rattle.std.proofs.lemmas.List.Sums.{sum_by-cons, sum_by_push, length-filter}
 use Rattle.std.proofs.lemmas.List.Filters.{length-filter_both, sum_by-filter_both}
 
 abbrev pub one_if : Bool → ℕ
@@ -36,10 +36,10 @@ none_left p [] = refl
 none_left p (x ∷ xs) =
     let ih = none_left p xs in
     let step : (t : Bool) → p x ≡ t → count_by p (cond (not t) (x ∷ filter (λ y. not (p y)) xs) (filter (λ y. not (p y)) xs)) ≡ 0
-      = λ t. elim t as (λ t. p x ≡ t → count_by p (cond (not t) (x ∷ filter (λ y. not (p y)) xs) (filter (λ y. not (p y)) xs)) ≡ 0) [
-        | true ↦ λ e. ih
-        | false ↦ λ e. count_cons p x (filter (λ y. not (p y)) xs) ∙ (ap (λ b. one_if b + count_by p (filter (λ y. not (p y)) xs)) e ∙ omega (arith, ih))
-      ] in
+    = λ t. elim t as (λ t. p x ≡ t → count_by p (cond (not t) (x ∷ filter (λ y. not (p y)) xs) (filter (λ y. not (p y)) xs)) ≡ 0) [
+      | true ↦ λ e. ih
+      | false ↦ λ e. count_cons p x (filter (λ y. not (p y)) xs) ∙ (ap (λ b. one_if b + count_by p (filter (λ y. not (p y)) xs)) e ∙ omega (arith, ih))
+    ] in
     step (p x) refl
 
 pub filter_idle : {X : Type 0} (p : X → Bool) (xs : List X) → count_by p xs ≡ 0 → filter (λ x. not (p x)) xs ≡ xs
@@ -59,16 +59,16 @@ filters_swap {X} p q (x ∷ xs) =
     let ps = filter p xs in
     let qs = filter q xs in
     let step : (t u : Bool) → p x ≡ t → q x ≡ u → filter p (cond u (x ∷ filter q xs) (filter q xs)) ≡ filter q (cond t (x ∷ filter p xs) (filter p xs))
-      = λ t u. elim t as (λ t. p x ≡ t → q x ≡ u → filter p (cond u (x ∷ filter q xs) (filter q xs)) ≡ filter q (cond t (x ∷ filter p xs) (filter p xs))) [
-        | true ↦ λ e. elim u as (λ u. q x ≡ u → filter p (cond u (x ∷ filter q xs) (filter q xs)) ≡ filter q (x ∷ filter p xs)) [
-          | true ↦ λ f. rw (e, f) (ap (λ ys. x ∷ ys) ih)
-          | false ↦ λ f. rw f ih
-        ]
-        | false ↦ λ e. elim u as (λ u. q x ≡ u → filter p (cond u (x ∷ filter q xs) (filter q xs)) ≡ filter q (filter p xs)) [
-          | true ↦ λ f. rw e ih
-          | false ↦ λ f. ih
-        ]
-      ] in
+    = λ t u. elim t as (λ t. p x ≡ t → q x ≡ u → filter p (cond u (x ∷ filter q xs) (filter q xs)) ≡ filter q (cond t (x ∷ filter p xs) (filter p xs))) [
+      | true ↦ λ e. elim u as (λ u. q x ≡ u → filter p (cond u (x ∷ filter q xs) (filter q xs)) ≡ filter q (x ∷ filter p xs)) [
+        | true ↦ λ f. rw (e, f) (ap (λ ys. x ∷ ys) ih)
+        | false ↦ λ f. rw f ih
+      ]
+      | false ↦ λ e. elim u as (λ u. q x ≡ u → filter p (cond u (x ∷ filter q xs) (filter q xs)) ≡ filter q (filter p xs)) [
+        | true ↦ λ f. rw e ih
+        | false ↦ λ f. ih
+      ]
+    ] in
     step (p x) (q x) refl refl
 
 -- what passes both tests is counted in either order

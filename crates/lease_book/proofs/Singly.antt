@@ -1,11 +1,10 @@
 -- Leases of which at most one is held on a task.
-use Rattle.std.proofs.Common.{ℕ, ◌≡◌, ◌+◌, ◌≤◌, List, [], ◌∷◌, ◌++◌, Option, Some, None, Bool, true, false, not, cond, refl, sym, ap, ◌∙◌, subst, arith, length, filter, find, count_by, is_some, eqb, ltb, ◌&&◌, ◌||◌}
-use Rattle.std.specs.List.{reduce}
+use Rattle.std.proofs.Common.{ℕ, ◌≡◌, ◌+◌, ◌≤◌, List, [], ◌∷◌, ◌++◌, Option, Some, None, Bool, true, false, not, cond, refl, sym, ap, ◌∙◌, subst, arith, length, filter, count_by, is_some, eqb, ltb, ◌&&◌, ◌||◌}
 use Rattle.std.proofs.lemmas.Bool.{and_parts, and_from, eqb-true, eq-eqb}
-use Rattle.std.proofs.lemmas.List.Sums.{length-filter, count_by-le-length}
+use Rattle.std.proofs.lemmas.List.Sums.{length-filter}
 use Rattle.farm_kinds.specs.declared.outcomes.Task.{Task}
 use Rattle.farm_model.specs.declared.records.Lease.{Lease}
-use Rattle.farm_model.specs.Leases.{same_task, lease_on, without_task, has_ended, ended_at, left_after, is_task_before, earlier_of, first_due}
+use Rattle.farm_model.specs.Leases.{same_task, lease_on, without_task, has_ended, ended_at, is_task_before, earlier_of, first_due}
 use Rattle.lease_book.specs.Book.{IsSinglyLeased, NoneEnds, OneEnds}
 use Rattle.lease_book.proofs.Counts.{one_if, count_push, count_parts, length_kept, found_once, none_left, filter_idle, filters_swap, counts_swap, Picks, picked, none_picked}
 
@@ -29,15 +28,16 @@ pub some_of : (p : Lease → Bool) (xs : List Lease) → IsSinglyLeased xs → I
 some_of p xs h = record { most = λ task. omega (arith, count_parts p (on task) xs, h.most task) }
 
 pub one_more : (xs : List Lease) (lease : Lease) → IsSinglyLeased xs → count_by (on lease.task) xs ≡ 0 → IsSinglyLeased (xs ++ lease ∷ [])
-one_more xs lease h none = record { most = λ task.
-    let e = count_push (on task) xs lease in
-    let fits : (t : Bool) → same_task lease.task task ≡ t → count_by (on task) xs + one_if t ≤ 1
+one_more xs lease h none = record {
+  most = λ task.
+      let e = count_push (on task) xs lease in
+      let fits : (t : Bool) → same_task lease.task task ≡ t → count_by (on task) xs + one_if t ≤ 1
       = λ t. elim t as (λ t. same_task lease.task task ≡ t → count_by (on task) xs + one_if t ≤ 1) [
         | true ↦ λ s. let z : count_by (on task) xs ≡ 0 = subst (λ k. count_by (on k) xs ≡ 0) (task_is lease.task task s) none in omega (arith, z)
         | false ↦ λ s. omega (arith, h.most task)
       ] in
-    omega (arith, e, fits (same_task lease.task task) refl)
-  }
+      omega (arith, e, fits (same_task lease.task task) refl);
+}
 
 -- no lease is held on the task
 pub unheld : (xs : List Lease) (task : Task) → IsSinglyLeased xs → lease_on xs task ≡ None → count_by (on task) xs ≡ 0

@@ -2,7 +2,7 @@ ghost use Rattle.std.specs.Prelude.{◌≡◌, ◌+◌, ◌-◌, ◌<◌, ◌≤
 ghost use Rattle.farm_model.specs.Leases.{lease_on, held_count, with_lease, without_task, without_host, renewed, first_due};
 ghost use Rattle.lease_book.specs.Book.{empty_book, room, IsSinglyLeased, without_lease, without_judging, judging_count, NoneEnds, OneEnds};
 
-use crate::choose::{first_due, held_count, is_same_task, lease_on};
+use crate::lookup::{first_due, held_count, is_same_task, lease_on};
 use farm_kinds::{NoMemory, Task};
 use farm_model::Lease;
 use std::alloc::Global;

@@ -2,7 +2,7 @@
 #![tactic(auto)]
 
 mod book;
-mod choose;
+mod lookup;
 #[cfg(test)]
 mod tests;
 

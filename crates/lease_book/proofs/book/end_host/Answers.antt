@@ -1,4 +1,4 @@
-use Rattle.std.proofs.Common.{◌≡◌, rules, arith, not, ap, length, ◌==◌}
+use Rattle.std.proofs.Common.{rules, arith, not, ap, length}
 use Rattle.std.proofs.lemmas.Fn.{filter_same}
 use Rattle.farm_model.specs.Leases.{holds}
 use Rattle.lease_book.proofs.Counts.{length_kept}

@@ -1,4 +1,4 @@
-use Rattle.std.proofs.Common.{◌≡◌, rules, arith, not, ap, length}
+use Rattle.std.proofs.Common.{rules, arith, not, ap, length}
 use Rattle.std.proofs.lemmas.Fn.{filter_same}
 use Rattle.lease_book.proofs.Singly.{on, some_of, one_less}
 use Rattle.lease_book.proofs.book.end_task.Goals as goal

@@ -1,4 +1,4 @@
-use Rattle.std.proofs.Common.{◌≡◌, sym, ap, ◌∙◌, subst, arith, length}
+use Rattle.std.proofs.Common.{sym, ap, ◌∙◌, subst, arith, length}
 use Rattle.farm_model.specs.Leases.{first_due}
 use Rattle.lease_book.specs.Book.{Book, NoneEnds, OneEnds}
 use Rattle.lease_book.proofs.Singly.{IsDue, due, none_due}
@@ -7,7 +7,7 @@ use Rattle.lease_book.proofs.book.LeaseBook.due.Goals as goal
 pub returns-in_default-clause-none : goal.returns-in_default-clause-none
 returns-in_default-clause-none c =
     subst (λ (b : Book). NoneEnds b.leases c.args.now) c.self.view_is
-      (none_due c.self.inside.leases.items c.args.now (sym (ap (λ xs. first_due xs c.args.now) c.deref.ensures.value) ∙ sym c.first_due.ensures ∙ c.in_default.is))
+    (none_due c.self.inside.leases.items c.args.now (sym (ap (λ xs. first_due xs c.args.now) c.deref.ensures.value) ∙ sym c.first_due.ensures ∙ c.in_default.is))
 
 taken : (c : goal.After-end_task) → IsDue c.self.inside.leases.items c.args.now c.in-Some.lease
 taken c = due c.self.inside.leases.items c.args.now c.in-Some.lease c.self.invariant.single
