@@ -1,0 +1,10 @@
+//! The lease book: which host holds which task until when.
+#![tactic(auto)]
+
+mod book;
+mod lookup;
+#[cfg(test)]
+mod tests;
+
+pub use book::LeaseBook;
+pub use farm_model::Lease;
