@@ -14,7 +14,7 @@ use Rattle.farm_kinds.specs.RuleValue.{RuleValue}
 use Rattle.farm_kinds.specs.Kinds.{every_kind}
 use Rattle.farm_kinds.specs.Rules.{prio_of, verdict_of, place_of, remap_of, possible_kinds}
 use Rattle.farm_model.specs.Rows.{Row, completions_of, is_verdict, is_settled, settled_kind, kinds_of, full_kind, known_kind, answer_with, answer_of}
-use Rattle.lazy_stop.specs.Matters.{Fills, Settled, IsCompletion, Matters}
+use Rattle.lazy_stop.specs.Matters.{IsPossible, Fills, Settled, IsCompletion, Matters}
 use Rattle.lazy_stop.specs.RowFacts.{AllPossible, IsBest, BestIs, IsFirstEmpty, IsRow}
 use Rattle.lazy_stop.specs.ExtremeKinds.{Alone, IsExtremes}
 use Rattle.lazy_stop.proofs.ClosedForms.{has_rival, passes_best, may_change_verdict, deciding_kind}
@@ -59,6 +59,14 @@ remap_possible rule NoOutput = (4, lit< tt, refl)
 remap_possible rule OutputLimit = (5, lit< tt, refl)
 remap_possible rule MemoryLimit = (6, lit< tt, refl)
 remap_possible rule JudgingError = (7, lit< tt, refl)
+
+pub possible_of : (rule : RuleValue) (kind : Kind) → IsPossible rule kind → Contains (possible_kinds rule) kind
+unfolding IsPossible
+possible_of rule kind p = p
+
+pub remap_is_possible : (rule : RuleValue) (kind : Kind) → IsPossible rule (remap_of rule kind)
+unfolding IsPossible
+remap_is_possible rule kind = remap_possible rule kind
 
 -- each rule has a possible kind
 pub some_possible : (rule : RuleValue) → Contains (possible_kinds rule) (remap_of rule Correct)

@@ -1,5 +1,5 @@
 -- The list of all completions.
-use Rattle.std.proofs.Common.{suc, zero, ◌≡◌, List, [], ◌∷◌, Option, Some, None, Bool, true, false, cond, ◌&&◌, refl, sym, ap, ◌∙◌, subst, inl, inr, arith, ◌⊎◌, map}
+use Rattle.std.proofs.Common.{suc, zero, ◌≡◌, List, [], ◌∷◌, Some, None, Bool, true, false, cond, ◌&&◌, refl, sym, ap, ◌∙◌, subst, inl, inr, arith, ◌⊎◌, map}
 use Rattle.std.specs.List.{Contains, flat_map, list_all, find}
 use Rattle.std.proofs.lemmas.List.Elements.{Contains-append_left, Contains-append_right, Contains-append_cases}
 use Rattle.farm_kinds.specs.declared.kinds.Kind.{Kind}

@@ -7,6 +7,10 @@ use Rattle.farm_kinds.specs.RuleValue.{RuleValue}
 use Rattle.farm_kinds.specs.Rules.{possible_kinds, verdict_of}
 use Rattle.farm_model.specs.Rows.{Row, completions_of}
 
+-- a result can count as this kind
+unfoldable pub IsPossible : RuleValue → Kind → Type 0
+IsPossible rule kind = Contains (possible_kinds rule) kind
+
 -- these items stand in the row, each empty cell being filled with one of the possible items
 abbrev pub Fills : {X : Type 0} → List X → List (Option X) → List X → Type 0
 Fills possible [] [] = Unit {0}

@@ -8,7 +8,7 @@ ghost use Rattle.farm_kinds.specs.declared.outcomes.Mode.TheVariants.{Lazy, Full
 ghost use Rattle.farm_kinds.specs.declared.outcomes.Verdict.TheVariants.{Tests, CompilerError};
 ghost use Rattle.farm_kinds.specs.declared.outcomes.Answer.TheVariants.{Final, Pending};
 ghost use Rattle.farm_model.specs.Rows.{Row, completions_of, is_settled, kinds_of, answer_of};
-ghost use Rattle.lazy_stop.specs.Matters.{IsCompletion, SomeMatters, Extends};
+ghost use Rattle.lazy_stop.specs.Matters.{IsPossible, IsCompletion, SomeMatters, Extends};
 
 use farm_kinds::{Kind, Rule};
 
@@ -56,14 +56,14 @@ pub fn pending_iff_matters()
 /// Filling an empty cell with a possible kind keeps each settled verdict.
 pub fn filling_keeps_settled()
     ensures { (rule : RuleValue) (row : Row) (at : ℕ) (kind v : Kind)
-        → slice_get row at ≡ Some None → Contains (possible_kinds rule) kind
+        → slice_get row at ≡ Some None → IsPossible rule kind
         → IsTrue (is_settled rule row v) → IsTrue (is_settled rule (slice_set row at (Some kind)) v) }
 {}
 
 /// A final answer stays, whichever empty cell is filled next.
 pub fn filling_keeps_final()
     ensures { (rule : RuleValue) (row : Row) (at : ℕ) (kind v : Kind)
-        → slice_get row at ≡ Some None → Contains (possible_kinds rule) kind
+        → slice_get row at ≡ Some None → IsPossible rule kind
         → answer_of rule Lazy row ≡ Final (Tests v)
         → answer_of rule Lazy (slice_set row at (Some kind)) ≡ Final (Tests v) }
 {}
@@ -85,5 +85,5 @@ pub fn final_is_the_full_answer()
 
 /// What a kind counts as is possible: the condition of [`crate::Row::put`] for a remapped kind.
 pub fn remapped_is_possible(rule: &Rule, kind: Kind)
-    ensures { Contains (possible_kinds rule.now) (remap_of rule.now kind) }
+    ensures { IsPossible rule.now (remap_of rule.now kind) }
 {}

@@ -1,10 +1,8 @@
 ghost use Rattle.std.specs.Prelude.{ℕ, ◌≡◌, ◌≢◌, ◌<◌, ◌≤◌, ◌-◌, ◌↔◌, IsTrue, Some, None, length, replicate, slice_get, slice_set, List, Option, IfOk};
-ghost use Rattle.std.specs.List.{Contains};
-ghost use Rattle.farm_kinds.specs.Rules.{possible_kinds};
 ghost use Rattle.farm_kinds.specs.declared.kinds.Kind.{Kind};
 ghost use Rattle.farm_kinds.specs.RuleValue.{RuleValue};
 ghost use Rattle.farm_model.specs.Rows.{answer_of, is_settled};
-ghost use Rattle.lazy_stop.specs.Matters.{Matters};
+ghost use Rattle.lazy_stop.specs.Matters.{IsPossible, Matters};
 ghost use Rattle.lazy_stop.specs.RowFacts.{IsFirstEmpty, BestIs, IsRow};
 
 use crate::extremes::{Extremes, extremes_of};
@@ -76,11 +74,12 @@ impl Row {
     pub fn put(&mut self, rank: u16, kind: Kind) -> Put
         requires low { 0 < rank }
         requires high { rank ≤ length self.old.cells }
-        requires possible { Contains (possible_kinds self.old.rule) kind }
+        requires possible { IsPossible self.old.rule kind }
         ensures first { slice_get self.old.cells (rank - 1) ≡ Some None
             → (result ≡ Put.First) × (self.new ≡ record self.old { cells = slice_set self.old.cells (rank - 1) (Some kind) }) }
         ensures kept { (kept : Kind) → slice_get self.old.cells (rank - 1) ≡ Some (Some kept)
             → (result ≡ Put.Kept kept) × (self.new ≡ self.old) }
+        ensures same_rule { self.new.rule ≡ self.old.rule }
     {
         let at = rank as usize - 1;
         if let Some(kept) = self.cells[at] {
