@@ -1,5 +1,5 @@
 -- The laws of settled verdicts and of cells that matter.
-use Rattle.std.proofs.Common.{ℕ, ◌≡◌, ◌≢◌, ◌<◌, ◌↔◌, List, [], ◌∷◌, Option, Some, None, Bool, true, false, eqb, refl, sym, ap, ◌∙◌, subst, inl, inr, arith, length, ◌⊎◌, set, unwrap_or}
+use Rattle.std.proofs.Common.{ℕ, suc, zero, ◌≡◌, ◌≢◌, ◌<◌, ◌↔◌, List, [], ◌∷◌, Option, Some, None, Bool, true, false, eqb, refl, sym, ap, ◌∙◌, subst, inl, inr, arith, length, ◌⊎◌, set, unwrap_or}
 use Rattle.std.specs.List.{slice_get, Contains}
 use Rattle.std.specs.Option.{option_map}
 use Rattle.std.proofs.lemmas.Bool.{eqb-true, eqb-false}
@@ -16,7 +16,7 @@ use Rattle.lazy_stop.proofs.Firsts.{first_some}
 use Rattle.lazy_stop.proofs.Filling.{get-set_same, Fills-filled_by, filled_by, Fills-fewer}
 use Rattle.lazy_stop.proofs.Listing.{listed, fills_listed}
 use Rattle.lazy_stop.proofs.Walk.{walk}
-use Rattle.lazy_stop.proofs.Answering.{same_place, some_possible, settled_if, unsettled_if, settled_kind_is, settled_kind_none, Matters-from_turns, turns_from_Matters, turns_unsettled, answer_cells, settled_test}
+use Rattle.lazy_stop.proofs.Answering.{same_place, some_possible, settled_if, unsettled_if, settled_kind_is, settled_kind_none, Matters-from_turns, turns_from_Matters, turns_unsettled, answer_cells, settled_test, is_full, pending_when_open}
 
 same_option : (a b : Option Kind) → (a ≡ b) ⊎ (a ≢ b)
 same_option None None = inl refl
@@ -164,3 +164,36 @@ final_full rule (c ∷ cells) (d ∷ later) v kinds ne x final e =
     let settled : Settled rule (c ∷ cells) v = (lazy_final rule (c ∷ cells) v ne).0 final in
     let verdict : verdict_of rule kinds ≡ Some v = full_fold rule (c ∷ cells) (d ∷ later) v kinds x settled e in
     answer_cells rule Full (d ∷ later) (omega arith) ∙ ap (λ o. answer_with (full_kind rule o)) e ∙ ap answer_with verdict
+
+-- a row has an empty cell, or none
+some_empty : (cells : Row) → ((at : ℕ) × (slice_get cells at ≡ Some None)) ⊎ ((i : ℕ) → slice_get cells i ≢ Some None)
+some_empty [] = inr (λ i e. cc)
+some_empty (None ∷ cells) = inl (0, refl)
+some_empty (Some k ∷ cells) = elim (some_empty cells) [ inl h ↦ inl (suc h.0, h.1) | inr h ↦ inr (none_here k cells h) ]
+  where
+    none_here : (k : Kind) (cells : Row) → ((i : ℕ) → slice_get cells i ≢ Some None) → (i : ℕ) → slice_get (Some k ∷ cells) i ≢ Some None
+    none_here k cells h zero e = cc
+    none_here k cells h (suc i) e = h i e
+
+-- a completion of a row with cells has a verdict
+completion_verdict : (rule : RuleValue) (cells : Row) (kinds : List Kind) → cells ≢ [] → Fills (possible_kinds rule) cells kinds → (v : Kind) × (verdict_of rule kinds ≡ Some v)
+completion_verdict rule [] kinds ne f = absurd (ne refl)
+completion_verdict rule (c ∷ cells) [] ne f = absurd f
+completion_verdict rule (c ∷ cells) (k ∷ kinds) ne f = first_some (prio_of rule) k kinds
+
+-- in full mode the answer is pending where a cell is empty
+pub full_pending : (rule : RuleValue) (cells : Row) → cells ≢ [] → (answer_of rule Full cells ≡ Pending) ↔ ((at : ℕ) × (slice_get cells at ≡ Some None))
+full_pending rule cells ne = (empty, pending)
+  where
+    empty : answer_of rule Full cells ≡ Pending → (at : ℕ) × (slice_get cells at ≡ Some None)
+    empty e = elim (some_empty cells) [
+      | inl h ↦ h
+      | inr none ↦
+          let f = is_full (possible_kinds rule) cells none in
+          let v = completion_verdict rule cells f.0 ne f.2 in
+          let q : Pending ≡ Final (Tests v.0) = sym e ∙ answer_cells rule Full cells (has_cells cells ne) ∙ ap (λ o. answer_with (full_kind rule o)) f.1 ∙ ap answer_with v.1 in
+          cc
+    ]
+
+    pending : (at : ℕ) × (slice_get cells at ≡ Some None) → answer_of rule Full cells ≡ Pending
+    pending h = sym (pending_when_open rule cells h.0 (has_cells cells ne) h.1)

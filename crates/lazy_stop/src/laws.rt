@@ -53,6 +53,12 @@ pub fn pending_iff_matters()
         → (answer_of rule Lazy row ≡ Pending) ↔ SomeMatters rule row }
 {}
 
+/// In full mode the answer to a row with cells is pending exactly where a cell is empty.
+pub fn full_pending_iff_empty()
+    ensures { (rule : RuleValue) (row : Row) → row ≢ []
+        → (answer_of rule Full row ≡ Pending) ↔ ((at : ℕ) × (slice_get row at ≡ Some None)) }
+{}
+
 /// Filling an empty cell with a possible kind keeps each settled verdict.
 pub fn filling_keeps_settled()
     ensures { (rule : RuleValue) (row : Row) (at : ℕ) (kind v : Kind)

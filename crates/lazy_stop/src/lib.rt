@@ -14,7 +14,7 @@ mod tests;
 
 pub use laws::{
     completions_are_all, filling_keeps_final, filling_keeps_settled, final_iff_settled,
-    final_is_the_full_answer, pending_iff_matters, remapped_is_possible,
+    final_is_the_full_answer, full_pending_iff_empty, pending_iff_matters, remapped_is_possible,
     settled_is_every_completion, settled_is_the_full_verdict, unsettled_iff_matters, worked_rows,
 };
 pub use row::{Put, Row};
