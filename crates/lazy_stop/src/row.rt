@@ -47,7 +47,7 @@ impl Model for Row {
 pub enum Put {
     /// The cell was empty, and now holds the result.
     First,
-    /// The cell held this kind already, equal or not, and still does.
+    /// The cell held this kind, whether the result equals it or not, and still does.
     Kept(Kind),
 }
 
@@ -67,7 +67,7 @@ impl Row {
         })
     }
 
-    /// Fills the cell of a test, where it is empty. A cell that holds a kind keeps it.
+    /// Fills the cell of a test where it is empty. A cell that holds a kind keeps it.
     ///
     /// The kind is one that results count as, after `Rule::remap`; `remapped_is_possible` says so of
     /// it. Over all calls the row is walked at most once.
@@ -110,8 +110,8 @@ impl Row {
         may_change_verdict(&self.rule, self.extremes, self.best, rank as usize - 1)
     }
 
-    /// What is reported of the judging. Lazily, `Final` comes as soon as no outcome of the empty cells
-    /// can change the verdict, and in full mode once no cell is empty.
+    /// What is reported of the judging (DOMjudge manual, "Lazy judging"). Lazily, `Final` comes as soon
+    /// as no outcome of the empty cells can change the verdict, and in full mode once no cell is empty.
     pub fn answer(&self, mode: Mode) -> Answer
         requires { 0 < length self.now.cells }
         ensures { result ≡ answer_of self.now.rule mode self.now.cells }
