@@ -1,0 +1,11 @@
+pub mod Firsts
+pub mod Filling
+pub mod Deciding
+pub mod Walk
+pub mod Listing
+pub mod Mattering
+pub mod Answering
+pub mod GreatestAndLeast
+pub mod Putting
+pub mod LawLemmas
+pub mod ClosedForms

@@ -1,0 +1,5 @@
+pub mod Matters
+pub mod ExtremeKinds
+pub mod RowFacts
+pub mod RowValue
+pub mod RowShape

@@ -1,0 +1,20 @@
+//! Lazy stopping: a row of results, whether its verdict can still change, and which of its empty
+//! cells can change it (DOMjudge manual, "Lazy judging").
+//!
+//! A row is seen as a rule and a list of cells. Its verdict is settled once every way to fill its
+//! empty cells has that verdict. [`Row`] never forms one of these ways: it keeps its best filled cell,
+//! its first empty cell and three kinds of its rule, and answers in constant time.
+#![tactic(auto)]
+
+mod extremes;
+mod laws;
+mod row;
+#[cfg(test)]
+mod tests;
+
+pub use laws::{
+    completions_are_all, filling_keeps_final, filling_keeps_settled, final_iff_settled,
+    final_is_the_full_answer, full_pending_iff_empty, pending_iff_matters, remapped_is_possible,
+    settled_is_every_completion, settled_is_the_full_verdict, unsettled_iff_matters, worked_rows,
+};
+pub use row::{Put, Row};
