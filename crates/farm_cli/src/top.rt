@@ -9,6 +9,7 @@ ghost use Rattle.farm_cli.specs.CommandLine.{IsScript};
 use crate::exit::Exit;
 use farm_core::Farm;
 use farm_io::{Sink, Source};
+use farm_settings::Settings;
 use script_session::{ScriptEnd, run_script};
 use std::alloc::Global;
 
@@ -61,7 +62,7 @@ pub fn farm_main<S: Source, K: Sink>(
     if !is_script(words) {
         return Exit::Usage;
     }
-    let mut farm = Farm::new(alloc);
+    let mut farm = Farm::new(alloc, Settings::standard());
     match run_script(alloc, &mut farm, input, out) {
         ScriptEnd::Done => Exit::Done,
         ScriptEnd::ReadFault => Exit::ReadFault,

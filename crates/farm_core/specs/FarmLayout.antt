@@ -1,5 +1,5 @@
--- How a farm lies in memory. There are no hosts, no rejudgings and no audit texts, and nothing waits to be verified.
-use Rattle.std.specs.Prelude.{◌≤◌, [], false, length}
+-- How a farm lies in memory. There are no hosts, no rejudgings and no audit texts.
+use Rattle.std.specs.Prelude.{◌≤◌, [], length}
 use Rattle.farm_model.specs.State.{State}
 use Rattle.farm_core.specs.FarmShape.{AreShort}
 use Rattle.farm_core.specs.declared.farm.Farm.TheInside.{Inside}
@@ -7,7 +7,7 @@ use Rattle.farm_core.specs.declared.farm.Farm.TheInside.{Inside}
 abbrev pub farm_value : Inside → State
 farm_value a = record {
   judge = a.judge;
-  verification = false;
+  verification = a.verification;
   problems = a.problems.items;
   hosts = [];
   submissions = a.submissions.items;

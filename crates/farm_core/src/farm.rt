@@ -2,14 +2,15 @@ ghost use Rattle.std.specs.Prelude.{◌≡◌, ◌+◌, ◌++◌, ◌∷◌, [],
 ghost use Rattle.std.specs.Str.{bytes_eq};
 ghost use Rattle.farm_kinds.specs.declared.events.Event.TheVariants as event;
 ghost use Rattle.farm_model.specs.Numbered.{number_or_0};
-ghost use Rattle.farm_model.specs.State.{standard_settings, start, problem_number};
+ghost use Rattle.farm_model.specs.State.{start, problem_number};
 ghost use Rattle.farm_model.specs.Refusals.{count_reply};
 ghost use Rattle.farm_model.specs.Changes.{submitted, cells_for};
 ghost use Rattle.farm_model.specs.Farm.{Stepped};
 ghost use Rattle.farm_core.specs.FarmShape.{AreShort};
 
-use farm_kinds::{Class, Count, Event, Kind, Mode, Name, NoMemory, Reply, Rule};
+use farm_kinds::{Class, Count, Event, Kind, Name, NoMemory, Reply};
 use farm_model::{Filing, Problem, Submission};
+use farm_settings::Settings;
 use judging_core::Judge;
 use std::alloc::Global;
 use std::marker::Model;
@@ -25,6 +26,7 @@ const MAX_JUDGINGS: usize = 400_000;
 #[derive(Drop)]
 pub struct Farm {
     judge: Judge,
+    verification: bool,
     problems: Vec<Problem>,
     submissions: Vec<Submission>,
     filings: Vec<Filing>,
@@ -43,12 +45,13 @@ impl Model for Farm {
 }
 
 impl Farm {
-    /// The empty farm with the standard settings.
-    pub fn new(alloc: Global) -> Farm
-        ensures { result ≡ start standard_settings }
+    /// The empty farm with these settings.
+    pub fn new(alloc: Global, settings: Settings) -> Farm
+        ensures { result ≡ start settings }
     {
         Farm {
-            judge: Judge::new(alloc, Rule::standard(), Mode::Full, 60),
+            judge: Judge::new(alloc, settings.rule(), settings.mode(), settings.lease()),
+            verification: settings.verification(),
             problems: Vec::new(alloc),
             submissions: Vec::new(alloc),
             filings: Vec::new(alloc),

@@ -1,0 +1,6 @@
+//! What a contest sets.
+#![tactic(auto)]
+
+mod settings;
+
+pub use settings::Settings;
