@@ -1,5 +1,5 @@
 -- How settings lie in memory.
-use Rattle.std.specs.Prelude.{◌≡◌, ◌≤◌, ◌<◌, ◌^◌}
+use Rattle.std.specs.Prelude.{◌≡◌, ◌≤◌}
 use Rattle.farm_kinds.specs.declared.outcomes.Mode.TheVariants.{Full}
 use Rattle.farm_model.specs.State.{SettingsValue}
 use Rattle.farm_settings.specs.declared.settings.Settings.TheInside.{Inside}
