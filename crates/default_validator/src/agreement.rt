@@ -63,6 +63,7 @@ fn decimals_agree(tolerance: &Tolerance, answer: &[u8], output: &[u8]) -> bool
     numbers_agree(tolerance, judge, team)
 }
 
+/// Whether numbers may differ, by a relative or an absolute amount (an amount of 0 counts too).
 pub fn has_tolerance(tolerance: &Tolerance) -> bool
     ensures { result ≡ (is_some tolerance.now.relative || is_some tolerance.now.absolute) }
 {

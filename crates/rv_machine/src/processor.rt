@@ -86,6 +86,7 @@ impl Processor {
         self.memory.pages()
     }
 
+    /// What a register holds, of x0 to x31. x0 holds 0.
     pub fn register(&self, r: u8) -> u32
         requires { r < 32 }
         ensures { result ≡ slice_index self.now.regs r }
@@ -93,6 +94,7 @@ impl Processor {
         self.reg(r)
     }
 
+    /// Puts a value into a register. A value for x0 is let go (RISC-V Unprivileged ISA, "Programmers' Model").
     pub fn set_register(&mut self, r: u8, v: u32)
         requires { r < 32 }
         ensures { self.new ≡ record self.old { regs = hart.written self.old.regs r v } }
@@ -476,6 +478,7 @@ fn room_for(words: usize) -> usize
     }
 }
 
+/// The address of the next instruction, which is 0 behind the last word of the address space.
 #[inline(always)]
 pub fn next_pc(pc: u32) -> u32
     ensures value { result ≡ (pc + 4) % 2 ^ 32 }

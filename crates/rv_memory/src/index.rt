@@ -19,6 +19,7 @@ pub struct PageIndex {
 }
 
 impl PageIndex {
+    /// An index of no page. It takes no memory before a page is put in.
     pub fn new(alloc: Global) -> PageIndex
         ensures tops { result.tops.items ≡ [] }
         ensures leaves { result.leaves.items ≡ [] }

@@ -9,6 +9,7 @@ pub struct Page {
     pub bytes: [u8; 4096],
 }
 
+/// The bytes of a page that was touched and not stored to.
 #[tactic(auto, unfolding(crate::specs::Paged::zeros))]
 pub fn blank() -> [u8; 4096]
     ensures { result ≡ paged.zeros }
@@ -16,6 +17,7 @@ pub fn blank() -> [u8; 4096]
     [0; 4096]
 }
 
+/// The byte at the place of an address in its page, from 0 to 255.
 #[inline(always)]
 pub fn read8(bytes: &[u8; 4096], at: u32) -> u32
     ensures value { result ≡ slice_index bytes.now (at % 4096) }
@@ -24,6 +26,7 @@ pub fn read8(bytes: &[u8; 4096], at: u32) -> u32
     bytes[(at % 4096) as usize] as u32
 }
 
+/// The two bytes at the place of an even address in its page, the lowest first.
 #[inline(always)]
 pub fn read16(bytes: &[u8; 4096], at: u32) -> u32
     requires { at % 2 ≡ 0 }
@@ -34,6 +37,7 @@ pub fn read16(bytes: &[u8; 4096], at: u32) -> u32
     u16::from_le_bytes([bytes[offset], bytes[offset + 1]]) as u32
 }
 
+/// The four bytes at the place of an address that is a multiple of 4, the lowest first.
 #[inline(always)]
 pub fn read32(bytes: &[u8; 4096], at: u32) -> u32
     requires { at % 4 ≡ 0 }
@@ -48,6 +52,7 @@ pub fn read32(bytes: &[u8; 4096], at: u32) -> u32
     ])
 }
 
+/// Stores the low 8 bits of the value at the place of an address in its page.
 #[inline(always)]
 pub fn write8(bytes: &mut [u8; 4096], at: u32, value: u32)
     ensures { bytes.new ≡ slice_set bytes.old (at % 4096) (value % 0x100) }
@@ -55,6 +60,7 @@ pub fn write8(bytes: &mut [u8; 4096], at: u32, value: u32)
     bytes[(at % 4096) as usize] = (value % 0x100) as u8;
 }
 
+/// Stores the low 16 bits of the value at the place of an even address, the lowest byte first.
 #[inline(always)]
 pub fn write16(bytes: &mut [u8; 4096], at: u32, value: u32)
     requires { at % 2 ≡ 0 }
@@ -65,6 +71,7 @@ pub fn write16(bytes: &mut [u8; 4096], at: u32, value: u32)
     bytes[offset + 1] = (value / 0x100 % 0x100) as u8;
 }
 
+/// Stores the value at the place of an address that is a multiple of 4, the lowest byte first.
 #[inline(always)]
 pub fn write32(bytes: &mut [u8; 4096], at: u32, value: u32)
     requires { at % 4 ≡ 0 }

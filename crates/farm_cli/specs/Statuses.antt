@@ -1,0 +1,13 @@
+-- The exit statuses of the program.
+use Rattle.std.specs.Prelude.{ℕ}
+use Rattle.farm_cli.specs.declared.exit.Exit.{Exit}
+use Rattle.farm_cli.specs.declared.exit.Exit.TheVariants as exit
+
+-- 0 is done; the others name what went wrong, by the numbers that scripts of contest staff look at
+abbrev pub status_of : Exit → ℕ
+status_of exit.Done = 0
+status_of exit.Usage = 2
+status_of exit.ReadFault = 4
+status_of exit.WriteFault = 5
+status_of exit.Memory = 6
+status_of exit.InputLimit = 9
