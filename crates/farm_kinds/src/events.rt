@@ -1,8 +1,8 @@
 use crate::kinds::Kind;
 use crate::names::Name;
-use crate::outcomes::{Answer, Class};
+use crate::outcomes::{Answer, Class, Task};
 
-/// What a line asks of the farm.
+/// What a line, a host or a request asks of the farm.
 #[derive(Clone, Copy, Debug)]
 pub enum Event {
     /// Someone adds a problem with this many tests.
@@ -11,17 +11,53 @@ pub enum Event {
         name: Name,
         tests: u32,
     },
+    /// Someone gives a problem this many tests, in a version of its own. Judgings that are there keep their
+    /// cells.
+    Replace {
+        who: Name,
+        name: Name,
+        tests: u32,
+    },
+    /// A judgehost comes up, for the first time or again.
+    Host {
+        name: Name,
+    },
     /// A submission to a problem. It is broken where it has no image that could run.
     Submit {
         problem: Name,
         class: Class,
         broken: bool,
     },
+    /// A host asks for a task.
+    Claim {
+        host: Name,
+    },
+    /// A host's result of a task that was handed out.
+    Result {
+        host: Name,
+        judging: u32,
+        test: u32,
+        kind: Kind,
+    },
     /// A result from outside.
     Entry {
         judging: u32,
         test: u32,
         kind: Kind,
+    },
+    /// A host asks to hold the task for longer.
+    Renew {
+        host: Name,
+        judging: u32,
+        test: u32,
+    },
+    /// Time goes on to this moment, in seconds.
+    Tick {
+        moment: u64,
+    },
+    /// A host goes down, and its leases end.
+    Down {
+        host: Name,
     },
     /// What the jury sees of a judging.
     Show {
@@ -34,8 +70,14 @@ pub enum Event {
 pub enum Reply {
     /// The problem is known, in this version.
     Problem { name: Name, version: u32 },
+    /// The host is up.
+    Host { name: Name },
     /// The submission and its judging have these numbers.
     Submitted { submission: u32, judging: u32 },
+    /// The host holds the task until this moment, in seconds.
+    Handed { task: Task, until: u64 },
+    /// No task is open.
+    Nothing,
     /// The result counts.
     Counted,
     /// The cell holds this kind already.
@@ -44,20 +86,32 @@ pub enum Reply {
     Differs { kept: Kind, given: Kind },
     /// The judging was dropped, and takes no more results.
     Dropped,
+    /// The host holds the task until this moment, in seconds.
+    Until { until: u64 },
+    /// So many leases ended.
+    Ended { count: u32 },
     /// What is reported of the judging.
     Shown(Answer),
     /// A problem has from 1 to 1,000 tests.
     BadTests { tests: u32 },
-    /// The name is known.
+    /// The problem's name is known, or the host is up already.
     Known { name: Name },
     /// No problem has the name.
     NoProblem { name: Name },
+    /// No host that is up has the name.
+    NoHost { name: Name },
     /// There are as many as there may be.
     Full { limit: u32 },
+    /// The host holds as many leases as it may.
+    Holding { limit: u32 },
     /// No judging has the number.
     NoJudging { judging: u32 },
     /// The judging has no test of this rank.
     NoTest { test: u32 },
+    /// The task was never handed out.
+    NotHanded,
+    /// The host holds no lease on the task.
+    NoLease,
     /// No memory was left, and the event changed nothing.
     NoMemory,
 }

@@ -1,19 +1,25 @@
 //! The words of the domain: the kinds of results, names, the rule by which results give a verdict,
-//! limits of a run, and the events and replies of the farm.
+//! limits of a run, lists, and the events and replies of the farm.
 #![tactic(auto)]
 
 mod events;
 mod kinds;
 mod limits;
+mod lists;
 mod names;
 mod outcomes;
 mod rules;
+#[cfg(test)]
+mod tests;
 mod worked;
 
 pub use events::{Event, LineFault, Reply};
 pub use kinds::Kind;
 pub use limits::{Limits, raw_image};
+pub use lists::{Answers, MatrixRows, Numbers, Text};
 pub use names::Name;
-pub use outcomes::{Answer, Class, Count, Mode, NoMemory, Task, Verdict};
+pub use outcomes::{
+    Answer, Claim, Class, Count, How, MatrixRow, Mode, NoMemory, Renewed, Task, Verdict,
+};
 pub use rules::{Rule, RuleFault, verdict, verdict_with};
 pub use worked::{worked_images, worked_kinds, worked_names, worked_rules, worked_verdicts};

@@ -32,8 +32,11 @@ pub enum Answer {
 /// Which judgings are judged first.
 #[derive(Clone, Copy, Debug, PartialEq, Eq)]
 pub enum Class {
+    /// Before the others.
     High,
+    /// As a submission is judged where nothing else is said.
     Normal,
+    /// After the others.
     Low,
 }
 
@@ -62,6 +65,8 @@ pub enum Count {
     NoJudging,
     /// The judging has no test of this rank.
     NoTest,
+    /// The task was never handed out.
+    NotHanded,
     /// The test's cell holds this kind already, which the result repeats.
     Repeat { kept: Kind },
     /// The test's cell holds another kind, which stays.
@@ -70,4 +75,48 @@ pub enum Count {
     Dropped,
     /// The result counts.
     Counted,
+}
+
+/// What a host's claim of a task is answered.
+#[derive(Clone, Copy, Debug, PartialEq, Eq)]
+pub enum Claim {
+    /// The host holds as many leases as it may.
+    Holding,
+    /// No task is open.
+    Nothing,
+    /// The host holds the task until this moment, in seconds.
+    Handed { task: Task, until: u64 },
+}
+
+/// What becomes of the lease that a host asks to hold for longer.
+#[derive(Clone, Copy, Debug, PartialEq, Eq)]
+pub enum Renewed {
+    /// No judging has the number.
+    NoJudging,
+    /// The judging has no test of this rank.
+    NoTest,
+    /// The host holds no lease on the task.
+    NoLease,
+    /// The host holds the task until this moment, in seconds.
+    Until { until: u64 },
+}
+
+/// How a rejudging was closed.
+#[derive(Clone, Copy, Debug, PartialEq, Eq)]
+pub enum How {
+    /// Its judgings became the current ones.
+    Applied,
+    /// Its judgings were dropped.
+    Cancelled,
+}
+
+/// How often an answer became another one in a rejudging.
+#[derive(Clone, Copy, Debug, PartialEq, Eq)]
+pub struct MatrixRow {
+    /// What is reported of the member's old judging.
+    pub old: Answer,
+    /// What is reported of the member's new judging.
+    pub new: Answer,
+    /// How many members have this pair.
+    pub count: u32,
 }

@@ -1,22 +1,47 @@
 -- What each accepted event changes, and its reply.
-use Rattle.std.specs.Prelude.{ℕ, ◌+◌, List, [], ◌∷◌, ◌++◌, length, Option, None, Bool, false, if◌then◌else◌}
+use Rattle.std.specs.Prelude.{ℕ, ◌+◌, List, [], ◌∷◌, ◌++◌, length, Option, Some, None, Bool, true, false, if◌then◌else◌}
 use Rattle.std.specs.Option.{option_map}
 use Rattle.farm_kinds.specs.declared.outcomes.Class.{Class}
-use Rattle.farm_kinds.specs.declared.outcomes.Count.{Count}
 use Rattle.farm_kinds.specs.declared.events.Event.{Event}
 use Rattle.farm_kinds.specs.declared.events.Event.TheVariants as event
 use Rattle.farm_kinds.specs.declared.events.Reply.{Reply}
 use Rattle.farm_kinds.specs.declared.events.Reply.TheVariants as reply
 use Rattle.farm_model.specs.declared.records.Filing.{Filing}
 use Rattle.farm_model.specs.declared.records.Problem.{Problem}
-use Rattle.farm_model.specs.Numbered.{item_of, number_or_0}
-use Rattle.farm_model.specs.Judge.{JudgeState, add_judging, judge_enter}
-use Rattle.farm_model.specs.State.{State, problem_number, answer_at}
-use Rattle.farm_model.specs.Refusals.{count_reply}
+use Rattle.farm_model.specs.declared.records.Host.{Host}
+use Rattle.farm_model.specs.Numbered.{item_of, with_item, with_change, number_or_0}
+use Rattle.farm_model.specs.Judge.{JudgeState, add_judging, judge_claim, judge_result, judge_enter, judge_renew, judge_tick, judge_down}
+use Rattle.farm_model.specs.State.{State, problem_number, host_number, up_number, answer_at}
+use Rattle.farm_model.specs.Refusals.{version_of, claim_reply, count_reply, renewed_reply}
 
 -- a problem of version 1
 abbrev pub with_problem : State → List ℕ → ℕ → State
 with_problem s name tests = record s { problems = s.problems ++ (record { name = name; version = 1; tests = tests }) ∷ [] }
+
+abbrev pub next_version : ℕ → Problem → Problem
+next_version tests problem = record problem { version = problem.version + 1; tests = tests }
+
+-- the next version of the problem of this number
+abbrev pub with_version : State → ℕ → ℕ → State
+with_version s n tests = record s { problems = with_change s.problems n (next_version tests) }
+
+abbrev pub replaced : State → List ℕ → ℕ → ℕ → State × Reply
+replaced s name n tests = (with_version s n tests, reply.Problem name (version_of s.problems n + 1))
+
+abbrev pub host_as : List ℕ → Bool → Host
+host_as name up = record { name = name; up = up }
+
+-- the host is up, at the place that it has, or at the end
+abbrev pub hosts_with : List Host → List ℕ → Option ℕ → List Host
+hosts_with hosts name None = hosts ++ host_as name true ∷ []
+hosts_with hosts name (Some n) = with_item hosts n (host_as name true)
+
+abbrev pub with_host : State → List ℕ → State
+with_host s name = record s { hosts = hosts_with s.hosts name (host_number s.hosts name) }
+
+-- the host of this number is down
+abbrev pub without_host : State → List ℕ → ℕ → State
+without_host s name n = record s { hosts = with_item s.hosts n (host_as name false) }
 
 -- how many tests a problem has now
 abbrev pub tests_of : List Problem → ℕ → ℕ
@@ -45,13 +70,21 @@ submitted s problem class broken =
     with_new_judging (with_submission s problem broken) class (cells_for s.problems problem broken) (filing_of (length s.submissions + 1) None)
 
 -- the judge did this, and nothing else changed
-abbrev pub by_judge : State → ℕ → ℕ → JudgeState × Count → State × Reply
-by_judge s j test r = (record s { judge = r.0 }, count_reply j test r.1)
+abbrev pub by_judge : {R : Type 0} → State → (R → Reply) → JudgeState × R → State × Reply
+by_judge s replied r = (record s { judge = r.0 }, replied r.1)
 
 -- what an accepted event does, and its reply
 abbrev pub accepted : State → Event → State × Reply
 accepted s (event.Problem who name tests) = (with_problem s name tests, reply.Problem name 1)
+accepted s (event.Replace who name tests) = replaced s name (number_or_0 (problem_number s.problems name)) tests
+accepted s (event.Host name) = (with_host s name, reply.Host name)
 accepted s (event.Submit problem class broken) =
     (submitted s (number_or_0 (problem_number s.problems problem)) class broken, reply.Submitted (length s.submissions + 1) (length s.judge.judgings + 1))
-accepted s (event.Entry j test kind) = by_judge s j test (judge_enter s.judge j test kind)
+accepted s (event.Claim host) = by_judge s claim_reply (judge_claim s.judge (number_or_0 (up_number s.hosts host)))
+accepted s (event.Result host j test kind) = by_judge s (count_reply j test) (judge_result s.judge j test kind)
+accepted s (event.Entry j test kind) = by_judge s (count_reply j test) (judge_enter s.judge j test kind)
+accepted s (event.Renew host j test) = by_judge s (renewed_reply j test) (judge_renew s.judge (number_or_0 (up_number s.hosts host)) j test)
+accepted s (event.Tick moment) = by_judge s reply.Ended (judge_tick s.judge moment)
+accepted s (event.Down host) = let n = number_or_0 (up_number s.hosts host) in
+    by_judge (without_host s host n) reply.Ended (judge_down s.judge n)
 accepted s (event.Show j) = (s, reply.Shown (answer_at s j))

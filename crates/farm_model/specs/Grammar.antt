@@ -1,15 +1,16 @@
 -- The lines that are events.
-use Rattle.std.specs.Prelude.{ℕ, List, [], ◌∷◌, Option, Some, None, Result, Ok, Err, Bool, false, ◌==◌, if◌then◌else◌, codes}
+use Rattle.std.specs.Prelude.{ℕ, List, [], ◌∷◌, Option, Some, None, Result, Ok, Err, Bool, true, false, ◌==◌, if◌then◌else◌, codes}
 use Rattle.std.specs.Str.{bytes_eq}
 use Rattle.farm_kinds.specs.declared.events.Event.{Event}
 use Rattle.farm_kinds.specs.declared.events.Event.TheVariants as event
 use Rattle.farm_kinds.specs.declared.events.LineFault.{LineFault}
 use Rattle.farm_kinds.specs.declared.events.LineFault.TheVariants as fault
-use Rattle.farm_kinds.specs.declared.outcomes.Class.TheVariants.{Normal}
+use Rattle.farm_kinds.specs.declared.outcomes.Class.{Class}
+use Rattle.farm_kinds.specs.declared.outcomes.Class.TheVariants.{High, Normal, Low}
 use Rattle.farm_kinds.specs.Names.{name_read, jury}
 use Rattle.farm_kinds.specs.Kinds.{kind_named}
 use Rattle.farm_model.specs.Words.{words}
-use Rattle.farm_model.specs.Numbers.{number_of}
+use Rattle.farm_model.specs.Numbers.{number_of, moment_of}
 
 infixl 10 ◌>>=◌
 abbrev pub ◌>>=◌ : {A B : Type 0} → Option A → (A → Option B) → Option B
@@ -24,12 +25,65 @@ problem_line (name ∷ tests ∷ []) = do
   Some (event.Problem jury n t)
 problem_line ws = None
 
--- `submit NAME`
-abbrev pub submit_line : List (List ℕ) → Option Event
-submit_line (name ∷ []) = do
+-- `replace NAME N`
+abbrev pub replace_line : List (List ℕ) → Option Event
+replace_line (name ∷ tests ∷ []) = do
   n ← name_read name
-  Some (event.Submit n Normal false)
-submit_line ws = None
+  t ← number_of tests
+  Some (event.Replace jury n t)
+replace_line ws = None
+
+-- a line of one name
+abbrev pub name_line : (List ℕ → Event) → List (List ℕ) → Option Event
+name_line e (name ∷ []) = do
+  n ← name_read name
+  Some (e n)
+name_line e ws = None
+
+abbrev pub class_named : List ℕ → Option Class
+class_named word =
+    if bytes_eq word (codes "high") then Some High
+    else if bytes_eq word (codes "normal") then Some Normal
+    else if bytes_eq word (codes "low") then Some Low
+    else None
+
+-- nothing, or `broken`
+abbrev pub broken_words : List (List ℕ) → Option Bool
+broken_words [] = Some false
+broken_words (word ∷ []) = if bytes_eq word (codes "broken") then Some true else None
+broken_words ws = None
+
+-- what stands behind the name, whose first word is a class or none
+abbrev pub class_and_broken : Option Class → List (List ℕ) → List (List ℕ) → Option (Class × Bool)
+class_and_broken (Some class) all others = do
+  broken ← broken_words others
+  Some (class, broken)
+class_and_broken None all others = do
+  broken ← broken_words all
+  Some (Normal, broken)
+
+-- the class, `normal` if none is said, and whether the image is broken
+abbrev pub submit_words : List (List ℕ) → Option (Class × Bool)
+submit_words [] = Some (Normal, false)
+submit_words (word ∷ ws) = class_and_broken (class_named word) (word ∷ ws) ws
+
+-- `submit NAME [high or normal or low] [broken]`
+abbrev pub submit_line : List (List ℕ) → Option Event
+submit_line [] = None
+submit_line (name ∷ ws) = do
+  n ← name_read name
+  said ← submit_words ws
+  Some (event.Submit n said.0 said.1)
+
+-- `result HOST J T KIND`
+abbrev pub result_line : List (List ℕ) → Option Event
+result_line (host ∷ judging ∷ test ∷ kind ∷ []) = do
+  h ← name_read host
+  j ← number_of judging
+  t ← number_of test
+  k ← kind_named kind
+  Some (event.Result h j t k)
+result_line ws = None
 
 -- `record J T KIND`
 abbrev pub record_line : List (List ℕ) → Option Event
@@ -40,6 +94,22 @@ record_line (judging ∷ test ∷ kind ∷ []) = do
   Some (event.Entry j t k)
 record_line ws = None
 
+-- `renew HOST J T`
+abbrev pub renew_line : List (List ℕ) → Option Event
+renew_line (host ∷ judging ∷ test ∷ []) = do
+  h ← name_read host
+  j ← number_of judging
+  t ← number_of test
+  Some (event.Renew h j t)
+renew_line ws = None
+
+-- `tick N`
+abbrev pub tick_line : List (List ℕ) → Option Event
+tick_line (moment ∷ []) = do
+  m ← moment_of moment
+  Some (event.Tick m)
+tick_line ws = None
+
 -- `show J`
 abbrev pub show_line : List (List ℕ) → Option Event
 show_line (judging ∷ []) = do
@@ -47,14 +117,26 @@ show_line (judging ∷ []) = do
   Some (event.Show j)
 show_line ws = None
 
+-- the event of a host's line that begins with this word
+abbrev pub host_event_of : List ℕ → List (List ℕ) → Option Event
+host_event_of word ws =
+    if bytes_eq word (codes "host") then name_line event.Host ws
+    else if bytes_eq word (codes "claim") then name_line event.Claim ws
+    else if bytes_eq word (codes "result") then result_line ws
+    else if bytes_eq word (codes "renew") then renew_line ws
+    else if bytes_eq word (codes "down") then name_line event.Down ws
+    else None
+
 -- the event of a line that begins with this word
 abbrev pub event_of : List ℕ → List (List ℕ) → Option Event
 event_of word ws =
     if bytes_eq word (codes "problem") then problem_line ws
+    else if bytes_eq word (codes "replace") then replace_line ws
     else if bytes_eq word (codes "submit") then submit_line ws
     else if bytes_eq word (codes "record") then record_line ws
     else if bytes_eq word (codes "show") then show_line ws
-    else None
+    else if bytes_eq word (codes "tick") then tick_line ws
+    else host_event_of word ws
 
 -- a line whose first word begins with `#`
 abbrev pub is_comment : List ℕ → Bool

@@ -1,17 +1,23 @@
 -- What the judge keeps, and what each of its calls does.
-use Rattle.std.specs.Prelude.{ℕ, List, [], ◌∷◌, ◌++◌, Option}
+use Rattle.std.specs.Prelude.{ℕ, ◌+◌, ◌-◌, ◌^◌, min, max, List, [], ◌∷◌, ◌++◌, length, slice_get, Option, Some, None, nat_le}
 use Rattle.farm_kinds.specs.declared.kinds.Kind.{Kind}
 use Rattle.farm_kinds.specs.declared.outcomes.Answer.{Answer}
 use Rattle.farm_kinds.specs.declared.outcomes.Class.{Class}
 use Rattle.farm_kinds.specs.declared.outcomes.Mode.{Mode}
+use Rattle.farm_kinds.specs.declared.outcomes.Task.{Task}
+use Rattle.farm_kinds.specs.declared.outcomes.Claim.{Claim}
+use Rattle.farm_kinds.specs.declared.outcomes.Claim.TheVariants as claim
 use Rattle.farm_kinds.specs.declared.outcomes.Count.{Count}
 use Rattle.farm_kinds.specs.declared.outcomes.Count.TheVariants as count
+use Rattle.farm_kinds.specs.declared.outcomes.Renewed.{Renewed}
+use Rattle.farm_kinds.specs.declared.outcomes.Renewed.TheVariants as lease
 use Rattle.farm_kinds.specs.RuleValue.{RuleValue}
 use Rattle.farm_kinds.specs.Rules.{remap_of}
 use Rattle.farm_model.specs.declared.records.Lease.{Lease}
-use Rattle.farm_model.specs.Refusing.{refused_or}
-use Rattle.farm_model.specs.Leases.{without_task}
-use Rattle.farm_model.specs.Judgings.{Judging, empty_judging, task_of, answer_in, entry_refusal, with_result}
+use Rattle.farm_model.specs.Refusing.{when, unless, first_of, refused_or}
+use Rattle.farm_model.specs.Leases.{is_held_by, held_count, with_lease, without_task, without_host, renewed, ended_at, left_after}
+use Rattle.farm_model.specs.Judgings.{Judging, empty_judging, task_of, answer_in, is_judging, has_test, entry_refusal, result_refusal, with_result, with_handed}
+use Rattle.farm_model.specs.Open.{open_tasks}
 
 -- judgings are numbered from 1
 pub record JudgeState : Type 0 where
@@ -35,6 +41,36 @@ add_judging s class tests = record s { judgings = s.judgings ++ empty_judging cl
 abbrev pub answer_of_judging : JudgeState → ℕ → Option Answer
 answer_of_judging s j = answer_in s.rule s.mode s.judgings j
 
+-- Claims
+
+-- a host holds at most 64 leases
+abbrev pub claim_refusal : List Lease → ℕ → Option Claim
+claim_refusal leases host = when (nat_le 64 (held_count leases host)) claim.Holding
+
+-- the end of a lease that is granted or renewed now
+abbrev pub lease_end : JudgeState → ℕ
+lease_end s = s.now + s.lease
+
+abbrev pub hand_out : JudgeState → ℕ → Task → JudgeState
+hand_out s host task = record s {
+  judgings = with_handed s.judgings task;
+  leases = with_lease s.leases host task (lease_end s);
+}
+
+-- the task, where there is one, is handed out
+abbrev pub claimed : JudgeState → ℕ → Option Task → JudgeState × Claim
+claimed s host None = (s, claim.Nothing)
+claimed s host (Some task) = (hand_out s host task, claim.Handed task (lease_end s))
+
+-- the least open task by class, judging and test
+abbrev pub first_open : JudgeState → Option Task
+first_open s = slice_get (open_tasks s.rule s.mode s.judgings s.leases) 0
+
+abbrev pub judge_claim : JudgeState → ℕ → JudgeState × Claim
+judge_claim s host = refused_or s (claim_refusal s.leases host) (claimed s host (first_open s))
+
+-- Results
+
 -- the cell holds the kind, and the lease on the task goes
 abbrev pub counted : JudgeState → ℕ → ℕ → Kind → JudgeState × Count
 counted s j test kind =
@@ -44,3 +80,42 @@ counted s j test kind =
 abbrev pub judge_enter : JudgeState → ℕ → ℕ → Kind → JudgeState × Count
 judge_enter s j test kind = let given = remap_of s.rule kind in
     refused_or s (entry_refusal s.judgings j test given) (counted s j test given)
+
+-- a host's result, of a task that was handed out, counts as its remapped kind
+abbrev pub judge_result : JudgeState → ℕ → ℕ → Kind → JudgeState × Count
+judge_result s j test kind = let given = remap_of s.rule kind in
+    refused_or s (result_refusal s.judgings j test given) (counted s j test given)
+
+-- Leases
+
+abbrev pub renew_refusal : JudgeState → ℕ → ℕ → ℕ → Option Renewed
+renew_refusal s host j test = first_of (
+    unless (is_judging s.judgings j) lease.NoJudging
+    ∷ unless (has_test s.judgings j test) lease.NoTest
+    ∷ unless (is_held_by s.leases host (task_of j test)) lease.NoLease ∷ [])
+
+abbrev pub renew_lease : JudgeState → Task → JudgeState × Renewed
+renew_lease s task = (record s { leases = renewed s.leases task (lease_end s) }, lease.Until (lease_end s))
+
+-- the host holds the task until a lease from now ends
+abbrev pub judge_renew : JudgeState → ℕ → ℕ → ℕ → JudgeState × Renewed
+judge_renew s host j test = refused_or s (renew_refusal s host j test) (renew_lease s (task_of j test))
+
+-- time does not go on past this moment
+abbrev pub last_moment : ℕ
+last_moment = 10 ^ 18 - 1
+
+-- time goes on to the moment, and never back
+abbrev pub later_moment : ℕ → ℕ → ℕ
+later_moment now moment = max now (min moment last_moment)
+
+abbrev pub at_moment : JudgeState → ℕ → JudgeState × ℕ
+at_moment s now = (record s { now = now; leases = left_after s.leases now }, length (ended_at s.leases now))
+
+-- the leases that end by then go, and are counted
+abbrev pub judge_tick : JudgeState → ℕ → JudgeState × ℕ
+judge_tick s moment = at_moment s (later_moment s.now moment)
+
+-- the host's leases go, and are counted
+abbrev pub judge_down : JudgeState → ℕ → JudgeState × ℕ
+judge_down s host = (record s { leases = without_host s.leases host }, held_count s.leases host)

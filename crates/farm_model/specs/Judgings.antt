@@ -1,5 +1,5 @@
 -- Judgings: their rows, and what becomes of results (DOMjudge manual, "Judging").
-use Rattle.std.specs.Prelude.{ℕ, ◌-◌, List, [], ◌∷◌, replicate, slice_set, map, Option, Some, None, is_some, Bool, false, if◌then◌else◌, unwrap_or}
+use Rattle.std.specs.Prelude.{ℕ, ◌-◌, List, [], ◌∷◌, replicate, slice_set, map, Option, Some, None, is_some, Bool, true, false, if◌then◌else◌, unwrap_or}
 use Rattle.std.specs.Option.{option_map, option_and_then}
 use Rattle.farm_kinds.specs.declared.kinds.Kind.{Kind}
 use Rattle.farm_kinds.specs.declared.outcomes.Answer.{Answer}
@@ -57,11 +57,24 @@ kept_refusal judgings j test given = option_map (kept_count given) (unwrap_or (c
 abbrev pub is_dropped : List Judging → ℕ → Bool
 is_dropped judgings j = unwrap_or (option_map (λ judging. judging.dropped) (item_of judgings j)) false
 
+-- whether the task was ever handed out
+abbrev pub was_handed : List Judging → ℕ → ℕ → Bool
+was_handed judgings j test = unwrap_or (option_and_then (λ judging. item_of judging.handed test) (item_of judgings j)) false
+
 -- why a result from outside does not count
 abbrev pub entry_refusal : List Judging → ℕ → ℕ → Kind → Option Count
 entry_refusal judgings j test given = first_of (
     unless (is_judging judgings j) count.NoJudging
     ∷ unless (has_test judgings j test) count.NoTest
+    ∷ kept_refusal judgings j test given
+    ∷ when (is_dropped judgings j) count.Dropped ∷ [])
+
+-- why a host's result does not count; a late one counts like any other
+abbrev pub result_refusal : List Judging → ℕ → ℕ → Kind → Option Count
+result_refusal judgings j test given = first_of (
+    unless (is_judging judgings j) count.NoJudging
+    ∷ unless (has_test judgings j test) count.NoTest
+    ∷ unless (was_handed judgings j test) count.NotHanded
     ∷ kept_refusal judgings j test given
     ∷ when (is_dropped judgings j) count.Dropped ∷ [])
 
@@ -71,3 +84,10 @@ fill_cell test kind judging = record judging { row = slice_set judging.row (test
 -- the cell of this test of this judging holds the kind
 abbrev pub with_result : List Judging → ℕ → ℕ → Kind → List Judging
 with_result judgings j test kind = with_change judgings j (fill_cell test kind)
+
+abbrev pub mark_handed : ℕ → Judging → Judging
+mark_handed test judging = record judging { handed = slice_set judging.handed (test - 1) true }
+
+-- the task was handed out
+abbrev pub with_handed : List Judging → Task → List Judging
+with_handed judgings task = with_change judgings task.judging (mark_handed task.test)

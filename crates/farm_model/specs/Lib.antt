@@ -3,6 +3,7 @@ pub mod Rows
 pub mod Refusing
 pub mod Leases
 pub mod Judgings
+pub mod Open
 pub mod Judge
 pub mod State
 pub mod Refusals

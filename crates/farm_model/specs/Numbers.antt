@@ -1,5 +1,5 @@
 -- Numbers in lines.
-use Rattle.std.specs.Prelude.{ℕ, ◌+◌, ◌-◌, ◌*◌, List, [], ◌∷◌, Bool, false, ◌&&◌, ◌||◌, not, nat_le, ◌==◌, if◌then◌else◌, Option, Some, None, length}
+use Rattle.std.specs.Prelude.{ℕ, ◌+◌, ◌-◌, ◌*◌, ◌^◌, List, [], ◌∷◌, Bool, false, ◌&&◌, ◌||◌, not, nat_le, ◌==◌, if◌then◌else◌, Option, Some, None, length}
 use Rattle.std.specs.List.{list_all}
 use Rattle.std.specs.Option.{option_and_then}
 
@@ -29,3 +29,7 @@ at_most limit n = if nat_le n limit then Some n else None
 -- a number of a line: at most 4,294,967,295
 abbrev pub number_of : List ℕ → Option ℕ
 number_of word = option_and_then (at_most 4294967295) (whole_of word)
+
+-- a moment of a line: at most 18 digits
+abbrev pub moment_of : List ℕ → Option ℕ
+moment_of word = option_and_then (at_most (10 ^ 18 - 1)) (whole_of word)

@@ -1,17 +1,24 @@
 -- The refusals of each event, in their order.
-use Rattle.std.specs.Prelude.{ℕ, List, [], ◌∷◌, length, Option, is_some, Bool, ◌&&◌, nat_le}
+use Rattle.std.specs.Prelude.{ℕ, List, [], ◌∷◌, length, Option, None, is_some, is_none, Bool, ◌&&◌, nat_le}
 use Rattle.std.specs.Option.{option_map}
+use Rattle.farm_kinds.specs.declared.outcomes.Claim.{Claim}
+use Rattle.farm_kinds.specs.declared.outcomes.Claim.TheVariants as claim
 use Rattle.farm_kinds.specs.declared.outcomes.Count.{Count}
 use Rattle.farm_kinds.specs.declared.outcomes.Count.TheVariants as count
+use Rattle.farm_kinds.specs.declared.outcomes.Renewed.{Renewed}
+use Rattle.farm_kinds.specs.declared.outcomes.Renewed.TheVariants as lease
 use Rattle.farm_kinds.specs.declared.events.Event.{Event}
 use Rattle.farm_kinds.specs.declared.events.Event.TheVariants as event
 use Rattle.farm_kinds.specs.declared.events.Reply.{Reply}
 use Rattle.farm_kinds.specs.declared.events.Reply.TheVariants as reply
 use Rattle.farm_kinds.specs.Rules.{remap_of}
 use Rattle.farm_model.specs.declared.records.Problem.{Problem}
+use Rattle.farm_model.specs.declared.records.Host.{Host}
+use Rattle.farm_model.specs.Numbered.{item_of, number_or_0}
 use Rattle.farm_model.specs.Refusing.{when, unless, first_of}
-use Rattle.farm_model.specs.Judgings.{entry_refusal, is_judging}
-use Rattle.farm_model.specs.State.{State, problem_number}
+use Rattle.farm_model.specs.Judgings.{entry_refusal, result_refusal, is_judging}
+use Rattle.farm_model.specs.Judge.{claim_refusal, renew_refusal}
+use Rattle.farm_model.specs.State.{State, problem_number, host_number, up_number}
 
 -- as many as the limit are there
 abbrev pub is_full : {X : Type 0} → List X → ℕ → Bool
@@ -30,24 +37,72 @@ problem_refusal problems name tests = first_of (
     ∷ when (is_problem problems name) (reply.Known name)
     ∷ when (is_full problems 1000) (reply.Full 1000) ∷ [])
 
+-- the version of the problem of this number
+abbrev pub version_of : List Problem → ℕ → ℕ
+version_of problems n = number_or_0 (option_map (λ problem. problem.version) (item_of problems n))
+
+-- a problem has at most 1,000 versions
+abbrev pub replace_refusal : List Problem → List ℕ → ℕ → Option Reply
+replace_refusal problems name tests = first_of (
+    unless (is_test_count tests) (reply.BadTests tests)
+    ∷ unless (is_problem problems name) (reply.NoProblem name)
+    ∷ when (nat_le 1000 (version_of problems (number_or_0 (problem_number problems name)))) (reply.Full 1000) ∷ [])
+
+-- a host is known while it is up, and a new name needs a place
+abbrev pub host_refusal : List Host → List ℕ → Option Reply
+host_refusal hosts name = first_of (
+    when (is_some (up_number hosts name)) (reply.Known name)
+    ∷ when (is_none (host_number hosts name) && is_full hosts 1000) (reply.Full 1000) ∷ [])
+
 abbrev pub submit_refusal : State → List ℕ → Option Reply
 submit_refusal s problem = first_of (
     unless (is_problem s.problems problem) (reply.NoProblem problem)
     ∷ when (is_full s.submissions 100000) (reply.Full 100000)
     ∷ when (is_full s.judge.judgings 400000) (reply.Full 400000) ∷ [])
 
+-- a host that is down, or was never entered, is none
+abbrev pub no_host : List Host → List ℕ → Option Reply
+no_host hosts host = unless (is_some (up_number hosts host)) (reply.NoHost host)
+
+-- what a claim is answered, as a reply
+abbrev pub claim_reply : Claim → Reply
+claim_reply claim.Holding = reply.Holding 64
+claim_reply claim.Nothing = reply.Nothing
+claim_reply (claim.Handed task until) = reply.Handed task until
+
 -- what becomes of a result of this test, as a reply
 abbrev pub count_reply : ℕ → ℕ → Count → Reply
 count_reply j test count.NoJudging = reply.NoJudging j
 count_reply j test count.NoTest = reply.NoTest test
+count_reply j test count.NotHanded = reply.NotHanded
 count_reply j test (count.Repeat kept) = reply.Repeat kept
 count_reply j test (count.Differs kept given) = reply.Differs kept given
 count_reply j test count.Dropped = reply.Dropped
 count_reply j test count.Counted = reply.Counted
 
+-- what becomes of the lease on this test, as a reply
+abbrev pub renewed_reply : ℕ → ℕ → Renewed → Reply
+renewed_reply j test lease.NoJudging = reply.NoJudging j
+renewed_reply j test lease.NoTest = reply.NoTest test
+renewed_reply j test lease.NoLease = reply.NoLease
+renewed_reply j test (lease.Until until) = reply.Until until
+
 -- the refusal of an event, where it is refused
 abbrev pub refusal_of : State → Event → Option Reply
 refusal_of s (event.Problem who name tests) = problem_refusal s.problems name tests
+refusal_of s (event.Replace who name tests) = replace_refusal s.problems name tests
+refusal_of s (event.Host name) = host_refusal s.hosts name
 refusal_of s (event.Submit problem class broken) = submit_refusal s problem
+refusal_of s (event.Claim host) = first_of (
+    no_host s.hosts host
+    ∷ option_map claim_reply (claim_refusal s.judge.leases (number_or_0 (up_number s.hosts host))) ∷ [])
+refusal_of s (event.Result host j test kind) = first_of (
+    no_host s.hosts host
+    ∷ option_map (count_reply j test) (result_refusal s.judge.judgings j test (remap_of s.judge.rule kind)) ∷ [])
 refusal_of s (event.Entry j test kind) = option_map (count_reply j test) (entry_refusal s.judge.judgings j test (remap_of s.judge.rule kind))
+refusal_of s (event.Renew host j test) = first_of (
+    no_host s.hosts host
+    ∷ option_map (renewed_reply j test) (renew_refusal s.judge (number_or_0 (up_number s.hosts host)) j test) ∷ [])
+refusal_of s (event.Tick moment) = None
+refusal_of s (event.Down host) = no_host s.hosts host
 refusal_of s (event.Show j) = unless (is_judging s.judge.judgings j) (reply.NoJudging j)

@@ -36,8 +36,15 @@ answered s (e ∷ es) = (e, reply_to s e) ∷ answered (farm_step s e).0 es
 -- the task and the kind that an event gives a result of
 abbrev pub given_by : Event → Option (Task × Kind)
 given_by (event.Problem who name tests) = None
+given_by (event.Replace who name tests) = None
+given_by (event.Host name) = None
 given_by (event.Submit problem class broken) = None
+given_by (event.Claim host) = None
+given_by (event.Result host j test kind) = Some (task_of j test, kind)
 given_by (event.Entry j test kind) = Some (task_of j test, kind)
+given_by (event.Renew host j test) = None
+given_by (event.Tick moment) = None
+given_by (event.Down host) = None
 given_by (event.Show j) = None
 
 abbrev pub if_counted : Reply → Option (Task × Kind) → Option (Task × Kind)

@@ -1,7 +1,7 @@
 -- Rows of results, their completions, and what is reported of them
 -- (DOMjudge manual, "Lazy judging": a verdict is final once no other result can change it).
-use Rattle.std.specs.Prelude.{List, [], ◌∷◌, map, Option, Some, None, Bool, false, ◌==◌, find, flat_map}
-use Rattle.std.specs.List.{list_all}
+use Rattle.std.specs.Prelude.{ℕ, ◌-◌, List, [], ◌∷◌, map, slice_set, Option, Some, None, Bool, true, false, not, ◌==◌, find, flat_map}
+use Rattle.std.specs.List.{list_all, list_any}
 use Rattle.std.specs.Option.{option_map}
 use Rattle.farm_kinds.specs.declared.kinds.Kind.{Kind}
 use Rattle.farm_kinds.specs.declared.outcomes.Verdict.TheVariants.{Tests, CompilerError}
@@ -12,6 +12,7 @@ use Rattle.farm_kinds.specs.declared.outcomes.Mode.TheVariants.{Lazy, Full}
 use Rattle.farm_kinds.specs.RuleValue.{RuleValue}
 use Rattle.farm_kinds.specs.Kinds.{every_kind}
 use Rattle.farm_kinds.specs.Rules.{verdict_of, possible_kinds, place_of}
+use Rattle.farm_model.specs.Numbered.{item_of}
 
 -- one cell per test in rank order: empty, or the kind of its result after remapping
 abbrev pub Row : Type 0
@@ -71,3 +72,24 @@ answer_with (Some kind) = Final (Tests kind)
 abbrev pub answer_of : RuleValue → Mode → Row → Answer
 answer_of rule mode [] = Final CompilerError
 answer_of rule mode (cell ∷ row) = answer_with (known_kind rule mode (cell ∷ row))
+
+-- Cells that matter
+
+abbrev pub same_verdict : Option Kind → Option Kind → Bool
+same_verdict None None = true
+same_verdict None (Some b) = false
+same_verdict (Some a) other = is_verdict a other
+
+-- another possible kind for this test alone gives the kinds another verdict
+abbrev pub depends_on : RuleValue → List Kind → ℕ → Bool
+depends_on rule kinds test =
+    list_any (λ kind. not (same_verdict (verdict_of rule kinds) (verdict_of rule (slice_set kinds (test - 1) kind)))) (possible_kinds rule)
+
+abbrev pub matters_at : RuleValue → Row → ℕ → Option (Option Kind) → Bool
+matters_at rule row test None = false
+matters_at rule row test (Some None) = list_any (λ kinds. depends_on rule kinds test) (completions_of rule row)
+matters_at rule row test (Some (Some kind)) = false
+
+-- the cell of this test is empty, and two completions that differ there alone have different verdicts
+abbrev pub matters : RuleValue → Row → ℕ → Bool
+matters rule row test = matters_at rule row test (item_of row test)

@@ -1,5 +1,5 @@
 -- What the farm keeps.
-use Rattle.std.specs.Prelude.{ℕ, List, [], Option, Bool, false, unwrap_or}
+use Rattle.std.specs.Prelude.{ℕ, List, [], ◌&&◌, Option, Bool, false, unwrap_or}
 use Rattle.std.specs.Str.{bytes_eq}
 use Rattle.farm_kinds.specs.declared.outcomes.Answer.{Answer}
 use Rattle.farm_kinds.specs.declared.outcomes.Answer.TheVariants.{Pending}
@@ -59,6 +59,13 @@ start s = record {
 
 abbrev pub problem_number : List Problem → List ℕ → Option ℕ
 problem_number problems name = number_where (λ problem. bytes_eq problem.name name) problems
+
+abbrev pub host_number : List Host → List ℕ → Option ℕ
+host_number hosts name = number_where (λ host. bytes_eq host.name name) hosts
+
+-- the number of the host of this name, where it is up
+abbrev pub up_number : List Host → List ℕ → Option ℕ
+up_number hosts name = number_where (λ host. bytes_eq host.name name && host.up) hosts
 
 -- what the jury sees of a judging; pending where there is none
 abbrev pub answer_at : State → ℕ → Answer

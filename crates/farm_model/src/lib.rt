@@ -14,6 +14,8 @@ pub use leases::worked_leases;
 pub use members::Members;
 pub use records::{Filing, Host, Lease, Member, Problem, RejudgeState, Rejudging, Submission};
 pub use worked::{
-    answers_to_rows, empty_input, greatest_priority_decides, lines_and_comments, refusals,
-    repeated_different, smallest_path, too_long, words_and_numbers,
+    answers_to_rows, broken_image, cells_that_matter, classes, death_and_return, empty_input,
+    event_lines, greatest_priority_decides, late_repeated_different, lines_and_comments,
+    lines_of_hosts, one_before_the_end, refusals, refusals_of_hosts, repeated_different,
+    replaced_problem, smallest_path, too_long, words_and_numbers,
 };

@@ -1,11 +1,15 @@
-ghost use Rattle.std.specs.Prelude.{◌≡◌, [], ◌∷◌, Some, None, codes, replicate};
+ghost use Rattle.std.specs.Prelude.{◌≡◌, [], ◌∷◌, Some, None, codes, replicate, true, false};
 ghost use Rattle.farm_kinds.specs.declared.kinds.Kind.TheVariants.{Correct, WrongAnswer, RunError};
 ghost use Rattle.farm_kinds.specs.declared.outcomes.Verdict.TheVariants.{Tests, CompilerError};
 ghost use Rattle.farm_kinds.specs.declared.outcomes.Answer.TheVariants.{Final, Pending};
 ghost use Rattle.farm_kinds.specs.declared.outcomes.Mode.TheVariants.{Lazy, Full};
+ghost use Rattle.farm_kinds.specs.declared.outcomes.Class.TheVariants.{Normal, Low};
+ghost use Rattle.farm_kinds.specs.declared.events.Event.TheVariants as event;
+ghost use Rattle.farm_kinds.specs.Names.{jury};
 ghost use Rattle.farm_kinds.specs.Rules.{standard};
 ghost use Rattle.farm_model.specs.Numbers.{number_of};
-ghost use Rattle.farm_model.specs.Rows.{answer_of};
+ghost use Rattle.farm_model.specs.Rows.{answer_of, matters};
+ghost use Rattle.farm_model.specs.Texts.{event_text};
 ghost use Rattle.farm_model.specs.Words.{words};
 ghost use Rattle.farm_model.specs.State.{standard_settings};
 ghost use Rattle.farm_model.specs.Script.{script_output};
@@ -53,16 +57,83 @@ pub fn repeated_different()
         ≡ codes "problem A version 1\nsubmission 1 judging 1\ncounted\nrepeat correct\ndiffers correct timelimit\nfinal correct\n" }
 {}
 
+/// A result that is late counts; one that comes again or comes otherwise does not.
+pub fn late_repeated_different()
+    ensures { script_output standard_settings (codes "problem A 3\nhost h1\nhost h2\nsubmit A\nclaim h1\ntick 60\nclaim h2\nresult h1 1 1 correct\nrenew h2 1 1\nresult h2 1 1 correct\nresult h2 1 1 timelimit\nresult h2 1 2 correct\n")
+        ≡ codes "problem A version 1\nhost h1\nhost h2\nsubmission 1 judging 1\ntask 1 1 until 60\nended 1\ntask 1 1 until 120\ncounted\nno-lease\nrepeat correct\ndiffers correct timelimit\nnot-handed\n" }
+{}
+
+/// A lease is held until its end, and time never goes back.
+pub fn one_before_the_end()
+    ensures { script_output standard_settings (codes "problem A 3\nhost h1\nhost h2\nsubmit A\nclaim h1\ntick 59\nclaim h2\nrenew h1 1 1\ntick 10\n")
+        ≡ codes "problem A version 1\nhost h1\nhost h2\nsubmission 1 judging 1\ntask 1 1 until 60\nended 0\ntask 1 2 until 119\nuntil 119\nended 0\n" }
+{}
+
+/// A host that goes down loses its leases, and may come up again.
+pub fn death_and_return()
+    ensures { script_output standard_settings (codes "problem A 3\nhost h1\nhost h2\nsubmit A\nclaim h1\nclaim h1\ndown h1\nclaim h1\nclaim h2\nhost h1\nclaim h1\nhost h1\n")
+        ≡ codes "problem A version 1\nhost h1\nhost h2\nsubmission 1 judging 1\ntask 1 1 until 60\ntask 1 2 until 60\nended 2\nno-host h1\ntask 1 1 until 60\nhost h1\ntask 1 2 until 60\nknown h1\n" }
+{}
+
+/// A submission that is broken is final from the start, and has no tests.
+pub fn broken_image()
+    ensures { script_output standard_settings (codes "problem A 3\nsubmit A\nsubmit A broken\nshow 2\nrecord 2 1 correct\n")
+        ≡ codes "problem A version 1\nsubmission 1 judging 1\nsubmission 2 judging 2\nfinal compiler-error\nno-test 1\n" }
+{}
+
+/// Classes are judged in their order, and each in the order of its judgings.
+pub fn classes()
+    ensures { script_output standard_settings (codes "problem A 1\nhost h1\nsubmit A low\nsubmit A\nsubmit A high\nclaim h1\nclaim h1\nclaim h1\nclaim h1\n")
+        ≡ codes "problem A version 1\nhost h1\nsubmission 1 judging 1\nsubmission 2 judging 2\nsubmission 3 judging 3\ntask 3 1 until 60\ntask 2 1 until 60\ntask 1 1 until 60\nnothing\n" }
+{}
+
+/// A new version of a problem gives later judgings its tests, and leaves the others alone.
+pub fn replaced_problem()
+    ensures { script_output standard_settings (codes "problem A 2\nsubmit A\nreplace A 1\nsubmit A\nrecord 1 2 correct\nrecord 2 2 correct\n")
+        ≡ codes "problem A version 1\nsubmission 1 judging 1\nproblem A version 2\nsubmission 2 judging 2\ncounted\nno-test 2\n" }
+{}
+
 /// What is refused, and why.
 pub fn refusals()
     ensures { script_output standard_settings (codes "problem A 0\nproblem A 3\nproblem A 2\nproblem B 1001\nsubmit B\nsubmit\nshow 01\nshow 9\nsubmit A\nrecord 1 4 correct\nrecord 1 1 fine\nclaim h1\n")
-        ≡ codes "bad-line\nproblem A version 1\nbad-line\nbad-line\nno-problem B\nbad-line\nbad-line\nno-judging 9\nsubmission 1 judging 1\nno-test 4\nbad-line\nbad-line\n" }
+        ≡ codes "bad-tests 0\nproblem A version 1\nknown A\nbad-tests 1001\nno-problem B\nbad-line\nbad-line\nno-judging 9\nsubmission 1 judging 1\nno-test 4\nbad-line\nno-host h1\n" }
+{}
+
+/// What hosts are refused, and in which order.
+pub fn refusals_of_hosts()
+    ensures { script_output standard_settings (codes "replace A 0\nreplace A 1\nresult h 1 1 correct\nrenew h 1 1\ndown h\nhost h\nresult h 1 1 correct\nrenew h 1 1\nproblem A 1\nsubmit A\nresult h 1 2 correct\nrenew h 1 2\nresult h 1 1 correct\nrenew h 1 1\n")
+        ≡ codes "bad-tests 0\nno-problem A\nno-host h\nno-host h\nno-host h\nhost h\nno-judging 1\nno-judging 1\nproblem A version 1\nsubmission 1 judging 1\nno-test 2\nno-test 2\nnot-handed\nno-lease\n" }
 {}
 
 /// Which lines are events: comments and empty lines are none, and spaces do not count.
 pub fn lines_and_comments()
     ensures { script_output standard_settings (codes "# problem A 1\n   \n  #x\n\r\n  problem   A  1 \r\nshow 1 1\nshow\n show 1 #\nSHOW 1\nsubmit A.B\nproblem C 4294967296\nrecord 1 1")
         ≡ codes "problem A version 1\nbad-line\nbad-line\nbad-line\nbad-line\nbad-line\nbad-line\nbad-line\n" }
+{}
+
+/// Which lines of hosts and submissions are events.
+pub fn lines_of_hosts()
+    ensures { script_output standard_settings (codes "tick 999999999999999999\ntick 1000000000000000000\ntick 01\ntick\nhost\nhost h h\nclaim h h\nresult h 1 1\nrenew h 1\ndown\nsubmit A low broken\nsubmit A broken low\nsubmit A normal\nsubmit A high high\n@ann problem A 1\nboard\naudit\n")
+        ≡ codes "ended 0\nbad-line\nbad-line\nbad-line\nbad-line\nbad-line\nbad-line\nbad-line\nbad-line\nbad-line\nno-problem A\nbad-line\nno-problem A\nbad-line\nbad-line\nbad-line\nbad-line\n" }
+{}
+
+/// Events as lines: `normal` is not written, and who acts is where it is not the jury.
+pub fn event_lines()
+    ensures named { event_text (event.Problem (codes "ann") (codes "A") 2) ≡ codes "@ann problem A 2" }
+    ensures unnamed { event_text (event.Replace jury (codes "A") 2) ≡ codes "replace A 2" }
+    ensures class { event_text (event.Submit (codes "A") Low true) ≡ codes "submit A low broken" }
+    ensures normal { event_text (event.Submit (codes "A") Normal false) ≡ codes "submit A" }
+    ensures result { event_text (event.Result (codes "h1") 1 2 RunError) ≡ codes "result h1 1 2 run-error" }
+    ensures moment { event_text (event.Tick 60) ≡ codes "tick 60" }
+{}
+
+/// Cells that matter: one that can still decide the verdict.
+pub fn cells_that_matter()
+    ensures decided { matters standard (Some RunError ∷ None ∷ []) 2 ≡ false }
+    ensures earlier { matters standard (None ∷ Some RunError ∷ []) 1 ≡ true }
+    ensures middle { matters standard (Some WrongAnswer ∷ None ∷ []) 2 ≡ true }
+    ensures filled { matters standard (Some Correct ∷ None ∷ []) 1 ≡ false }
+    ensures absent { matters standard (None ∷ []) 2 ≡ false }
 {}
 
 /// A line of 4,097 letters is skipped, and its length is answered.
