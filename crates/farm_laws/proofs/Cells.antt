@@ -1,5 +1,5 @@
 -- The cells of judgings, and what each event does to them.
-use Rattle.std.proofs.Common.{ℕ, zero, suc, ◌≡◌, ◌≢◌, ◌-◌, List, [], ◌∷◌, ◌++◌, Option, Some, None, Bool, true, false, cond, eqb, ◌&&◌, refl, sym, ap, ◌∙◌, set, slice_get, replicate}
+use Rattle.std.proofs.Common.{ℕ, zero, suc, ◌≡◌, ◌≢◌, ◌-◌, List, [], ◌∷◌, ◌++◌, Option, Some, None, Bool, true, false, cond, eqb, ◌&&◌, refl, sym, ap, ◌∙◌, subst, set, slice_get, replicate}
 use Rattle.std.specs.Prelude.{nat_lt}
 use Rattle.std.specs.Option.{option_map, option_and_then, option_or, unwrap_or, is_some}
 use Rattle.std.proofs.lemmas.Bool.{eqb-true, eqb-false}
@@ -9,10 +9,10 @@ use Rattle.farm_kinds.specs.declared.outcomes.Count.{Count}
 use Rattle.farm_kinds.specs.declared.outcomes.Count.TheVariants as count
 use Rattle.farm_kinds.specs.declared.events.Reply.TheVariants as reply
 use Rattle.farm_model.specs.Numbered.{item_of, change_item}
-use Rattle.farm_model.specs.Refusing.{when, unless, first_of, refused_or}
+use Rattle.farm_model.specs.Refusing.{when, unless, first_of}
 use Rattle.farm_model.specs.Rows.{Row, same_kind}
 use Rattle.farm_model.specs.Leases.{same_task}
-use Rattle.farm_model.specs.Judgings.{Judging, empty_judging, task_of, cell_of, is_judging, has_test, kept_count, is_dropped, entry_refusal, fill_cell, with_result}
+use Rattle.farm_model.specs.Judgings.{Judging, empty_judging, task_of, cell_of, is_judging, has_test, kept_count, is_dropped, was_handed, entry_refusal, result_refusal, fill_cell, with_result}
 use Rattle.farm_model.specs.Refusals.{count_reply}
 use Rattle.farm_laws.proofs.Items.{item_at, with_same, with_other}
 
@@ -22,41 +22,63 @@ cell_at judgings j t = unwrap_or (cell_of judgings j t) None
 
 -- Refusals
 
--- refused, or done
-pub outcome_cases : {S R : Type 0} (P : S × R → Type 0) (s : S) (r : Option R) (done : S × R) → ((x : R) → r ≡ Some x → P (s, x)) → (r ≡ None → P done) → P (refused_or s r done)
-outcome_cases P s None done no_ done_ = done_ refl
-outcome_cases P s (Some x) done no_ done_ = no_ x refl
+-- why a result does not count: a, b and h are whether its judging and its test are there and its task was
+-- handed out, d whether the judging was dropped, and k is the kind that its cell keeps
+abbrev count_refusal : (a b h d : Bool) → Option Kind → Kind → Option Count
+count_refusal a b h d k given = first_of (
+    unless a count.NoJudging ∷ unless b count.NoTest ∷ unless h count.NotHanded ∷ option_map (kept_count given) k ∷ when d count.Dropped ∷ [])
 
-refused_other : (b : Bool) (kept given : Kind) → cond b (count.Repeat kept) (count.Differs kept given) ≢ count.Counted
-refused_other true kept given = λ e. cc
-refused_other false kept given = λ e. cc
+kept_other : (b : Bool) (kept given : Kind) → cond b (count.Repeat kept) (count.Differs kept given) ≢ count.Counted
+kept_other true kept given = λ e. cc
+kept_other false kept given = λ e. cc
 
--- what a result is refused with is never that it counts
-refusal_other : (a b d : Bool) (k : Option Kind) (given : Kind) (c : Count)
-    → first_of (unless a count.NoJudging ∷ unless b count.NoTest ∷ option_map (kept_count given) k ∷ when d count.Dropped ∷ []) ≡ Some c → c ≢ count.Counted
-refusal_other false b d k given c h = λ e. cc
-refusal_other true false d k given c h = λ e. cc
-refusal_other true true d (Some kept) given c h = λ e. refused_other (same_kind kept given) kept given (let f : kept_count given kept ≡ c = cc in f ∙ e)
-refusal_other true true true None given c h = λ e. cc
-refusal_other true true false None given c h = cc
+refusal_other : (a b h d : Bool) (k : Option Kind) (given : Kind) (c : Count) → count_refusal a b h d k given ≡ Some c → c ≢ count.Counted
+refusal_other false b h d k given c r = λ e. cc
+refusal_other true false h d k given c r = λ e. cc
+refusal_other true true false d k given c r = λ e. cc
+refusal_other true true true d (Some kept) given c r = λ e. kept_other (same_kind kept given) kept given (let f : kept_count given kept ≡ c = cc in f ∙ e)
+refusal_other true true true true None given c r = λ e. cc
+refusal_other true true true false None given c r = cc
 
-pub entry_refusal_other : (js : List Judging) (j t : ℕ) (given : Kind) (c : Count) → entry_refusal js j t given ≡ Some c → c ≢ count.Counted
-entry_refusal_other js j t given c h = refusal_other (is_judging js j) (has_test js j t) (is_dropped js j) (unwrap_or (cell_of js j t) None) given c h
+empty_cell : (a h d : Bool) (o : Option (Option Kind)) (given : Kind) → count_refusal a (is_some o) h d (unwrap_or o None) given ≡ None → o ≡ Some None
+empty_cell false h d o given r = cc
+empty_cell true h d None given r = cc
+empty_cell true false d (Some k) given r = cc
+empty_cell true true d (Some None) given r = refl
+empty_cell true true d (Some (Some k)) given r = cc
 
--- a result counts only where its cell is there and empty
-empty_cell : (a d : Bool) (o : Option (Option Kind)) (given : Kind)
-    → first_of (unless a count.NoJudging ∷ unless (is_some o) count.NoTest ∷ option_map (kept_count given) (unwrap_or o None) ∷ when d count.Dropped ∷ []) ≡ None → o ≡ Some None
-empty_cell false d o given h = cc
-empty_cell true d None given h = cc
-empty_cell true d (Some None) given h = refl
-empty_cell true d (Some (Some k)) given h = cc
+-- what it tells of a cell that a result is refused, or is not
+pub record TellsOf (refusal : Option Count) (cell : Option (Option Kind)) : Type 0 where
+  -- a result is never refused by saying that it counts
+  pub other : (c : Count) → refusal ≡ Some c → c ≢ count.Counted
+  -- a result counts only where its cell is there and empty
+  pub empty : refusal ≡ None → cell ≡ Some None
 
-pub entry_empty : (js : List Judging) (j t : ℕ) (given : Kind) → entry_refusal js j t given ≡ None → cell_of js j t ≡ Some None
-entry_empty js j t given h = empty_cell (is_judging js j) (is_dropped js j) (cell_of js j t) given h
+refusal_tells : (a h d : Bool) (o : Option (Option Kind)) (given : Kind) → TellsOf (count_refusal a (is_some o) h d (unwrap_or o None) given) o
+refusal_tells a h d o given = record {
+  other = λ c r. refusal_other a (is_some o) h d (unwrap_or o None) given c r;
+  empty = λ r. empty_cell a h d o given r;
+}
+
+pub result_tells : (js : List Judging) (j t : ℕ) (given : Kind) → TellsOf (result_refusal js j t given) (cell_of js j t)
+result_tells js j t given = refusal_tells (is_judging js j) (was_handed js j t) (is_dropped js j) (cell_of js j t) given
+
+-- a result from outside is refused as a host's is of a task that was handed out
+handed_refusal : (a b d : Bool) (k : Option Kind) (given : Kind)
+    → count_refusal a b true d k given ≡ first_of (unless a count.NoJudging ∷ unless b count.NoTest ∷ option_map (kept_count given) k ∷ when d count.Dropped ∷ [])
+handed_refusal false b d k given = refl
+handed_refusal true false d k given = refl
+handed_refusal true true d k given = refl
+
+pub entry_tells : (js : List Judging) (j t : ℕ) (given : Kind) → TellsOf (entry_refusal js j t given) (cell_of js j t)
+entry_tells js j t given = subst (λ (r : Option Count). TellsOf r (cell_of js j t))
+    (handed_refusal (is_judging js j) (has_test js j t) (is_dropped js j) (unwrap_or (cell_of js j t) None) given)
+    (refusal_tells (is_judging js j) true (is_dropped js j) (cell_of js j t) given)
 
 pub count_reply_other : (j t : ℕ) (c : Count) → c ≢ count.Counted → count_reply j t c ≢ reply.Counted
 count_reply_other j t count.NoJudging n = λ e. cc
 count_reply_other j t count.NoTest n = λ e. cc
+count_reply_other j t count.NotHanded n = λ e. cc
 count_reply_other j t (count.Repeat kept) n = λ e. cc
 count_reply_other j t (count.Differs kept given) n = λ e. cc
 count_reply_other j t count.Dropped n = λ e. cc

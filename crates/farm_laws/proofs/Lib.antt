@@ -1,5 +1,6 @@
 pub mod Items
 pub mod Cells
+pub mod Kept
 pub mod Steps
 pub mod Runs
 pub mod Rows

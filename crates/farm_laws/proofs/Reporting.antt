@@ -24,7 +24,8 @@ use Rattle.farm_model.specs.Replay.{state_after, reply_to, counted_in, kind_for,
 use Rattle.farm_laws.specs.Laws.{reached, row_in, IsJudging, replayed_row, Shows, FinalIsExact, PendingIsExact, FinalStays, CountedOnce, EqualsOneThread, OnlyCountedFills, KeepsPromise}
 use Rattle.farm_laws.proofs.Items.{item_at, item_by, item_append, numbered_from}
 use Rattle.farm_laws.proofs.Cells.{cell_at, kind_in, or_none}
-use Rattle.farm_laws.proofs.Steps.{one_cell, lengths_of, steps, not_counted}
+use Rattle.farm_laws.proofs.Kept.{lengths_of}
+use Rattle.farm_laws.proofs.Steps.{one_cell, steps, not_counted}
 use Rattle.farm_laws.proofs.Runs.{runs, counts, tasks_same}
 use Rattle.farm_laws.proofs.Rows.{kinds_filled, final_verdict, final_full, pending_empty, empty_pending, map_range, true_row}
 

@@ -18,7 +18,8 @@ use Rattle.farm_model.specs.State.{State}
 use Rattle.farm_model.specs.Farm.{farm_step}
 use Rattle.farm_model.specs.Replay.{state_after, reply_to, counted_by, counted_in, kind_for, cell_for, times_counted}
 use Rattle.farm_laws.proofs.Cells.{cell_at, or_none}
-use Rattle.farm_laws.proofs.Steps.{Steps, one_cell, lengths_of, steps}
+use Rattle.farm_laws.proofs.Kept.{lengths_of}
+use Rattle.farm_laws.proofs.Steps.{Steps, one_cell, steps}
 
 or_assoc : {X : Type 0} (a b c : Option X) → option_or (option_or a b) c ≡ option_or a (option_or b c)
 or_assoc None b c = refl

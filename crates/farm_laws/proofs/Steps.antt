@@ -1,9 +1,11 @@
 -- What one event does to the judgings.
-use Rattle.std.proofs.Common.{ℕ, zero, suc, ◌≡◌, ◌≢◌, ◌-◌, List, [], ◌∷◌, ◌++◌, Option, Some, None, Bool, cond, refl, sym, ap, ◌∙◌, subst, length, map, set, slice_get}
-use Rattle.std.specs.Option.{option_map, option_or, unwrap_or}
+use Rattle.std.proofs.Common.{ℕ, ◌≡◌, ◌≢◌, ◌-◌, List, [], ◌∷◌, ◌++◌, Option, Some, None, Bool, true, false, cond, refl, sym, ap, ◌∙◌, subst, length}
+use Rattle.std.specs.Option.{option_map, option_or, unwrap_or, is_some}
 use Rattle.std.proofs.Math.ListN.{length-set}
 use Rattle.std.proofs.lemmas.List.{append-nil, map-append}
 use Rattle.farm_kinds.specs.declared.kinds.Kind.{Kind}
+use Rattle.farm_kinds.specs.declared.outcomes.Class.{Class}
+use Rattle.farm_kinds.specs.declared.outcomes.Count.{Count}
 use Rattle.farm_kinds.specs.declared.outcomes.Task.{Task}
 use Rattle.farm_kinds.specs.declared.events.Event.{Event}
 use Rattle.farm_kinds.specs.declared.events.Event.TheVariants as event
@@ -11,26 +13,23 @@ use Rattle.farm_kinds.specs.declared.events.Reply.{Reply}
 use Rattle.farm_kinds.specs.declared.events.Reply.TheVariants as reply
 use Rattle.farm_kinds.specs.RuleValue.{RuleValue}
 use Rattle.farm_kinds.specs.Rules.{remap_of}
-use Rattle.farm_model.specs.Numbered.{item_of, change_item}
-use Rattle.farm_model.specs.Refusing.{refused_or}
+use Rattle.farm_model.specs.Numbered.{item_of}
+use Rattle.farm_model.specs.Refusing.{unless, first_of, refused_or}
 use Rattle.farm_model.specs.Leases.{same_task}
-use Rattle.farm_model.specs.Judgings.{Judging, task_of, entry_refusal, fill_cell, with_result}
+use Rattle.farm_model.specs.Judgings.{Judging, task_of, cell_of, entry_refusal, result_refusal, fill_cell, with_result}
 use Rattle.farm_model.specs.Judge.{counted}
-use Rattle.farm_model.specs.State.{State}
-use Rattle.farm_model.specs.Refusals.{count_reply, refusal_of}
+use Rattle.farm_model.specs.State.{State, up_number}
+use Rattle.farm_model.specs.Refusals.{count_reply, no_host, refusal_of}
 use Rattle.farm_model.specs.Changes.{accepted, by_judge}
 use Rattle.farm_model.specs.Farm.{farm_step}
 use Rattle.farm_model.specs.Replay.{if_counted, counted_by}
-use Rattle.farm_laws.proofs.Items.{item_at}
-use Rattle.farm_laws.proofs.Cells.{cell_at, outcome_cases, entry_refusal_other, entry_empty, count_reply_other, cell_append, or_none, cell_filled}
+use Rattle.farm_laws.proofs.Cells.{cell_at, TellsOf, result_tells, entry_tells, count_reply_other, cell_append, or_none, cell_filled}
+use Rattle.farm_laws.proofs.Kept.{lengths_of, lengths_same, cells_same, changed_same, KeepsRows, same_rows, claim_keeps, renew_keeps}
 
 -- what one counted result gives the cell of a task
 abbrev pub one_cell : RuleValue → Option (Task × Kind) → Task → Option Kind
 one_cell rule None task = None
 one_cell rule (Some p) task = cond (same_task p.0 task) (Some (remap_of rule p.1)) None
-
-abbrev pub lengths_of : List Judging → List ℕ
-lengths_of judgings = map (λ judging. length judging.row) judgings
 
 -- what an event with this outcome, which counted this result or none, did
 pub record Steps (s : State) (p : State × Reply) (given : Option (Task × Kind)) : Type 0 where
@@ -44,14 +43,16 @@ pub record Steps (s : State) (p : State × Reply) (given : Option (Task × Kind)
   -- a result counts only where its cell is empty
   pub fresh : (g : Task × Kind) → given ≡ Some g → cell_at s.judge.judgings g.0.judging g.0.test ≡ None
 
--- an event that counts nothing and leaves the judge alone
-same_judge : (s new : State) (r : Reply) (given : Option (Task × Kind)) → given ≡ None → new.judge ≡ s.judge → Steps s (new, r) given
-same_judge s new r given none same = record {
-  rule = ap (λ judge. judge.rule) same;
-  mode = ap (λ judge. judge.mode) same;
+-- Events that count nothing
+
+-- an outcome that counts nothing and leaves every row as it was
+kept_steps : (s : State) (p : State × Reply) (given : Option (Task × Kind)) → given ≡ None → KeepsRows s.judge p.0.judge → Steps s p given
+kept_steps s p given none kept = record {
+  rule = kept.rule;
+  mode = kept.mode;
   more = [];
-  lengths = ap (λ judge. lengths_of judge.judgings) same ∙ sym (append-nil (lengths_of s.judge.judgings));
-  cells = λ j t. ap (λ judge. cell_at judge.judgings j t) same ∙ sym (ap (λ o. option_or (cell_at s.judge.judgings j t) (one_cell s.judge.rule o (task_of j t))) none ∙ or_none (cell_at s.judge.judgings j t));
+  lengths = lengths_same p.0.judge.judgings s.judge.judgings kept.rows ∙ sym (append-nil (lengths_of s.judge.judgings));
+  cells = λ j t. cells_same p.0.judge.judgings s.judge.judgings j t kept.rows ∙ sym (ap (λ o. option_or (cell_at s.judge.judgings j t) (one_cell s.judge.rule o (task_of j t))) none ∙ or_none (cell_at s.judge.judgings j t));
   fresh = λ g e. let no : None ≡ Some g = sym none ∙ e in cc;
 }
 
@@ -63,28 +64,23 @@ pub not_counted : (r : Reply) (given : Option (Task × Kind)) → r ≢ reply.Co
 not_counted reply.Counted given n = absurd (n refl)
 not_counted r given n = refl
 
-abbrev pub StepOf : State → Event → State × Reply → Type 0
-StepOf s e p = Steps s p (counted_by (e, p.1))
+-- what an event did that gives this result or none, where its outcome is p
+abbrev StepOf : State → Option (Task × Kind) → State × Reply → Type 0
+StepOf s given p = Steps s p (if_counted p.1 given)
 
-problem_steps : (s : State) (who name : List ℕ) (tests : ℕ) → let e = event.Problem who name tests in StepOf s e (farm_step s e)
-problem_steps s who name tests =
-    let e = event.Problem who name tests in
-    outcome_cases (StepOf s e) s (refusal_of s e) (accepted s e)
-    (λ x h. same_judge s s x _ (nothing_given x) refl)
-    (λ h. same_judge s (accepted s e).0 (reply.Problem name 1) _ refl refl)
+-- an event that gives no result, where it is refused or not
+quiet_steps : (s : State) (refusal : Option Reply) (done : State × Reply) → StepOf s None done → StepOf s None (refused_or s refusal done)
+quiet_steps s None done a = a
+quiet_steps s (Some x) done a = kept_steps s (s, x) (if_counted x None) (nothing_given x) (same_rows s.judge)
 
-show_steps : (s : State) (j : ℕ) → StepOf s (event.Show j) (farm_step s (event.Show j))
-show_steps s j =
-    outcome_cases (StepOf s (event.Show j)) s (refusal_of s (event.Show j)) (accepted s (event.Show j))
-    (λ x h. same_judge s s x _ (nothing_given x) refl)
-    (λ h. same_judge s s (accepted s (event.Show j)).1 _ refl refl)
+-- an event that gives no result, and leaves every row as it was
+same_steps : (s : State) (refusal : Option Reply) (done : State × Reply) → KeepsRows s.judge done.0.judge → StepOf s None (refused_or s refusal done)
+same_steps s refusal done kept = quiet_steps s refusal done (kept_steps s done (if_counted done.1 None) (nothing_given done.1) kept)
 
-submit_steps : (s : State) (name : List ℕ) (class : _) (broken : Bool) → let e = event.Submit name class broken in StepOf s e (farm_step s e)
+submit_steps : (s : State) (name : List ℕ) (class : Class) (broken : Bool) → StepOf s None (farm_step s (event.Submit name class broken))
 submit_steps s name class broken =
     let e = event.Submit name class broken in
-    outcome_cases (StepOf s e) s (refusal_of s e) (accepted s e)
-    (λ x h. same_judge s s x _ (nothing_given x) refl)
-    (λ h. record {
+    quiet_steps s (refusal_of s e) (accepted s e) (record {
       rule = refl;
       mode = refl;
       more = _;
@@ -93,60 +89,78 @@ submit_steps s name class broken =
       fresh = λ g no. cc;
     })
 
--- A result
+-- Results
 
-mapped_none : {X Y : Type 0} (f : X → Y) (o : Option X) → option_map f o ≡ None → o ≡ None
-mapped_none f None h = refl
-mapped_none f (Some x) h = cc
-
-mapped_some : {X Y : Type 0} (f : X → Y) (o : Option X) (y : Y) → option_map f o ≡ Some y → (x : X) × (o ≡ Some x) × (f x ≡ y)
-mapped_some f None y h = cc
-mapped_some f (Some x) y h = (x, refl, cc)
-
--- a change of an item that keeps what is seen of it keeps what is seen of all
-seen_same : {A B : Type 0} (view : A → B) (f : A → A) → ((x : A) → view (f x) ≡ view x) → (xs : List A) (i : ℕ) (x : A) → slice_get xs i ≡ Some x → map view (set xs i (f x)) ≡ map view xs
-seen_same view f h [] i x e = cc
-seen_same view f h (y ∷ xs) zero x e = let same : y ≡ x = cc in ap (λ w. w ∷ map view xs) (h x ∙ ap view (sym same))
-seen_same view f h (y ∷ xs) (suc i) x e = ap (λ ws. view y ∷ ws) (seen_same view f h xs i x e)
-
-changed_same : {A B : Type 0} (view : A → B) (f : A → A) → ((x : A) → view (f x) ≡ view x) → (xs : List A) (n : ℕ) (o : Option A) → item_of xs n ≡ o → map view (change_item xs n f o) ≡ map view xs
-changed_same view f h xs n None e = refl
-changed_same view f h xs n (Some x) e = seen_same view f h xs (n - 1) x (item_at xs n x e).1
-
-pub lengths_filled : (judgings : List Judging) (j t : ℕ) (kind : Kind) → lengths_of (with_result judgings j t kind) ≡ lengths_of judgings
+lengths_filled : (judgings : List Judging) (j t : ℕ) (kind : Kind) → lengths_of (with_result judgings j t kind) ≡ lengths_of judgings
 lengths_filled judgings j t kind =
     changed_same (λ judging. length judging.row) (fill_cell t kind) (λ judging. length-set judging.row (t - 1) (Some kind)) judgings j (item_of judgings j) refl
 
-entry_counts : (s : State) (j t : ℕ) (kind : Kind) → entry_refusal s.judge.judgings j t (remap_of s.judge.rule kind) ≡ None
-    → StepOf s (event.Entry j t kind) (by_judge s j t (counted s.judge j t (remap_of s.judge.rule kind)))
-entry_counts s j t kind h =
-    let empty = entry_empty s.judge.judgings j t (remap_of s.judge.rule kind) h in
-    record {
-      rule = refl;
-      mode = refl;
-      more = [];
-      lengths = lengths_filled s.judge.judgings j t (remap_of s.judge.rule kind) ∙ sym (append-nil (lengths_of s.judge.judgings));
-      cells = cell_filled s.judge.judgings j t (remap_of s.judge.rule kind) empty;
-      fresh = λ g e. let same : (task_of j t, kind) ≡ g = cc in ap (λ (p : Task × Kind). cell_at s.judge.judgings p.0.judging p.0.test) (sym same) ∙ ap (λ o. unwrap_or o None) empty;
-    }
+-- an outcome of a result of this task and this kind
+abbrev ResultStep : State → ℕ → ℕ → Kind → State × Reply → Type 0
+ResultStep s j t kind p = StepOf s (Some (task_of j t, kind)) p
 
-entry_steps : (s : State) (j t : ℕ) (kind : Kind) → StepOf s (event.Entry j t kind) (farm_step s (event.Entry j t kind))
+-- it counts
+counted_steps : (s : State) (j t : ℕ) (kind : Kind) → cell_of s.judge.judgings j t ≡ Some None
+    → ResultStep s j t kind (by_judge s (count_reply j t) (counted s.judge j t (remap_of s.judge.rule kind)))
+counted_steps s j t kind empty = record {
+  rule = refl;
+  mode = refl;
+  more = [];
+  lengths = lengths_filled s.judge.judgings j t (remap_of s.judge.rule kind) ∙ sym (append-nil (lengths_of s.judge.judgings));
+  cells = cell_filled s.judge.judgings j t (remap_of s.judge.rule kind) empty;
+  fresh = λ g e. let same : (task_of j t, kind) ≡ g = cc in ap (λ (p : Task × Kind). cell_at s.judge.judgings p.0.judging p.0.test) (sym same) ∙ ap (λ o. unwrap_or o None) empty;
+}
+
+-- it does not
+refused_steps : (s : State) (j t : ℕ) (kind : Kind) (x : Reply) → x ≢ reply.Counted → ResultStep s j t kind (s, x)
+refused_steps s j t kind x other =
+    kept_steps s (s, x) (if_counted x (Some (task_of j t, kind))) (not_counted x (Some (task_of j t, kind)) other) (same_rows s.judge)
+
+-- a result is refused for its host, then for its task, or it counts
+result_steps : (s : State) (j t : ℕ) (kind : Kind) (host : Option Reply) (refusal : Option Count)
+    → ((x : Reply) → host ≡ Some x → x ≢ reply.Counted) → TellsOf refusal (cell_of s.judge.judgings j t)
+    → ResultStep s j t kind (refused_or s (first_of (host ∷ option_map (count_reply j t) refusal ∷ []))
+      (by_judge s (count_reply j t) (refused_or s.judge refusal (counted s.judge j t (remap_of s.judge.rule kind)))))
+result_steps s j t kind (Some x) refusal other tells = refused_steps s j t kind x (other x refl)
+result_steps s j t kind None (Some c) other tells = refused_steps s j t kind (count_reply j t c) (count_reply_other j t c (tells.other c refl))
+result_steps s j t kind None None other tells = counted_steps s j t kind (tells.empty refl)
+
+no_host_other : (up : Bool) (host : List ℕ) (x : Reply) → unless up (reply.NoHost host) ≡ Some x → x ≢ reply.Counted
+no_host_other false host x h = λ e. cc
+no_host_other true host x h = cc
+
+host_steps : (s : State) (host : List ℕ) (j t : ℕ) (kind : Kind) → ResultStep s j t kind (farm_step s (event.Result host j t kind))
+host_steps s host j t kind =
+    let given = remap_of s.judge.rule kind in
+    result_steps s j t kind (no_host s.hosts host) (result_refusal s.judge.judgings j t given)
+    (no_host_other (is_some (up_number s.hosts host)) host) (result_tells s.judge.judgings j t given)
+
+first_alone : {R : Type 0} (o : Option R) → first_of (o ∷ []) ≡ o
+first_alone None = refl
+first_alone (Some x) = refl
+
+entry_steps : (s : State) (j t : ℕ) (kind : Kind) → ResultStep s j t kind (farm_step s (event.Entry j t kind))
 entry_steps s j t kind =
-    let e = event.Entry j t kind in
     let given = remap_of s.judge.rule kind in
     let refusal = entry_refusal s.judge.judgings j t given in
-    outcome_cases (StepOf s e) s (refusal_of s e) (accepted s e)
-    (λ x h.
-    let m = mapped_some (count_reply j t) refusal x h in
-    let other : x ≢ reply.Counted = subst (λ (r : Reply). r ≢ reply.Counted) m.2 (count_reply_other j t m.0 (entry_refusal_other s.judge.judgings j t given m.0 m.1)) in
-    same_judge s s x _ (not_counted x (Some (task_of j t, kind)) other) refl)
-    (λ h.
-    let none = mapped_none (count_reply j t) refusal h in
-    subst (StepOf s e) (sym (ap (λ r. by_judge s j t (refused_or s.judge r (counted s.judge j t given))) none)) (entry_counts s j t kind none))
+    subst (λ r. ResultStep s j t kind (refused_or s r (accepted s (event.Entry j t kind)))) (first_alone (option_map (count_reply j t) refusal))
+    (result_steps s j t kind None refusal (λ x no. cc) (entry_tells s.judge.judgings j t given))
 
--- whatever the event
-pub steps : (s : State) (e : Event) → StepOf s e (farm_step s e)
-steps s (event.Problem who name tests) = problem_steps s who name tests
+-- Whatever the event
+
+-- the judge is as it was, or only its leases and its moment are not
+quiet : (s : State) (e : Event) → KeepsRows s.judge (accepted s e).0.judge → StepOf s None (farm_step s e)
+quiet s e kept = same_steps s (refusal_of s e) (accepted s e) kept
+
+pub steps : (s : State) (e : Event) → Steps s (farm_step s e) (counted_by (e, (farm_step s e).1))
+steps s (event.Problem who name tests) = quiet s (event.Problem who name tests) (same_rows s.judge)
+steps s (event.Replace who name tests) = quiet s (event.Replace who name tests) (same_rows s.judge)
+steps s (event.Host name) = quiet s (event.Host name) (same_rows s.judge)
 steps s (event.Submit name class broken) = submit_steps s name class broken
+steps s (event.Claim host) = quiet s (event.Claim host) (claim_keeps s.judge _)
+steps s (event.Result host j t kind) = host_steps s host j t kind
 steps s (event.Entry j t kind) = entry_steps s j t kind
-steps s (event.Show j) = show_steps s j
+steps s (event.Renew host j t) = quiet s (event.Renew host j t) (renew_keeps s.judge _ j t)
+steps s (event.Tick moment) = quiet s (event.Tick moment) (record { rule = refl; mode = refl; rows = refl })
+steps s (event.Down host) = quiet s (event.Down host) (record { rule = refl; mode = refl; rows = refl })
+steps s (event.Show j) = quiet s (event.Show j) (same_rows s.judge)
