@@ -20,8 +20,8 @@ use Rattle.farm_model.specs.Rows.{Row, answer_of, kinds_of}
 use Rattle.farm_model.specs.Judgings.{Judging, task_of}
 use Rattle.farm_model.specs.State.{State, SettingsValue, start}
 use Rattle.farm_model.specs.Farm.{farm_step}
-use Rattle.farm_model.specs.Replay.{state_after, reply_to, counted_in, kind_for, cell_for, given_by, Truth, AgreesWith, true_kinds}
-use Rattle.farm_laws.specs.Laws.{reached, row_in, IsJudging, replayed_row, Shows, FinalIsExact, PendingIsExact, FinalStays, CountedOnce, EqualsOneThread, OnlyCountedFills, KeepsPromise}
+use Rattle.farm_model.specs.Replay.{state_after, reply_to, counted_in, kind_for, cell_for, given_by, Truth, AgreesWith, IsHonest, true_kinds}
+use Rattle.farm_laws.specs.Laws.{reached, row_in, IsJudging, replayed_row, Shows, FinalIsExact, PendingIsExact, FinalStays, CountedOnce, EqualsOneThread, OnlyCountedFills, RowIsReplayed, KeepsPromise}
 use Rattle.farm_laws.proofs.Items.{item_at, item_by, item_append, numbered_from}
 use Rattle.farm_laws.proofs.Cells.{cell_at, kind_in, or_none}
 use Rattle.farm_laws.proofs.Kept.{lengths_of}
@@ -54,11 +54,14 @@ no_cells j t = nowhere (nat_lt 0 j) t
 reached_cell : (settings : SettingsValue) (es : List Event) (j t : ℕ) → cell_at (reached settings es).judge.judgings j t ≡ cell_for settings.rule (counted_in (start settings) es) (task_of j t)
 reached_cell settings es j t = (runs (start settings) es).cells j t ∙ ap (λ o. option_or o (cell_for settings.rule (counted_in (start settings) es) (task_of j t))) (no_cells j t)
 
-pub row_is_replayed : (settings : SettingsValue) (es : List Event) (j : ℕ) → row_in (reached settings es) j ≡ replayed_row settings es j
-row_is_replayed settings es j =
+replayed : (settings : SettingsValue) (es : List Event) (j : ℕ) → row_in (reached settings es) j ≡ replayed_row settings es j
+replayed settings es j =
     sym (row_cells (reached settings es) j)
     ∙ map_range (cell_at (reached settings es).judge.judgings j) (λ t. cell_for settings.rule (counted_in (start settings) es) (task_of j t)) 1 (length (row_in (reached settings es) j))
     (λ i lt. reached_cell settings es j (1 + i))
+
+pub row_is_replayed : (settings : SettingsValue) (es : List Event) → RowIsReplayed settings es
+row_is_replayed settings es j is = replayed settings es j
 
 -- What is shown
 
@@ -99,7 +102,7 @@ pub same_shows : (settings : SettingsValue) (es : List Event) (j : ℕ) (a : Ans
 same_shows settings es j a is h = shows_answer settings es j is ∙ ap reply.Shown h
 
 replayed_answer : (settings : SettingsValue) (es : List Event) (j : ℕ) → answer_of settings.rule settings.mode (row_in (reached settings es) j) ≡ answer_of settings.rule settings.mode (replayed_row settings es j)
-replayed_answer settings es j = ap (answer_of settings.rule settings.mode) (row_is_replayed settings es j)
+replayed_answer settings es j = ap (answer_of settings.rule settings.mode) (replayed settings es j)
 
 pub final_is_exact : (settings : SettingsValue) (es : List Event) → FinalIsExact settings es
 final_is_exact settings es j v is = (
@@ -213,17 +216,23 @@ known_kind : (rule : RuleValue) (o : Option Kind) (x k : Kind) → IsSomeAnd o (
 known_kind rule None x k h e = absurd h
 known_kind rule (Some y) x k h e = (y, refl, sym h ∙ e)
 
+-- a filled cell holds what its test truly counts as
+true_cell : (settings : SettingsValue) (es : List Event) (truth : Truth) (j t : ℕ) (k : Kind) → IsHonest (start settings) es truth → cell_at (reached settings es).judge.judgings j t ≡ Some k
+    → (y : Kind) × (truth (task_of j t) ≡ Some y) × (cell_at (reached settings es).judge.judgings j t ≡ Some (remap_of settings.rule y))
+true_cell settings es truth j t k honest cell =
+    let counted = counted_in (start settings) es in
+    let given = counted_kind settings.rule (kind_for (task_of j t) counted) k (sym (reached_cell settings es j t) ∙ cell) in
+    let known = known_kind settings.rule (truth (task_of j t)) given.0 k (agrees settings.rule truth counted (task_of j t) given.0 honest given.1) given.2 in
+    (known.0, known.1, cell ∙ sym (ap (λ (x : Kind). Some x) known.2))
+
 pub equals_one_thread : (settings : SettingsValue) (es : List Event) → EqualsOneThread settings es
 equals_one_thread settings es full truth j v honest knows h =
     let s = reached settings es in
-    let counted = counted_in (start settings) es in
     let answer = sym (in_full settings (row_in s j) full) ∙ shows_same settings es j (Final v) h in
     let kinds = final_full settings.rule (row_in s j) v answer in
     let row = true_row settings.rule (cell_at s.judge.judgings j) (λ t. truth (task_of j t)) 1 (length (row_in s j)) (λ i lt.
     let c = full_cell s j kinds.0 kinds.1 i lt in
-    let given = counted_kind settings.rule (kind_for (task_of j (1 + i)) counted) c.0 (sym (reached_cell settings es j (1 + i)) ∙ c.1) in
-    let true_ = known_kind settings.rule (truth (task_of j (1 + i))) given.0 c.0 (agrees settings.rule truth counted (task_of j (1 + i)) given.0 honest given.1) given.2 in
-    (true_.0, true_.1, c.1 ∙ ap Some (sym true_.2))) in
+    true_cell settings es truth j (1 + i) c.0 honest c.1) in
     final_verdict settings.rule (row_in s j) (true_kinds settings.rule truth j (length (row_in s j))) v (ap kinds_of (sym (row_cells s j)) ∙ row) answer
 
 pub keeps_promise : (settings : SettingsValue) (es : List Event) → KeepsPromise settings es
@@ -234,4 +243,5 @@ keeps_promise settings es = record {
   counted_once = counted_once settings es;
   equals_one_thread = equals_one_thread settings es;
   only_counted_fills = only_counted_fills settings es;
+  row_is_replayed = row_is_replayed settings es;
 }

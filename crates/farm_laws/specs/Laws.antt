@@ -60,13 +60,19 @@ EqualsOneThread settings es = settings.mode ≡ Full → (truth : Truth) (j : �
     IsHonest (start settings) es truth → KnowsAll truth j (length (row_in (reached settings es) j)) →
     Shows settings es j (Final v) → v ≡ one_thread_verdict settings.rule truth j (length (row_in (reached settings es) j))
 
--- an event that is not answered `counted`, and adds no submission, leaves every row as it was
+-- Only what is answered `counted` fills a cell. Claims, renewals, ticks, hosts' deaths and returns, and results
+-- that are answered otherwise, leave the row of each judging that is there as it was.
 abbrev pub OnlyCountedFills : SettingsValue → List Event → Type 0
 OnlyCountedFills settings es = (e : Event) → reply_to (reached settings es) e ≢ reply.Counted →
     (j : ℕ) → IsJudging (reached settings es) j → row_in (farm_step (reached settings es) e).0 j ≡ row_in (reached settings es) j
 
+-- the row of a judging holds the counted result of each of its tasks, and is empty where none was counted
+abbrev pub RowIsReplayed : SettingsValue → List Event → Type 0
+RowIsReplayed settings es = (j : ℕ) → IsJudging (reached settings es) j → row_in (reached settings es) j ≡ replayed_row settings es j
+
 -- Whatever the events, a judging is reported final exactly where its verdict is known from the results that
--- were counted, that verdict stays and is what one thread gives, and each result counts once.
+-- were counted, that verdict stays and is what one thread gives, each result counts once, and rows hold what
+-- was counted.
 pub record KeepsPromise (settings : SettingsValue) (es : List Event) : Type 0 where
   pub final_is_exact : FinalIsExact settings es
   pub pending_is_exact : PendingIsExact settings es
@@ -74,3 +80,4 @@ pub record KeepsPromise (settings : SettingsValue) (es : List Event) : Type 0 wh
   pub counted_once : CountedOnce settings es
   pub equals_one_thread : EqualsOneThread settings es
   pub only_counted_fills : OnlyCountedFills settings es
+  pub row_is_replayed : RowIsReplayed settings es

@@ -4,7 +4,8 @@ ghost use Rattle.farm_model.specs.State.{SettingsValue};
 ghost use Rattle.farm_laws.specs.Laws.{KeepsPromise};
 
 /// Whatever the events, a judging is reported final exactly where its verdict is known from the results
-/// that were counted, that verdict stays and is what one thread gives, and each result counts once.
+/// that were counted, that verdict stays and is what one thread gives, each result counts once, and rows
+/// hold what was counted.
 pub fn keeps_promise()
     ensures { (settings : SettingsValue) (es : List Event) → KeepsPromise settings es }
 {}
