@@ -120,7 +120,7 @@ refused_steps s j t kind x other =
 result_steps : (s : State) (j t : ℕ) (kind : Kind) (host : Option Reply) (refusal : Option Count)
     → ((x : Reply) → host ≡ Some x → x ≢ reply.Counted) → TellsOf refusal (cell_of s.judge.judgings j t)
     → ResultStep s j t kind (refused_or s (first_of (host ∷ option_map (count_reply j t) refusal ∷ []))
-      (by_judge s (count_reply j t) (refused_or s.judge refusal (counted s.judge j t (remap_of s.judge.rule kind)))))
+    (by_judge s (count_reply j t) (refused_or s.judge refusal (counted s.judge j t (remap_of s.judge.rule kind)))))
 result_steps s j t kind (Some x) refusal other tells = refused_steps s j t kind x (other x refl)
 result_steps s j t kind None (Some c) other tells = refused_steps s j t kind (count_reply j t c) (count_reply_other j t c (tells.other c refl))
 result_steps s j t kind None None other tells = counted_steps s j t kind (tells.empty refl)
