@@ -4,7 +4,7 @@ use std::alloc::{AllocError, Global};
 use std::test::Fail;
 
 /// How many bytes a sink of these tests holds.
-const ROOM: usize = 1024;
+const ROOM: usize = 65_536;
 
 fn words(alloc: Global, given: &[&str]) -> Result<Vec<String>, AllocError> {
     let mut words = Vec::new(alloc);
@@ -54,21 +54,196 @@ fn refusals(rt: HostRuntime) -> Result<(), Fail> {
     assert_eq!(rt; exit, Exit::Done);
     assert_eq!(rt;
         out.bytes(),
-        b"bad-line\nproblem A version 1\nbad-line\nno-problem B\nbad-line\nbad-line\nno-judging 9\nsubmission 1 judging 1\nno-test 4\nbad-line\n".as_slice()
+        b"bad-tests 0\nproblem A version 1\nknown A\nno-problem B\nbad-line\nbad-line\nno-judging 9\nsubmission 1 judging 1\nno-test 4\nbad-line\n".as_slice()
+    );
+    Ok(())
+}
+
+/// A problem of three tests, two hosts and a submission, and what they are answered.
+const CONTEST: &[u8] = b"problem A 3\nhost h1\nhost h2\nsubmit A\n";
+const CONTEST_REPLIES: &[u8] =
+    b"problem A version 1\nhost h1\nhost h2\nsubmission 1 judging 1\n";
+
+/// Both texts one after the other.
+fn joined(alloc: Global, first: &[u8], second: &[u8]) -> Result<Vec<u8>, AllocError> {
+    let mut text = first.to_vec(alloc)?;
+    text.extend_from_slice(second)?;
+    Ok(text)
+}
+
+/// What the contest's lines and then these write, and what is wanted.
+fn contest(
+    alloc: Global,
+    lines: &[u8],
+    replies: &[u8],
+) -> Result<(ReliableSink, Vec<u8>), AllocError> {
+    let input = joined(alloc, CONTEST, lines)?;
+    let want = joined(alloc, CONTEST_REPLIES, replies)?;
+    let (_, out) = script(alloc, input.as_slice())?;
+    Ok((out, want))
+}
+
+#[test]
+fn a_middle_priority_does_not_stop(rt: HostRuntime) -> Result<(), Fail> {
+    let (out, want) = contest(
+        rt.alloc(),
+        b"record 1 1 correct\nrecord 1 2 wrong-answer\nshow 1\nrecord 1 3 correct\nshow 1\n",
+        b"counted\ncounted\npending\ncounted\nfinal wrong-answer\n",
+    )?;
+    assert_eq!(rt; out.bytes(), want.as_slice());
+    Ok(())
+}
+
+#[test]
+fn late_repeated_different(rt: HostRuntime) -> Result<(), Fail> {
+    let (out, want) = contest(
+        rt.alloc(),
+        b"claim h1\ntick 60\nclaim h2\nresult h1 1 1 correct\nrenew h2 1 1\nresult h2 1 1 correct\nresult h2 1 1 timelimit\nresult h2 1 2 correct\n",
+        b"task 1 1 until 60\nended 1\ntask 1 1 until 120\ncounted\nno-lease\nrepeat correct\ndiffers correct timelimit\nnot-handed\n",
+    )?;
+    assert_eq!(rt; out.bytes(), want.as_slice());
+    Ok(())
+}
+
+#[test]
+fn one_before_the_end(rt: HostRuntime) -> Result<(), Fail> {
+    let (out, want) = contest(
+        rt.alloc(),
+        b"claim h1\ntick 59\nclaim h2\nrenew h1 1 1\ntick 10\n",
+        b"task 1 1 until 60\nended 0\ntask 1 2 until 119\nuntil 119\nended 0\n",
+    )?;
+    assert_eq!(rt; out.bytes(), want.as_slice());
+    Ok(())
+}
+
+#[test]
+fn death_and_return(rt: HostRuntime) -> Result<(), Fail> {
+    let (out, want) = contest(
+        rt.alloc(),
+        b"claim h1\nclaim h1\ndown h1\nclaim h1\nclaim h2\nhost h1\nclaim h1\nhost h1\n",
+        b"task 1 1 until 60\ntask 1 2 until 60\nended 2\nno-host h1\ntask 1 1 until 60\nhost h1\ntask 1 2 until 60\nknown h1\n",
+    )?;
+    assert_eq!(rt; out.bytes(), want.as_slice());
+    Ok(())
+}
+
+#[test]
+fn broken_image(rt: HostRuntime) -> Result<(), Fail> {
+    let (out, want) = contest(
+        rt.alloc(),
+        b"submit A broken\nshow 2\nrecord 2 1 correct\n",
+        b"submission 2 judging 2\nfinal compiler-error\nno-test 1\n",
+    )?;
+    assert_eq!(rt; out.bytes(), want.as_slice());
+    Ok(())
+}
+
+#[test]
+fn classes_are_judged_in_their_order(rt: HostRuntime) -> Result<(), Fail> {
+    let (_, out) = script(
+        rt.alloc(),
+        b"problem A 1\nhost h1\nsubmit A low\nsubmit A\nsubmit A high broken\nsubmit A high\nclaim h1\nclaim h1\nclaim h1\nclaim h1\n",
+    )?;
+    assert_eq!(rt;
+        out.bytes(),
+        b"problem A version 1\nhost h1\nsubmission 1 judging 1\nsubmission 2 judging 2\nsubmission 3 judging 3\nsubmission 4 judging 4\ntask 4 1 until 60\ntask 2 1 until 60\ntask 1 1 until 60\nnothing\n".as_slice()
     );
     Ok(())
 }
 
 #[test]
-fn repeated_different(rt: HostRuntime) -> Result<(), Fail> {
+fn refusals_of_hosts(rt: HostRuntime) -> Result<(), Fail> {
+    let (out, want) = contest(
+        rt.alloc(),
+        b"host h1\nclaim h3\nresult h3 1 1 correct\nrenew h3 1 1\ndown h3\nresult h1 9 1 correct\nresult h1 1 4 correct\nresult h1 1 1 correct\nrenew h1 9 1\nrenew h1 1 4\nrenew h1 1 1\nclaim h1\nrenew h2 1 1\nresult h2 1 1 correct\nreplace B 1\nreplace A 0\nreplace A 1001\nreplace A 2\nsubmit A\nrecord 2 3 correct\n",
+        b"known h1\nno-host h3\nno-host h3\nno-host h3\nno-host h3\nno-judging 9\nno-test 4\nnot-handed\nno-judging 9\nno-test 4\nno-lease\ntask 1 1 until 60\nno-lease\ncounted\nno-problem B\nbad-tests 0\nbad-tests 1001\nproblem A version 2\nsubmission 2 judging 2\nno-test 3\n",
+    )?;
+    assert_eq!(rt; out.bytes(), want.as_slice());
+    Ok(())
+}
+
+#[test]
+fn lines_out_of_form(rt: HostRuntime) -> Result<(), Fail> {
     let (_, out) = script(
         rt.alloc(),
-        b"problem A 1\nsubmit A\nrecord 1 1 run-error\nrecord 1 1 run-error\nrecord 1 1 correct\nshow 1\n",
+        b"tick\ntick 01\ntick 1000000000000000000\nhost\nhost a.b\nclaim\nclaim h1 h2\nresult h1 1 1\nrenew h1 1\ndown\nsubmit A fast\nsubmit A broken high\nreplace A\n@ann problem A 1\nboard\naudit\n",
+    )?;
+    assert_eq!(rt; out.bytes(), b"bad-line\n".repeat(rt.alloc(), 16)?.as_slice());
+    Ok(())
+}
+
+/// Time goes on to 10^18 - 1 at most: the longest moment of a line.
+#[test]
+fn time_stops_at_the_last_moment(rt: HostRuntime) -> Result<(), Fail> {
+    let (out, want) = contest(
+        rt.alloc(),
+        b"tick 999999999999999999\nclaim h1\ntick 999999999999999999\nrenew h1 1 1\n",
+        b"ended 0\ntask 1 1 until 1000000000000000059\nended 0\nuntil 1000000000000000059\n",
+    )?;
+    assert_eq!(rt; out.bytes(), want.as_slice());
+    Ok(())
+}
+
+#[test]
+fn a_name_up_down_and_up(rt: HostRuntime) -> Result<(), Fail> {
+    let (_, out) = script(
+        rt.alloc(),
+        b"host h\ndown h\ndown h\nhost h\nhost h\n",
     )?;
     assert_eq!(rt;
         out.bytes(),
-        b"problem A version 1\nsubmission 1 judging 1\ncounted\nrepeat run-error\ndiffers run-error correct\nfinal run-error\n".as_slice()
+        b"host h\nended 0\nno-host h\nhost h\nknown h\n".as_slice()
     );
+    Ok(())
+}
+
+/// A host holds 64 leases, and not one more.
+#[test]
+fn the_65th_lease(rt: HostRuntime) -> Result<(), Fail> {
+    let alloc = rt.alloc();
+    let mut input = b"problem A 70\nhost h\nsubmit A\n".to_vec(alloc)?;
+    let mut want = b"problem A version 1\nhost h\nsubmission 1 judging 1\n".to_vec(alloc)?;
+    for test in 1..65 {
+        input.extend_from_slice(b"claim h\n")?;
+        want.extend_from_slice(format!(in alloc; "task 1 {test} until 60\n")?.as_bytes())?;
+    }
+    input.extend_from_slice(b"claim h\nresult h 1 3 correct\nclaim h\nclaim h\n")?;
+    want.extend_from_slice(b"holding 64\ncounted\ntask 1 65 until 60\nholding 64\n")?;
+    let (_, out) = script(alloc, input.as_slice())?;
+    assert_eq!(rt; out.bytes(), want.as_slice());
+    Ok(())
+}
+
+/// A thousand hosts are taken, and one that is among them comes back when it was down.
+#[test]
+fn a_thousand_hosts_and_the_next(rt: HostRuntime) -> Result<(), Fail> {
+    let alloc = rt.alloc();
+    let mut input = Vec::new(alloc);
+    let mut want = Vec::new(alloc);
+    for host in 1..1_001 {
+        input.extend_from_slice(format!(in alloc; "host h{host}\n")?.as_bytes())?;
+        want.extend_from_slice(format!(in alloc; "host h{host}\n")?.as_bytes())?;
+    }
+    input.extend_from_slice(b"host h1001\nhost h7\ndown h7\nhost h1001\nhost h7\n")?;
+    want.extend_from_slice(b"full 1000\nknown h7\nended 0\nfull 1000\nhost h7\n")?;
+    let (_, out) = script(alloc, input.as_slice())?;
+    assert_eq!(rt; out.bytes(), want.as_slice());
+    Ok(())
+}
+
+#[test]
+fn a_thousand_versions_and_the_next(rt: HostRuntime) -> Result<(), Fail> {
+    let alloc = rt.alloc();
+    let mut input = b"problem A 1\n".to_vec(alloc)?;
+    let mut want = b"problem A version 1\n".to_vec(alloc)?;
+    for version in 2..1_001 {
+        input.extend_from_slice(b"replace A 2\n")?;
+        want.extend_from_slice(format!(in alloc; "problem A version {version}\n")?.as_bytes())?;
+    }
+    input.extend_from_slice(b"replace A 2\n")?;
+    want.extend_from_slice(b"full 1000\n")?;
+    let (_, out) = script(alloc, input.as_slice())?;
+    assert_eq!(rt; out.bytes(), want.as_slice());
     Ok(())
 }
 
