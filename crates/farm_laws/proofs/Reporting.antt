@@ -35,9 +35,6 @@ use Rattle.farm_laws.proofs.Handing.{hands_open}
 
 -- A row by its cells
 
-row_of : Option Judging → Row
-row_of o = unwrap_or (option_map (λ judging. judging.row) o) []
-
 item_cell : (row : Row) (i : ℕ) (x : Option Kind) → slice_get row i ≡ Some x → unwrap_or (item_of row (1 + i)) None ≡ x
 item_cell row i x h = ap (λ o. unwrap_or o None) (item_by row (1 + i) x (omega arith) (ap (slice_get row) (omega arith) ∙ h))
 
