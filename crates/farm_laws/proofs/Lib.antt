@@ -1,7 +1,10 @@
 pub mod Items
+pub mod Each
 pub mod Cells
 pub mod Kept
 pub mod Steps
 pub mod Runs
 pub mod Rows
+pub mod Later
+pub mod Handing
 pub mod Reporting

@@ -7,32 +7,33 @@ use Rattle.farm_kinds.specs.declared.kinds.Kind.{Kind}
 use Rattle.farm_kinds.specs.declared.outcomes.Task.{Task}
 use Rattle.farm_kinds.specs.declared.outcomes.Answer.{Answer}
 use Rattle.farm_kinds.specs.declared.outcomes.Answer.TheVariants.{Final, Pending}
-use Rattle.farm_kinds.specs.declared.outcomes.Mode.TheVariants.{Full}
+use Rattle.farm_kinds.specs.declared.outcomes.Mode.{Mode}
 use Rattle.farm_kinds.specs.declared.events.Event.{Event}
 use Rattle.farm_kinds.specs.declared.events.Event.TheVariants as event
 use Rattle.farm_kinds.specs.declared.events.Reply.TheVariants as reply
 use Rattle.farm_kinds.specs.RuleValue.{RuleValue}
-use Rattle.farm_kinds.specs.Rules.{remap_of}
+use Rattle.farm_kinds.specs.Rules.{remap_of, possible_kinds}
 use Rattle.farm_model.specs.Numbered.{item_of, numbers_to}
 use Rattle.farm_model.specs.Refusing.{refused_or, unless}
 use Rattle.farm_model.specs.Leases.{same_task}
 use Rattle.farm_model.specs.Rows.{Row, answer_of, kinds_of}
+use Rattle.farm_model.specs.Open.{is_wanted}
 use Rattle.farm_model.specs.Judgings.{Judging, task_of}
 use Rattle.farm_model.specs.State.{State, SettingsValue, start}
 use Rattle.farm_model.specs.Farm.{farm_step}
-use Rattle.farm_model.specs.Replay.{state_after, reply_to, counted_in, kind_for, cell_for, given_by, Truth, AgreesWith, IsHonest, true_kinds}
-use Rattle.farm_laws.specs.Laws.{reached, row_in, IsJudging, replayed_row, Shows, FinalIsExact, PendingIsExact, FinalStays, CountedOnce, EqualsOneThread, OnlyCountedFills, RowIsReplayed, KeepsPromise}
+use Rattle.farm_model.specs.Replay.{state_after, reply_to, counted_in, kind_for, cell_for, given_by, Truth, AgreesWith, IsHonest, KnowsAll, true_kinds}
+use Rattle.farm_laws.specs.Laws.{reached, row_in, IsJudging, replayed_row, Shows, FinalIsExact, IsWantedCell, PendingIsExact, HandsOutWanted, FinalStays, CountedOnce, EqualsOneThread, OnlyCountedFills, RowIsReplayed, KeepsPromise}
+use Rattle.lazy_stop.specs.Matters.{Extends}
 use Rattle.farm_laws.proofs.Items.{item_at, item_by, item_append, numbered_from}
 use Rattle.farm_laws.proofs.Cells.{cell_at, kind_in, or_none}
 use Rattle.farm_laws.proofs.Kept.{lengths_of}
 use Rattle.farm_laws.proofs.Steps.{one_cell, steps, not_counted}
 use Rattle.farm_laws.proofs.Runs.{runs, counts, tasks_same}
-use Rattle.farm_laws.proofs.Rows.{kinds_filled, final_verdict, final_full, pending_empty, empty_pending, map_range, true_row}
+use Rattle.farm_laws.proofs.Rows.{final_verdict, map_range, true_row}
+use Rattle.farm_laws.proofs.Later.{pending_wanted, extends_cells, answer_stays, answer_in_full}
+use Rattle.farm_laws.proofs.Handing.{hands_open}
 
 -- A row by its cells
-
-row_of : Option Judging → Row
-row_of o = unwrap_or (option_map (λ judging. judging.row) o) []
 
 item_cell : (row : Row) (i : ℕ) (x : Option Kind) → slice_get row i ≡ Some x → unwrap_or (item_of row (1 + i)) None ≡ x
 item_cell row i x h = ap (λ o. unwrap_or o None) (item_by row (1 + i) x (omega arith) (ap (slice_get row) (omega arith) ∙ h))
@@ -110,14 +111,12 @@ final_is_exact settings es j v is = (
   λ h. same_shows settings es j (Final v) is (replayed_answer settings es j ∙ h),
 )
 
-in_full : (settings : SettingsValue) (row : Row) → settings.mode ≡ Full → answer_of settings.rule settings.mode row ≡ answer_of settings.rule Full row
-in_full settings row full = ap (λ mode. answer_of settings.rule mode row) full
-
 pub pending_is_exact : (settings : SettingsValue) (es : List Event) → PendingIsExact settings es
-pending_is_exact settings es full j is = (
-  λ h. pending_empty settings.rule (replayed_row settings es j) (sym (in_full settings (replayed_row settings es j) full) ∙ sym (replayed_answer settings es j) ∙ shows_same settings es j Pending h),
-  λ h. same_shows settings es j Pending is (replayed_answer settings es j ∙ in_full settings (replayed_row settings es j) full ∙ empty_pending settings.rule (replayed_row settings es j) h.0 h.1),
-)
+pending_is_exact settings es j is =
+    let wanted = pending_wanted settings.rule settings.mode (replayed_row settings es j) in (
+      λ h. wanted.0 (sym (replayed_answer settings es j) ∙ shows_same settings es j Pending h),
+      λ w. same_shows settings es j Pending is (replayed_answer settings es j ∙ wanted.1 w),
+    )
 
 pub counted_once : (settings : SettingsValue) (es : List Event) → CountedOnce settings es
 counted_once settings es task = (counts (start settings) es task).once
@@ -171,29 +170,28 @@ pub state_after-append : (s : State) (es later : List Event) → state_after s (
 state_after-append s [] later = refl
 state_after-append s (e ∷ es) later = state_after-append (farm_step s e).0 es later
 
--- a full row's cells
-full_cell : (s : State) (j : ℕ) (ks : List Kind) → kinds_of (row_in s j) ≡ Some ks → (i : ℕ) → i < length (row_in s j) → (k : Kind) × (cell_at s.judge.judgings j (1 + i) ≡ Some k)
-full_cell s j ks h i lt =
-    let f = kinds_filled (row_in s j) ks h i lt in
-    (f.0, cell_there (item_of s.judge.judgings j) i (Some f.0) f.1) where
-      cell_there : (o : Option Judging) (i : ℕ) (x : Option Kind) → slice_get (unwrap_or (option_map (λ judging. judging.row) o) []) i ≡ Some x → kind_in o (1 + i) ≡ x
-      cell_there None i x h = cc
-      cell_there (Some g) i x h = item_cell g.row i x h
+-- the row of a judging is extended by later events
+row_extends : (s : State) (later : List Event) (j : ℕ) → IsJudging s j → Extends (possible_kinds s.judge.rule) (row_in s j) (row_in (state_after s later) j)
+row_extends s later j is =
+    let t = state_after s later in
+    let r = runs s later in
+    let n = (row_length s t r.more j is r.lengths).1 in
+    let cells = extends_cells s.judge.rule (cell_at s.judge.judgings j) (cell_at t.judge.judgings j) (λ test. kind_for (task_of j test) (counted_in s later)) (r.cells j) 1 (length (row_in s j)) in
+    let new : map (cell_at t.judge.judgings j) (numbers_to (length (row_in s j))) ≡ row_in t j = ap (λ (m : ℕ). map (cell_at t.judge.judgings j) (numbers_to m)) (sym n) ∙ row_cells t j in
+    subst (λ (row : Row). Extends (possible_kinds s.judge.rule) row (row_in t j)) (row_cells s j)
+    (subst (λ (row : Row). Extends (possible_kinds s.judge.rule) (map (cell_at s.judge.judgings j) (numbers_to (length (row_in s j)))) row) new cells)
 
 pub final_stays : (settings : SettingsValue) (es : List Event) → FinalStays settings es
-final_stays settings es full later j v h =
+final_stays settings es later j v h =
     let s = reached settings es in
     let is = shows_judging settings es j (Final v) h in
-    let answer = shows_same settings es j (Final v) h in
-    let kinds = final_full settings.rule (row_in s j) v (sym (in_full settings (row_in s j) full) ∙ answer) in
     let r = runs s later in
-    let kept = row_same s (state_after s later) r.more j is r.lengths (λ i lt.
-    let c = full_cell s j kinds.0 kinds.1 i lt in
-    r.cells j (1 + i) ∙ ap (λ o. option_or o (cell_for s.judge.rule (counted_in s later) (task_of j (1 + i)))) c.1 ∙ sym c.1) in
+    let extends = subst (λ (rule : RuleValue). Extends (possible_kinds rule) (row_in s j) (row_in (state_after s later) j)) (runs (start settings) es).rule (row_extends s later j is) in
+    let kept = answer_stays settings.rule settings.mode (row_in s j) (row_in (state_after s later) j) v extends (shows_same settings es j (Final v) h) in
     let both = state_after-append (start settings) es later in
     same_shows settings (es ++ later) j (Final v)
     (subst (λ (t : State). IsJudging t j) (sym both) (row_length s (state_after s later) r.more j is r.lengths).0)
-    (ap (λ (t : State). answer_of settings.rule settings.mode (row_in t j)) both ∙ ap (answer_of settings.rule settings.mode) kept ∙ answer)
+    (ap (λ (t : State). answer_of settings.rule settings.mode (row_in t j)) both ∙ kept)
 
 -- One thread
 
@@ -225,15 +223,59 @@ true_cell settings es truth j t k honest cell =
     let known = known_kind settings.rule (truth (task_of j t)) given.0 k (agrees settings.rule truth counted (task_of j t) given.0 honest given.1) given.2 in
     (known.0, known.1, cell ∙ sym (ap (λ (x : Kind). Some x) known.2))
 
-pub equals_one_thread : (settings : SettingsValue) (es : List Event) → EqualsOneThread settings es
-equals_one_thread settings es full truth j v honest knows h =
+-- the cell of a test whose truth is known, once it is filled
+abbrev truth_at : SettingsValue → Truth → ℕ → ℕ → Option Kind
+truth_at settings truth j test = option_map (remap_of settings.rule) (truth (task_of j test))
+
+-- a cell that is filled holds it already
+truth_later : (settings : SettingsValue) (es : List Event) (truth : Truth) (j test : ℕ) → IsHonest (start settings) es truth
+    → truth_at settings truth j test ≡ option_or (cell_at (reached settings es).judge.judgings j test) (truth_at settings truth j test)
+truth_later settings es truth j test honest =
+    let cell = cell_at (reached settings es).judge.judgings j test in
+    elim cell as (λ o. cell ≡ o → truth_at settings truth j test ≡ option_or o (truth_at settings truth j test)) [
+      | None ↦ λ e. refl
+      | Some k ↦ λ e.
+          let known = true_cell settings es truth j test k honest e in
+          ap (option_map (remap_of settings.rule)) known.1 ∙ sym known.2 ∙ e
+    ] refl
+
+-- the row of a judging, once every cell holds what its test truly counts as
+abbrev truth_row : SettingsValue → Truth → ℕ → ℕ → Row
+truth_row settings truth j n = map (truth_at settings truth j) (numbers_to n)
+
+truth_extends : (settings : SettingsValue) (es : List Event) (truth : Truth) (j : ℕ) → IsHonest (start settings) es truth
+    → Extends (possible_kinds settings.rule) (row_in (reached settings es) j) (truth_row settings truth j (length (row_in (reached settings es) j)))
+truth_extends settings es truth j honest =
     let s = reached settings es in
-    let answer = sym (in_full settings (row_in s j) full) ∙ shows_same settings es j (Final v) h in
-    let kinds = final_full settings.rule (row_in s j) v answer in
-    let row = true_row settings.rule (cell_at s.judge.judgings j) (λ t. truth (task_of j t)) 1 (length (row_in s j)) (λ i lt.
-    let c = full_cell s j kinds.0 kinds.1 i lt in
-    true_cell settings es truth j (1 + i) c.0 honest c.1) in
-    final_verdict settings.rule (row_in s j) (true_kinds settings.rule truth j (length (row_in s j))) v (ap kinds_of (sym (row_cells s j)) ∙ row) answer
+    let n = length (row_in s j) in
+    subst (λ (row : Row). Extends (possible_kinds settings.rule) row (truth_row settings truth j n)) (row_cells s j)
+    (extends_cells settings.rule (cell_at s.judge.judgings j) (truth_at settings truth j) (λ test. truth (task_of j test)) (λ test. truth_later settings es truth j test honest) 1 n)
+
+truth_kinds : (settings : SettingsValue) (truth : Truth) (j n : ℕ) → KnowsAll truth j n → kinds_of (truth_row settings truth j n) ≡ Some (true_kinds settings.rule truth j n)
+truth_kinds settings truth j n knows = true_row settings.rule (truth_at settings truth j) (λ test. truth (task_of j test)) 1 n (λ i lt.
+    let k = there (truth (task_of j (1 + i))) (knows (1 + i) (omega arith) (omega arith)) in
+    (k.0, k.1, ap (option_map (remap_of settings.rule)) k.1))
+
+pub equals_one_thread : (settings : SettingsValue) (es : List Event) → EqualsOneThread settings es
+equals_one_thread settings es truth j v honest knows h =
+    let row = row_in (reached settings es) j in
+    let n = length row in
+    let kinds = truth_kinds settings truth j n knows in
+    let answer = answer_in_full settings.rule settings.mode row (truth_row settings truth j n) v (true_kinds settings.rule truth j n) (truth_extends settings es truth j honest) (shows_same settings es j (Final v) h) kinds in
+    final_verdict settings.rule (truth_row settings truth j n) (true_kinds settings.rule truth j n) v kinds answer
+
+-- Tasks that are handed out
+
+pub hands_out_wanted : (settings : SettingsValue) (es : List Event) → HandsOutWanted settings es
+hands_out_wanted settings es e task until h =
+    let s = reached settings es in
+    let r = runs (start settings) es in
+    let given = hands_open s e task until h in
+    let row : row_in s task.judging ≡ given.judging.row = ap (λ (o : Option Judging). unwrap_or (option_map (λ judging. judging.row) o) []) given.there in
+    let wanted : is_wanted settings.rule settings.mode given.judging.row task.test ≡ true =
+    ap (λ (rule : RuleValue). is_wanted rule settings.mode given.judging.row task.test) (sym r.rule)
+    ∙ ap (λ (mode : Mode). is_wanted s.judge.rule mode given.judging.row task.test) (sym r.mode) ∙ given.wanted in
+    subst (λ (cells : Row). IsWantedCell settings cells task.test) (sym row) (given.empty, wanted)
 
 pub keeps_promise : (settings : SettingsValue) (es : List Event) → KeepsPromise settings es
 keeps_promise settings es = record {
@@ -244,4 +286,5 @@ keeps_promise settings es = record {
   equals_one_thread = equals_one_thread settings es;
   only_counted_fills = only_counted_fills settings es;
   row_is_replayed = row_is_replayed settings es;
+  hands_out_wanted = hands_out_wanted settings es;
 }

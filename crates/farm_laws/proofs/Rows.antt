@@ -19,16 +19,6 @@ use Rattle.farm_laws.proofs.Items.{item_at, item_by}
 
 -- Every cell is filled, or one is empty
 
-pub kinds_filled : (row : Row) (ks : List Kind) → kinds_of row ≡ Some ks → (i : ℕ) → i < length row → (k : Kind) × (slice_get row i ≡ Some (Some k))
-kinds_filled [] ks h i lt = absurd (omega arith)
-kinds_filled (None ∷ row) ks h i lt = cc
-kinds_filled (Some k ∷ row) ks h zero lt = (k, refl)
-kinds_filled (Some k ∷ row) ks h (suc i) lt =
-    elim (kinds_of row) as (λ o. kinds_of row ≡ o → option_map (λ kinds. k ∷ kinds) o ≡ Some ks → (x : Kind) × (slice_get row i ≡ Some (Some x))) [
-      | None ↦ λ e f. cc
-      | Some kinds ↦ λ e f. kinds_filled row kinds e i (omega arith)
-    ] refl h
-
 pub kinds_missing : (row : Row) → kinds_of row ≡ None → (i : ℕ) × (slice_get row i ≡ Some None)
 kinds_missing [] h = cc
 kinds_missing (None ∷ row) h = (zero, refl)

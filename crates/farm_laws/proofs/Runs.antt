@@ -5,7 +5,6 @@ use Rattle.std.specs.List.{cons_option}
 use Rattle.std.proofs.lemmas.List.{append-nil}
 use Rattle.std.proofs.lemmas.List.Sums.{sum_by-cons}
 use Rattle.std.proofs.lemmas.Bool.{eqb-true}
-use Rattle.std.proofs.lemmas.Bool.Decides.{nat_tests}
 use Rattle.farm_kinds.specs.declared.kinds.Kind.{Kind}
 use Rattle.farm_kinds.specs.declared.outcomes.Task.{Task}
 use Rattle.farm_kinds.specs.declared.events.Event.{Event}
@@ -40,12 +39,6 @@ tasks_same a b h =
     let judging : a.judging ≡ b.judging = eqb-true a.judging b.judging (and_left (eqb a.judging b.judging) (eqb a.test b.test) h) in
     let test : a.test ≡ b.test = eqb-true a.test b.test (and_right (eqb a.judging b.judging) (eqb a.test b.test) h) in
     ap (λ (j : ℕ). task_of j a.test) judging ∙ ap (λ (t : ℕ). task_of b.judging t) test
-
-pub same_itself : (a : Task) → same_task a a ≡ true
-same_itself a =
-    let judging : eqb a.judging a.judging ≡ true = grind (arith, nat_tests) in
-    let test : eqb a.test a.test ≡ true = grind (arith, nat_tests) in
-    rw (judging, test) refl
 
 -- Counted results
 

@@ -1,16 +1,16 @@
 -- The laws of runs: each over every list of events from the empty farm.
-use Rattle.std.specs.Prelude.{◌≡◌, ◌≢◌, ◌↔◌, ℕ, ◌≤◌, List, [], ◌++◌, length, Some, None, IsSome, unwrap_or}
+use Rattle.std.specs.Prelude.{◌≡◌, ◌≢◌, ◌↔◌, ℕ, ◌≤◌, List, [], ◌++◌, length, Some, None, IsSome, IsTrue, unwrap_or}
 use Rattle.std.specs.Option.{option_map}
 use Rattle.farm_kinds.specs.declared.outcomes.Verdict.{Verdict}
 use Rattle.farm_kinds.specs.declared.outcomes.Answer.{Answer}
 use Rattle.farm_kinds.specs.declared.outcomes.Answer.TheVariants.{Final, Pending}
-use Rattle.farm_kinds.specs.declared.outcomes.Mode.TheVariants.{Full}
 use Rattle.farm_kinds.specs.declared.outcomes.Task.{Task}
 use Rattle.farm_kinds.specs.declared.events.Event.{Event}
 use Rattle.farm_kinds.specs.declared.events.Event.TheVariants as event
 use Rattle.farm_kinds.specs.declared.events.Reply.TheVariants as reply
 use Rattle.farm_model.specs.Numbered.{item_of}
 use Rattle.farm_model.specs.Rows.{Row, answer_of}
+use Rattle.farm_model.specs.Open.{is_wanted}
 use Rattle.farm_model.specs.State.{State, SettingsValue, start}
 use Rattle.farm_model.specs.Farm.{farm_step}
 use Rattle.farm_model.specs.Replay.{state_after, reply_to, counted_in, counted_row, times_counted, Truth, IsHonest, KnowsAll, one_thread_verdict}
@@ -40,23 +40,36 @@ abbrev pub FinalIsExact : SettingsValue → List Event → Type 0
 FinalIsExact settings es = (j : ℕ) (v : Verdict) → IsJudging (reached settings es) j →
     Shows settings es j (Final v) ↔ (answer_of settings.rule settings.mode (replayed_row settings es j) ≡ Final v)
 
--- with `Full`, a judging is reported pending exactly while a test has no result that was counted
+-- The cell of this test is empty, and is still to be judged: with `Lazy` where it matters, as two ways to
+-- fill the row that differ there alone have different verdicts, and with `Full` always.
+abbrev pub IsWantedCell : SettingsValue → Row → ℕ → Type 0
+IsWantedCell settings row test = (item_of row test ≡ Some None) × IsTrue (is_wanted settings.rule settings.mode row test)
+
+-- A judging is reported pending with `Full` exactly while a test has no result that was counted, and with
+-- `Lazy` exactly while an empty cell matters. One without cells is final.
 abbrev pub PendingIsExact : SettingsValue → List Event → Type 0
-PendingIsExact settings es = settings.mode ≡ Full → (j : ℕ) → IsJudging (reached settings es) j →
-    Shows settings es j Pending ↔ ((test : ℕ) × (item_of (replayed_row settings es j) test ≡ Some None))
+PendingIsExact settings es = (j : ℕ) → IsJudging (reached settings es) j →
+    Shows settings es j Pending ↔ ((test : ℕ) × IsWantedCell settings (replayed_row settings es j) test)
+
+-- A task is handed out only while its cell is empty and still to be judged: with `Lazy` it matters, in the
+-- state before the event.
+abbrev pub HandsOutWanted : SettingsValue → List Event → Type 0
+HandsOutWanted settings es = (e : Event) (task : Task) (until : ℕ) → reply_to (reached settings es) e ≡ reply.Handed task until →
+    IsWantedCell settings (row_in (reached settings es) task.judging) task.test
 
 -- what is final stays final, whatever comes later
 abbrev pub FinalStays : SettingsValue → List Event → Type 0
-FinalStays settings es = settings.mode ≡ Full → (later : List Event) (j : ℕ) (v : Verdict) →
+FinalStays settings es = (later : List Event) (j : ℕ) (v : Verdict) →
     Shows settings es j (Final v) → Shows settings (es ++ later) j (Final v)
 
 -- at most one result of each task is counted
 abbrev pub CountedOnce : SettingsValue → List Event → Type 0
 CountedOnce settings es = (task : Task) → times_counted (counted_in (start settings) es) task ≤ 1
 
--- what is final is what running every test in rank order on one thread gives, where the results are honest
+-- What is final is what running every test in rank order on one thread gives, where the results are honest.
+-- With `Lazy` some of these tests may not have been judged.
 abbrev pub EqualsOneThread : SettingsValue → List Event → Type 0
-EqualsOneThread settings es = settings.mode ≡ Full → (truth : Truth) (j : ℕ) (v : Verdict) →
+EqualsOneThread settings es = (truth : Truth) (j : ℕ) (v : Verdict) →
     IsHonest (start settings) es truth → KnowsAll truth j (length (row_in (reached settings es) j)) →
     Shows settings es j (Final v) → v ≡ one_thread_verdict settings.rule truth j (length (row_in (reached settings es) j))
 
@@ -70,9 +83,9 @@ OnlyCountedFills settings es = (e : Event) → reply_to (reached settings es) e 
 abbrev pub RowIsReplayed : SettingsValue → List Event → Type 0
 RowIsReplayed settings es = (j : ℕ) → IsJudging (reached settings es) j → row_in (reached settings es) j ≡ replayed_row settings es j
 
--- Whatever the events, a judging is reported final exactly where its verdict is known from the results that
--- were counted, that verdict stays and is what one thread gives, each result counts once, and rows hold what
--- was counted.
+-- Whatever the events, lazily or in full: a judging is reported final exactly where its verdict is known
+-- from the results that were counted, that verdict stays and is what one thread gives, each result counts
+-- once, rows hold what was counted, and only tasks that are still to be judged are handed out.
 pub record KeepsPromise (settings : SettingsValue) (es : List Event) : Type 0 where
   pub final_is_exact : FinalIsExact settings es
   pub pending_is_exact : PendingIsExact settings es
@@ -81,3 +94,4 @@ pub record KeepsPromise (settings : SettingsValue) (es : List Event) : Type 0 wh
   pub equals_one_thread : EqualsOneThread settings es
   pub only_counted_fills : OnlyCountedFills settings es
   pub row_is_replayed : RowIsReplayed settings es
+  pub hands_out_wanted : HandsOutWanted settings es

@@ -72,11 +72,11 @@ remap_is_possible rule kind = remap_possible rule kind
 pub some_possible : (rule : RuleValue) → Contains (possible_kinds rule) (remap_of rule Correct)
 some_possible rule = remap_possible rule Correct
 
-verdict_is : (v : Kind) (o : Option Kind) → is_verdict v o ≡ true → o ≡ Some v
+pub verdict_is : (v : Kind) (o : Option Kind) → is_verdict v o ≡ true → o ≡ Some v
 verdict_is v None t = cc
 verdict_is v (Some k) t = ap Some (sym (same_place v k (eqb-true _ _ t)))
 
-is_verdict-same : (v : Kind) → is_verdict v (Some v) ≡ true
+pub is_verdict-same : (v : Kind) → is_verdict v (Some v) ≡ true
 is_verdict-same v = grind (arith, nat_tests)
 
 -- the test over the list says that the verdict is settled

@@ -9,3 +9,4 @@ pub mod GreatestAndLeast
 pub mod Putting
 pub mod LawLemmas
 pub mod ClosedForms
+pub mod Computing

@@ -1,6 +1,6 @@
 -- The list of all completions.
-use Rattle.std.proofs.Common.{suc, zero, ◌≡◌, List, [], ◌∷◌, Some, None, Bool, true, false, cond, ◌&&◌, refl, sym, ap, ◌∙◌, subst, inl, inr, arith, ◌⊎◌, map}
-use Rattle.std.specs.List.{Contains, flat_map, list_all, find}
+use Rattle.std.proofs.Common.{suc, zero, ◌≡◌, List, [], ◌∷◌, Some, None, Bool, true, false, cond, ◌&&◌, ◌||◌, refl, sym, ap, ◌∙◌, subst, inl, inr, arith, ◌⊎◌, map}
+use Rattle.std.specs.List.{Contains, flat_map, list_all, list_any, find}
 use Rattle.std.proofs.lemmas.List.Elements.{Contains-append_left, Contains-append_right, Contains-append_cases}
 use Rattle.farm_kinds.specs.declared.kinds.Kind.{Kind}
 use Rattle.farm_kinds.specs.RuleValue.{RuleValue}
@@ -112,3 +112,19 @@ find_unique p (y ∷ ys) v h t only = elim (p y) as (λ b. p y ≡ b → cond b 
 pub find_nothing : {X : Type 0} (p : X → Bool) (xs : List X) → ((w : X) → p w ≡ false) → find p xs ≡ None
 find_nothing p [] h = refl
 find_nothing p (y ∷ ys) h = rw (h y) (find_nothing p ys h)
+
+-- an item that passes, where one does
+pub list_any-one : {X : Type 0} (p : X → Bool) (xs : List X) → list_any p xs ≡ true → (x : X) × Contains xs x × (p x ≡ true)
+list_any-one p [] t = cc
+list_any-one p (y ∷ ys) t = elim (p y) as (λ b. p y ≡ b → (b || list_any p ys) ≡ true → (x : _) × Contains (y ∷ ys) x × (p x ≡ true)) [
+  | true ↦ λ e k. (y, Contains-here y ys, e)
+  | false ↦ λ e k. let h = list_any-one p ys k in (h.0, Contains-behind y h.0 ys h.1, h.2)
+] refl t
+
+pub list_any-some : {X : Type 0} (p : X → Bool) (xs : List X) (x : X) → Contains xs x → p x ≡ true → list_any p xs ≡ true
+list_any-some p [] x h t = absurd (not_in_nothing x h)
+list_any-some p (y ∷ ys) x h t = elim (Contains_cases y x ys h) [ inl e ↦ rw (ap p e ∙ t) refl | inr k ↦ or_right (p y) (list_any p ys) (list_any-some p ys x k t) ]
+  where
+    or_right : (a b : Bool) → b ≡ true → (a || b) ≡ true
+    or_right true b t = refl
+    or_right false b t = t

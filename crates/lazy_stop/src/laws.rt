@@ -1,4 +1,4 @@
-ghost use Rattle.std.specs.Prelude.{IsTrue, ◌≡◌, ◌≢◌, ◌↔◌, ℕ, List, [], ◌∷◌, Some, None, slice_get, slice_set};
+ghost use Rattle.std.specs.Prelude.{IsTrue, ◌≡◌, ◌≢◌, ◌↔◌, ◌+◌, ℕ, List, [], ◌∷◌, Some, None, slice_get, slice_set};
 ghost use Rattle.std.specs.List.{Contains};
 ghost use Rattle.farm_kinds.specs.RuleValue.{RuleValue};
 ghost use Rattle.farm_kinds.specs.Rules.{standard, verdict_of, remap_of, possible_kinds};
@@ -7,8 +7,8 @@ ghost use Rattle.farm_kinds.specs.declared.kinds.Kind.TheVariants.{Correct, Wron
 ghost use Rattle.farm_kinds.specs.declared.outcomes.Mode.TheVariants.{Lazy, Full};
 ghost use Rattle.farm_kinds.specs.declared.outcomes.Verdict.TheVariants.{Tests, CompilerError};
 ghost use Rattle.farm_kinds.specs.declared.outcomes.Answer.TheVariants.{Final, Pending};
-ghost use Rattle.farm_model.specs.Rows.{Row, completions_of, is_settled, kinds_of, answer_of};
-ghost use Rattle.lazy_stop.specs.Matters.{IsPossible, IsCompletion, SomeMatters, Extends};
+ghost use Rattle.farm_model.specs.Rows.{Row, completions_of, is_settled, kinds_of, answer_of, matters};
+ghost use Rattle.lazy_stop.specs.Matters.{IsPossible, IsCompletion, Matters, SomeMatters, Extends};
 
 use farm_kinds::{Kind, Rule};
 
@@ -39,6 +39,13 @@ pub fn settled_is_every_completion()
 pub fn final_iff_settled()
     ensures { (rule : RuleValue) (row : Row) (v : Kind) → row ≢ []
         → (answer_of rule Lazy row ≡ Final (Tests v)) ↔ IsTrue (is_settled rule row v) }
+{}
+
+/// The computed test whether a cell matters finds just the cells that do. It counts tests from 1,
+/// and [`crate::Row::matters`] counts places from 0.
+pub fn matters_is_computed()
+    ensures { (rule : RuleValue) (row : Row) (at : ℕ)
+        → IsTrue (matters rule row (at + 1)) ↔ Matters rule row at }
 {}
 
 /// A row with cells has no settled verdict exactly where some empty cell matters.
