@@ -5,6 +5,8 @@ mod events;
 mod lines;
 mod numbers;
 mod replies;
+#[cfg(test)]
+mod tests;
 mod texts;
 
 pub use events::{push_event, write_event};
