@@ -21,7 +21,8 @@ fn actor_of(event: &Event) -> Name
     }
 }
 
-/// Puts who acts, with a space behind it, where it is not the jury. At `NoMemory` a part may be there.
+/// Puts who acts, with a space behind it, where it is not the jury.
+/// At `NoMemory` a part of it may be there.
 #[tactic(auto, using(crate::proofs::Joining::front_stays))]
 fn push_actor(out: &mut Vec<u8>, who: Name) -> Result<(), NoMemory>
     ensures ok { OnOk result (out.new.items ≡ out.old.items ++ actor_text who) }
@@ -61,7 +62,8 @@ fn push_submit(
     class: Class,
     broken: bool,
 ) -> Result<(), NoMemory>
-    ensures ok { OnOk result (out.new.items ≡ out.old.items ++ join_with_byte 32 (codes "submit" ∷ problem.now ∷ class_words class ++ image_words broken)) }
+    ensures ok { OnOk result (out.new.items ≡ out.old.items
+        ++ join_with_byte 32 (codes "submit" ∷ problem.now ∷ class_words class ++ image_words broken)) }
     ensures err { OnErr result (take (length out.old.items) out.new.items ≡ out.old.items) }
 {
     push_words(out, &[b"submit", problem.as_bytes()])?;
@@ -71,7 +73,8 @@ fn push_submit(
 
 /// Puts a word, a problem's name and how many tests it has.
 fn push_tests(out: &mut Vec<u8>, word: &[u8], name: &Name, tests: u32) -> Result<(), NoMemory>
-    ensures ok { OnOk result (out.new.items ≡ out.old.items ++ join_with_byte 32 (word.now ∷ name.now ∷ decimal tests ∷ [])) }
+    ensures ok { OnOk result (out.new.items ≡ out.old.items
+        ++ join_with_byte 32 (word.now ∷ name.now ∷ decimal tests ∷ [])) }
     ensures err { OnErr result (out.new.items ≡ out.old.items) }
 {
     let mut digits = Buffer::new();
@@ -89,7 +92,8 @@ fn push_task(
     judging: u32,
     test: u32,
 ) -> Result<(), NoMemory>
-    ensures ok { OnOk result (out.new.items ≡ out.old.items ++ join_with_byte 32 (word.now ∷ host.now ∷ decimal judging ∷ decimal test ∷ [])) }
+    ensures ok { OnOk result (out.new.items ≡ out.old.items
+        ++ join_with_byte 32 (word.now ∷ host.now ∷ decimal judging ∷ decimal test ∷ [])) }
     ensures err { OnErr result (out.new.items ≡ out.old.items) }
 {
     let mut first = Buffer::new();
@@ -114,7 +118,8 @@ fn push_result(
     test: u32,
     kind: Kind,
 ) -> Result<(), NoMemory>
-    ensures ok { OnOk result (out.new.items ≡ out.old.items ++ join_with_byte 32 (codes "result" ∷ host.now ∷ decimal judging ∷ decimal test ∷ name_of kind ∷ [])) }
+    ensures ok { OnOk result (out.new.items ≡ out.old.items
+        ++ join_with_byte 32 (codes "result" ∷ host.now ∷ decimal judging ∷ decimal test ∷ name_of kind ∷ [])) }
     ensures err { OnErr result (take (length out.old.items) out.new.items ≡ out.old.items) }
 {
     push_task(out, b"result", host, judging, test)?;
@@ -123,7 +128,8 @@ fn push_result(
 
 /// Puts a result from outside.
 fn push_entry(out: &mut Vec<u8>, judging: u32, test: u32, kind: Kind) -> Result<(), NoMemory>
-    ensures ok { OnOk result (out.new.items ≡ out.old.items ++ join_with_byte 32 (codes "record" ∷ decimal judging ∷ decimal test ∷ name_of kind ∷ [])) }
+    ensures ok { OnOk result (out.new.items ≡ out.old.items
+        ++ join_with_byte 32 (codes "record" ∷ decimal judging ∷ decimal test ∷ name_of kind ∷ [])) }
     ensures err { OnErr result (out.new.items ≡ out.old.items) }
 {
     let mut first = Buffer::new();
@@ -139,9 +145,11 @@ fn push_entry(out: &mut Vec<u8>, judging: u32, test: u32, kind: Kind) -> Result<
     )
 }
 
-/// Puts the words of an event, without the name of who acts. At `NoMemory` a part of them may be there.
+/// Puts the words of an event, without the name of who acts.
+/// At `NoMemory` a part of them may be there.
 fn push_event_words(out: &mut Vec<u8>, event: &Event) -> Result<(), NoMemory>
-    ensures ok { OnOk result (out.new.items ≡ out.old.items ++ join_with_byte 32 (event_words event.now)) }
+    ensures ok { OnOk result (out.new.items ≡ out.old.items
+        ++ join_with_byte 32 (event_words event.now)) }
     ensures err { OnErr result (take (length out.old.items) out.new.items ≡ out.old.items) }
 {
     match event {
@@ -186,7 +194,8 @@ fn push_actor_and_words(out: &mut Vec<u8>, event: &Event) -> Result<(), NoMemory
     push_event_words(out, event)
 }
 
-/// Puts an event as a line, without its line feed, behind what is there. At `NoMemory` nothing changes.
+/// Puts an event as a line, without its line feed, behind what is there.
+/// At `NoMemory` nothing changes.
 pub fn push_event(out: &mut Vec<u8>, event: &Event) -> Result<(), NoMemory>
     ensures ok { OnOk result (out.new.items ≡ out.old.items ++ event_text event.now) }
     ensures err { OnErr result (out.new.items ≡ out.old.items) }

@@ -21,7 +21,8 @@ fn verdict_text(verdict: Verdict) -> &'static str
 
 /// Puts what is reported of a judging.
 fn push_shown(out: &mut Vec<u8>, answer: Answer) -> Result<(), NoMemory>
-    ensures ok { OnOk result (out.new.items ≡ out.old.items ++ join_with_byte 32 (shown_words answer)) }
+    ensures ok { OnOk result (out.new.items ≡ out.old.items
+        ++ join_with_byte 32 (shown_words answer)) }
     ensures err { OnErr result (out.new.items ≡ out.old.items) }
 {
     match answer {
@@ -32,7 +33,8 @@ fn push_shown(out: &mut Vec<u8>, answer: Answer) -> Result<(), NoMemory>
 
 /// Puts a problem's name and version.
 fn push_problem(out: &mut Vec<u8>, name: &Name, version: u32) -> Result<(), NoMemory>
-    ensures ok { OnOk result (out.new.items ≡ out.old.items ++ join_with_byte 32 (codes "problem" ∷ name.now ∷ codes "version" ∷ decimal version ∷ [])) }
+    ensures ok { OnOk result (out.new.items ≡ out.old.items
+        ++ join_with_byte 32 (codes "problem" ∷ name.now ∷ codes "version" ∷ decimal version ∷ [])) }
     ensures err { OnErr result (out.new.items ≡ out.old.items) }
 {
     let mut digits = Buffer::new();
@@ -49,7 +51,8 @@ fn push_problem(out: &mut Vec<u8>, name: &Name, version: u32) -> Result<(), NoMe
 
 /// Puts a submission's number and its judging's.
 fn push_submitted(out: &mut Vec<u8>, submission: u32, judging: u32) -> Result<(), NoMemory>
-    ensures ok { OnOk result (out.new.items ≡ out.old.items ++ join_with_byte 32 (codes "submission" ∷ decimal submission ∷ codes "judging" ∷ decimal judging ∷ [])) }
+    ensures ok { OnOk result (out.new.items ≡ out.old.items
+        ++ join_with_byte 32 (codes "submission" ∷ decimal submission ∷ codes "judging" ∷ decimal judging ∷ [])) }
     ensures err { OnErr result (out.new.items ≡ out.old.items) }
 {
     let mut first = Buffer::new();
@@ -67,7 +70,8 @@ fn push_submitted(out: &mut Vec<u8>, submission: u32, judging: u32) -> Result<()
 
 /// Puts a task that was handed out, and until when.
 fn push_handed(out: &mut Vec<u8>, task: Task, until: u64) -> Result<(), NoMemory>
-    ensures ok { OnOk result (out.new.items ≡ out.old.items ++ join_with_byte 32 (codes "task" ∷ decimal task.judging ∷ decimal task.test ∷ codes "until" ∷ decimal until ∷ [])) }
+    ensures ok { OnOk result (out.new.items ≡ out.old.items
+        ++ join_with_byte 32 (codes "task" ∷ decimal task.judging ∷ decimal task.test ∷ codes "until" ∷ decimal until ∷ [])) }
     ensures err { OnErr result (out.new.items ≡ out.old.items) }
 {
     let mut judging = Buffer::new();
@@ -87,7 +91,8 @@ fn push_handed(out: &mut Vec<u8>, task: Task, until: u64) -> Result<(), NoMemory
 
 /// Puts the words of a reply, joined by single spaces. At `NoMemory` nothing changes.
 fn push_reply_words(out: &mut Vec<u8>, reply: &Reply) -> Result<(), NoMemory>
-    ensures ok { OnOk result (out.new.items ≡ out.old.items ++ join_with_byte 32 (reply_words reply.now)) }
+    ensures ok { OnOk result (out.new.items ≡ out.old.items
+        ++ join_with_byte 32 (reply_words reply.now)) }
     ensures err { OnErr result (out.new.items ≡ out.old.items) }
 {
     match reply {

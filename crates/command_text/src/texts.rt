@@ -14,7 +14,8 @@ pub fn push(out: &mut Vec<u8>, bytes: &[u8]) -> Result<(), NoMemory>
     out.extend_from_slice(bytes).map_err(|_| NoMemory)
 }
 
-/// Puts each word, with a space before it, behind what is there. At `NoMemory` a part of them may be there.
+/// Puts each word, with a space before it, behind what is there.
+/// At `NoMemory` a part of them may be there.
 #[tactic(auto, using(crate::proofs::Joining::spaced_more, crate::proofs::Joining::front_stays))]
 pub fn push_spaced(out: &mut Vec<u8>, words: &[&[u8]]) -> Result<(), NoMemory>
     ensures ok { OnOk result (out.new.items ≡ out.old.items ++ spaced (texts_of words.now)) }
@@ -27,10 +28,12 @@ pub fn push_spaced(out: &mut Vec<u8>, words: &[&[u8]]) -> Result<(), NoMemory>
     Ok(())
 }
 
-/// Puts the words, joined by single spaces, behind what is there. At `NoMemory` a part of them may be there.
+/// Puts the words, joined by single spaces, behind what is there.
+/// At `NoMemory` a part of them may be there.
 #[tactic(auto, using(crate::proofs::Joining::joined, crate::proofs::Joining::front_stays))]
 fn push_joined(out: &mut Vec<u8>, words: &[&[u8]]) -> Result<(), NoMemory>
-    ensures ok { OnOk result (out.new.items ≡ out.old.items ++ join_with_byte 32 (texts_of words.now)) }
+    ensures ok { OnOk result (out.new.items ≡ out.old.items
+        ++ join_with_byte 32 (texts_of words.now)) }
     ensures err { OnErr result (take (length out.old.items) out.new.items ≡ out.old.items) }
 {
     let Some((first, rest)) = words.split_first() else {
@@ -42,7 +45,8 @@ fn push_joined(out: &mut Vec<u8>, words: &[&[u8]]) -> Result<(), NoMemory>
 
 /// Puts the words, joined by single spaces, behind what is there. At `NoMemory` nothing changes.
 pub fn push_words(out: &mut Vec<u8>, words: &[&[u8]]) -> Result<(), NoMemory>
-    ensures ok { OnOk result (out.new.items ≡ out.old.items ++ join_with_byte 32 (texts_of words.now)) }
+    ensures ok { OnOk result (out.new.items ≡ out.old.items
+        ++ join_with_byte 32 (texts_of words.now)) }
     ensures err { OnErr result (out.new.items ≡ out.old.items) }
 {
     let kept = out.len();
@@ -55,7 +59,8 @@ pub fn push_words(out: &mut Vec<u8>, words: &[&[u8]]) -> Result<(), NoMemory>
 
 /// Puts a word, a space and a number behind what is there. At `NoMemory` nothing changes.
 pub fn push_number(out: &mut Vec<u8>, word: &[u8], n: u64) -> Result<(), NoMemory>
-    ensures ok { OnOk result (out.new.items ≡ out.old.items ++ join_with_byte 32 (word.now ∷ decimal n ∷ [])) }
+    ensures ok { OnOk result (out.new.items ≡ out.old.items
+        ++ join_with_byte 32 (word.now ∷ decimal n ∷ [])) }
     ensures err { OnErr result (out.new.items ≡ out.old.items) }
 {
     let mut digits = Buffer::new();
