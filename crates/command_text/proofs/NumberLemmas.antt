@@ -41,16 +41,8 @@ too_large limit word i v h big =
 both : (a b : Bool) → a ≡ true → b ≡ true → (a && b) ≡ true
 both a b p q = rw (p, q) refl
 
-not_both : (a b : Bool) → b ≡ false → (a && b) ≡ false
-not_both true b q = q
-not_both false b q = refl
-
 -- each byte is a digit
 pub all_digits : (limit : ℕ) (word : List ℕ) (v : ℕ) → leads_well word ≡ true → list_all is_digit word ≡ true → v ≡ value_from 0 word → v ≤ limit → Some v ≡ number_within limit word
 all_digits limit word v lead digits h small =
     sym (ap (λ (b : Bool). limited limit b (value_from 0 word)) (both (leads_well word) (list_all is_digit word) lead digits)
     ∙ ap (limited limit true) (sym h) ∙ some_within limit v small)
-
--- some byte is none
-pub no_number : (limit : ℕ) (word : List ℕ) → list_all is_digit word ≡ false → None ≡ number_within limit word
-no_number limit word h = sym (ap (λ (b : Bool). limited limit b (value_from 0 word)) (not_both (leads_well word) (list_all is_digit word) h))
