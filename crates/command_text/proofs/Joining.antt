@@ -24,6 +24,16 @@ pub joined : (word : List ℕ) (words : List (List ℕ)) → join_with_byte 32 (
 joined word [] = sym (append-nil word)
 joined word (w ∷ words) = ap (λ t. word ++ (32 ∷ t)) (joined w words)
 
+spaced-append : (words more : List (List ℕ)) → spaced (words ++ more) ≡ spaced words ++ spaced more
+spaced-append [] more = refl
+spaced-append (w ∷ words) more = ap (λ t. (32 ∷ w) ++ t) (spaced-append words more) ∙ sym (append_assoc (32 ∷ w) (spaced words) (spaced more))
+
+-- words behind some words
+pub joined_more : (word : List ℕ) (words more : List (List ℕ)) → join_with_byte 32 (word ∷ words ++ more) ≡ join_with_byte 32 (word ∷ words) ++ spaced more
+joined_more word words more =
+    joined word (words ++ more) ∙ ap (λ t. word ++ t) (spaced-append words more) ∙ sym (append_assoc word (spaced words) (spaced more))
+    ∙ ap (λ t. t ++ spaced more) (sym (joined word words))
+
 -- what stands at the front of a longer text stands there
 pub front_stays : (old added new : List ℕ) → take (length (old ++ added)) new ≡ old ++ added → take (length old) new ≡ old
 front_stays old added new h =

@@ -1,3 +1,9 @@
 pub mod WordLemmas
 pub mod NumberLemmas
 pub mod Joining
+pub mod LineLemmas
+pub mod ActorLemmas
+pub mod Tokens
+pub mod Decimals
+pub mod Readable
+pub mod ReadBack

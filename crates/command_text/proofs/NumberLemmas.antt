@@ -1,11 +1,12 @@
 -- The number that digits stand for, digit by digit.
-use Rattle.std.proofs.Common.{ℕ, ◌≡◌, ◌+◌, ◌-◌, ◌*◌, ◌^◌, ◌<◌, ◌≤◌, List, [], ◌∷◌, ◌++◌, Option, Some, None, Bool, true, false, cond, ◌&&◌, refl, sym, ap, ◌∙◌, arith, length, take, drop, get_or}
+use Rattle.std.proofs.Common.{ℕ, ◌≡◌, ◌+◌, ◌-◌, ◌*◌, ◌<◌, ◌≤◌, List, [], ◌∷◌, ◌++◌, Option, Some, None, Bool, true, false, cond, ◌&&◌, refl, sym, ap, ◌∙◌, arith, length, take, drop, get_or}
 use Rattle.std.specs.Prelude.{nat_le}
 use Rattle.std.specs.List.{list_all}
 use Rattle.std.specs.Option.{option_and_then}
 use Rattle.std.proofs.lemmas.List.{take_more, take-append-drop}
 use Rattle.std.proofs.lemmas.Bool.Decides.{nat_tests}
-use Rattle.farm_model.specs.Numbers.{value_from, is_digit, leads_well, is_numeral, at_most, number_of}
+use Rattle.farm_model.specs.Numbers.{value_from, is_digit, leads_well, is_numeral, at_most}
+use Rattle.command_text.specs.Limited.{number_within}
 
 value_from-append : (n : ℕ) (xs ys : List ℕ) → value_from n (xs ++ ys) ≡ value_from (value_from n xs) ys
 value_from-append n [] ys = refl
@@ -21,35 +22,27 @@ grows n [] = omega arith
 grows n (x ∷ xs) = omega (arith, grows (10 * n + (x - 48)) xs)
 
 -- a number that is within the limit, or not
-abbrev pub limited : Bool → ℕ → Option ℕ
-limited numeral n = option_and_then (at_most 4294967295) (cond numeral (Some n) None)
+abbrev limited : ℕ → Bool → ℕ → Option ℕ
+limited limit numeral n = option_and_then (at_most limit) (cond numeral (Some n) None)
 
-none_over : (numeral : Bool) (n : ℕ) → 2 ^ 32 ≤ n → limited numeral n ≡ None
-none_over true n big = let over : nat_le n 4294967295 ≡ false = grind (arith, nat_tests) in rw over refl
-none_over false n big = refl
+none_over : (limit : ℕ) (numeral : Bool) (n : ℕ) → limit < n → limited limit numeral n ≡ None
+none_over limit true n big = let over : nat_le n limit ≡ false = grind (arith, nat_tests) in rw over refl
+none_over limit false n big = refl
 
-some_within : (n : ℕ) → n < 2 ^ 32 → limited true n ≡ Some n
-some_within n small = let within : nat_le n 4294967295 ≡ true = grind (arith, nat_tests) in rw within refl
+some_within : (limit n : ℕ) → n ≤ limit → limited limit true n ≡ Some n
+some_within limit n small = let within : nat_le n limit ≡ true = grind (arith, nat_tests) in rw within refl
 
 -- more digits make no smaller number
-pub too_large : (word : List ℕ) (i v : ℕ) → v ≡ value_from 0 (take i word) → 2 ^ 32 ≤ v → None ≡ number_of word
-too_large word i v h big =
+pub too_large : (limit : ℕ) (word : List ℕ) (i v : ℕ) → v ≡ value_from 0 (take i word) → limit < v → None ≡ number_within limit word
+too_large limit word i v h big =
     let whole : value_from 0 word ≡ value_from v (drop i word) = ap (value_from 0) (sym (take-append-drop i word)) ∙ value_from-append 0 (take i word) (drop i word) ∙ ap (λ n. value_from n (drop i word)) (sym h) in
-    sym (none_over (is_numeral word) (value_from 0 word) (omega (arith, grows v (drop i word))))
+    sym (none_over limit (is_numeral word) (value_from 0 word) (omega (arith, grows v (drop i word))))
 
 both : (a b : Bool) → a ≡ true → b ≡ true → (a && b) ≡ true
 both a b p q = rw (p, q) refl
 
-not_both : (a b : Bool) → b ≡ false → (a && b) ≡ false
-not_both true b q = q
-not_both false b q = refl
-
 -- each byte is a digit
-pub all_digits : (word : List ℕ) (v : ℕ) → leads_well word ≡ true → list_all is_digit word ≡ true → v ≡ value_from 0 word → v < 2 ^ 32 → Some v ≡ number_of word
-all_digits word v lead digits h small =
-    sym (ap (λ (b : Bool). limited b (value_from 0 word)) (both (leads_well word) (list_all is_digit word) lead digits)
-    ∙ ap (limited true) (sym h) ∙ some_within v small)
-
--- some byte is none
-pub no_number : (word : List ℕ) → list_all is_digit word ≡ false → None ≡ number_of word
-no_number word h = sym (ap (λ (b : Bool). limited b (value_from 0 word)) (not_both (leads_well word) (list_all is_digit word) h))
+pub all_digits : (limit : ℕ) (word : List ℕ) (v : ℕ) → leads_well word ≡ true → list_all is_digit word ≡ true → v ≡ value_from 0 word → v ≤ limit → Some v ≡ number_within limit word
+all_digits limit word v lead digits h small =
+    sym (ap (λ (b : Bool). limited limit b (value_from 0 word)) (both (leads_well word) (list_all is_digit word) lead digits)
+    ∙ ap (limited limit true) (sym h) ∙ some_within limit v small)

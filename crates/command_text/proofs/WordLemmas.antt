@@ -39,7 +39,8 @@ word_then b (c ∷ bs) rest h =
     words_step b (c ∷ bs ++ 32 ∷ rest) h.0 ∙ ap (put_before b (c ∷ bs ++ 32 ∷ rest)) (word_then c bs rest h.1)
     ∙ put_onto b c (bs ++ 32 ∷ rest) ((c ∷ bs) ∷ words (32 ∷ rest)) h.1.0
 
-joined : (word rest : List ℕ) → IsWord word → 0 < length word → (0 < length rest → get_or rest 0 0 ≡ 32) → words (word ++ rest) ≡ word ∷ words rest
+-- a word in front of nothing, or of a space
+pub joined : (word rest : List ℕ) → IsWord word → 0 < length word → (0 < length rest → get_or rest 0 0 ≡ 32) → words (word ++ rest) ≡ word ∷ words rest
 joined [] rest h n e = absurd (omega arith)
 joined (b ∷ bs) [] h n e = ap words (append-nil (b ∷ bs)) ∙ word_last b bs h
 joined (b ∷ bs) (r ∷ rs) h n e =

@@ -1,2 +1,5 @@
+pub mod Actor
+pub mod Limited
+pub mod NameAlone
 pub mod NextWord
 pub mod WordList

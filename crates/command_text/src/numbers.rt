@@ -1,12 +1,30 @@
-ghost use Rattle.std.specs.Prelude.{◌≡◌, ◌≤◌, ◌<◌, ◌+◌, ◌*◌, ◌^◌, true};
-ghost use Rattle.farm_model.specs.Numbers.{number_of, whole_of, leads_well};
+ghost use Rattle.std.specs.Prelude.{◌≡◌, ◌≤◌, ◌<◌, ◌+◌, ◌*◌, ◌^◌, true, IfSome};
+ghost use Rattle.farm_model.specs.Numbers.{number_of, moment_of, leads_well};
+ghost use Rattle.command_text.specs.Limited.{number_within};
 
 /// The number that the word stands for: decimal digits without a leading zero, at most 4294967295.
 pub fn read_number(word: &[u8]) -> Option<u32>
     ensures { result ≡ number_of word.now }
 {
+    let number = read_within(word, u32::MAX as u64)?;
+    Some(number as u32)
+}
+
+/// The moment that the word stands for: at most 18 decimal digits without a leading zero.
+pub fn read_moment(word: &[u8]) -> Option<u64>
+    ensures { result ≡ moment_of word.now }
+{
+    read_within(word, 999_999_999_999_999_999)
+}
+
+/// The number that the word stands for, if it is at most the limit.
+fn read_within(word: &[u8], limit: u64) -> Option<u64>
+    requires { limit < 10 ^ 18 }
+    ensures value { result ≡ number_within limit word.now }
+    ensures within { IfSome result (λ n. n ≤ limit) }
+{
     if leads_well(word) {
-        read_digits(word)
+        read_digits(word, limit)
     } else {
         None
     }
@@ -22,10 +40,12 @@ fn leads_well(word: &[u8]) -> bool
     }
 }
 
-/// The number of a word that leads well.
-fn read_digits(word: &[u8]) -> Option<u32>
-    requires { leads_well word.now ≡ true }
-    ensures { result ≡ number_of word.now }
+/// The number of a word that leads well, if it is at most the limit.
+fn read_digits(word: &[u8], limit: u64) -> Option<u64>
+    requires leads { leads_well word.now ≡ true }
+    requires limit { limit < 10 ^ 18 }
+    ensures value { result ≡ number_within limit word.now }
+    ensures within { IfSome result (λ n. n ≤ limit) }
 {
     let mut value: u64 = 0;
     for b in word {
@@ -33,9 +53,9 @@ fn read_digits(word: &[u8]) -> Option<u32>
             return None;
         }
         value = value * 10 + (*b - b'0') as u64;
-        if value > u32::MAX as u64 {
+        if value > limit {
             return None;
         }
     }
-    Some(value as u32)
+    Some(value)
 }

@@ -4,9 +4,9 @@ use Rattle.farm_model.specs.Numbers.{is_digit}
 use Rattle.command_text.proofs.NumberLemmas.{value_more, too_large}
 use Rattle.command_text.proofs.numbers.read_digits.Goals as goal
 
-pub returns-then-value : goal.returns-then-value
-returns-then-value c =
-    too_large c.args.word.now _ _ (value_more c.args.word.now c.loop-b.b-index c.loop-b.value c.loop-b-test.true c.loop-b.invariant.value_is) (omega arith)
+pub returns-then-value-limit-clause-value : goal.returns-then-value-limit-clause-value
+returns-then-value-limit-clause-value c =
+    too_large c.args.limit c.args.word.now _ _ (value_more c.args.word.now c.loop-b.b-index c.loop-b.value c.loop-b-test.true c.loop-b.invariant.value_is) (omega arith)
 
 pub loop-b-preserved : goal.loop-b-preserved
 loop-b-preserved c = record {

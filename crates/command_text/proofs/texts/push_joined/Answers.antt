@@ -1,6 +1,6 @@
 use Rattle.std.proofs.Common.{ℕ, ◌≡◌, List, subst, OnOk}
 use Rattle.command_text.proofs.Joining.{words_pushed}
-use Rattle.command_text.proofs.texts.push_words.Goals as goal
+use Rattle.command_text.proofs.texts.push_joined.Goals as goal
 
 pub returns-clause-ok : goal.returns-clause-ok
 returns-clause-ok c =

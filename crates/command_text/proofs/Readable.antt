@@ -1,0 +1,164 @@
+-- What holds of an event that a line is read as: the jury acts, names are names, and numbers are within their limits.
+use Rattle.std.proofs.Common.{ℕ, ◌≡◌, ◌-◌, ◌^◌, ◌≤◌, List, [], ◌∷◌, Option, Some, None, Result, Ok, Err, Bool, true, cond, refl, subst}
+use Rattle.std.specs.Prelude.{⊤, nat_le, codes}
+use Rattle.std.specs.Str.{bytes_eq}
+use Rattle.std.specs.Option.{option_and_then}
+use Rattle.std.proofs.lemmas.Bool.{cond_both, leb-true}
+use Rattle.farm_kinds.specs.declared.events.Event.{Event}
+use Rattle.farm_kinds.specs.declared.events.Event.TheVariants as event
+use Rattle.farm_kinds.specs.declared.events.LineFault.{LineFault}
+use Rattle.farm_kinds.specs.Names.{is_name, name_read, jury}
+use Rattle.farm_kinds.specs.Kinds.{kind_named}
+use Rattle.farm_model.specs.Words.{words}
+use Rattle.farm_model.specs.Numbers.{number_of, whole_of, at_most}
+use Rattle.farm_model.specs.Grammar.{◌>>=◌, problem_line, replace_line, name_line, submit_words, submit_line, result_line, record_line, renew_line, tick_line, show_line, host_event_of, event_of, is_comment, event_or_bad, read_of_words, line_read}
+
+abbrev pub IsName : List ℕ → Type 0
+IsName word = is_name word ≡ true
+
+abbrev pub IsNumber : ℕ → Type 0
+IsNumber n = n ≤ 4294967295
+
+abbrev pub IsReadable : Event → Type 0
+IsReadable (event.Problem who name tests) = (who ≡ jury) × IsName name × IsNumber tests
+IsReadable (event.Replace who name tests) = (who ≡ jury) × IsName name × IsNumber tests
+IsReadable (event.Host name) = IsName name
+IsReadable (event.Submit problem class broken) = IsName problem
+IsReadable (event.Claim host) = IsName host
+IsReadable (event.Result host j test kind) = IsName host × IsNumber j × IsNumber test
+IsReadable (event.Entry j test kind) = IsNumber j × IsNumber test
+IsReadable (event.Renew host j test) = IsName host × IsNumber j × IsNumber test
+IsReadable (event.Tick moment) = moment ≤ 10 ^ 18 - 1
+IsReadable (event.Down host) = IsName host
+IsReadable (event.Show j) = IsNumber j
+
+abbrev IfRead : Option Event → Type 0
+IfRead None = ⊤
+IfRead (Some e) = IsReadable e
+
+-- Steps of a line
+
+after : {A : Type 0} (o : Option A) (f : A → Option Event) → ((x : A) → IfRead (f x)) → IfRead (o >>= f)
+after None f each = tt
+after (Some x) f each = each x
+
+after_name : (word : List ℕ) (f : List ℕ → Option Event) → (IsName word → IfRead (f word)) → IfRead (name_read word >>= f)
+after_name word f each =
+    cond_both (is_name word) (Some word) None (λ (o : Option (List ℕ)). IfRead (o >>= f)) each (λ no. tt)
+
+after_limit : (limit : ℕ) (whole : Option ℕ) (f : ℕ → Option Event) → ((n : ℕ) → n ≤ limit → IfRead (f n)) → IfRead (option_and_then (at_most limit) whole >>= f)
+after_limit limit None f each = tt
+after_limit limit (Some n) f each =
+    cond_both (nat_le n limit) (Some n) None (λ (o : Option ℕ). IfRead (o >>= f)) (λ within. each n (leb-true n limit within)) (λ no. tt)
+
+after_number : (word : List ℕ) (f : ℕ → Option Event) → ((n : ℕ) → IsNumber n → IfRead (f n)) → IfRead (number_of word >>= f)
+after_number word f each = after_limit 4294967295 (whole_of word) f each
+
+-- Lines
+
+problem_reads : (ws : List (List ℕ)) → IfRead (problem_line ws)
+problem_reads [] = tt
+problem_reads (name ∷ []) = tt
+problem_reads (name ∷ tests ∷ []) =
+    after_name name (λ n. number_of tests >>= (λ t. Some (event.Problem jury n t))) (λ is.
+    after_number tests (λ t. Some (event.Problem jury name t)) (λ t small. (refl, is, small)))
+problem_reads (name ∷ tests ∷ more ∷ ws) = tt
+
+replace_reads : (ws : List (List ℕ)) → IfRead (replace_line ws)
+replace_reads [] = tt
+replace_reads (name ∷ []) = tt
+replace_reads (name ∷ tests ∷ []) =
+    after_name name (λ n. number_of tests >>= (λ t. Some (event.Replace jury n t))) (λ is.
+    after_number tests (λ t. Some (event.Replace jury name t)) (λ t small. (refl, is, small)))
+replace_reads (name ∷ tests ∷ more ∷ ws) = tt
+
+name_reads : (e : List ℕ → Event) → ((name : List ℕ) → IsName name → IsReadable (e name)) → (ws : List (List ℕ)) → IfRead (name_line e ws)
+name_reads e each [] = tt
+name_reads e each (name ∷ []) = after_name name (λ n. Some (e n)) (each name)
+name_reads e each (name ∷ more ∷ ws) = tt
+
+submit_reads : (ws : List (List ℕ)) → IfRead (submit_line ws)
+submit_reads [] = tt
+submit_reads (name ∷ ws) =
+    after_name name (λ n. submit_words ws >>= (λ said. Some (event.Submit n said.0 said.1))) (λ is.
+    after (submit_words ws) (λ said. Some (event.Submit name said.0 said.1)) (λ said. is))
+
+result_reads : (ws : List (List ℕ)) → IfRead (result_line ws)
+result_reads [] = tt
+result_reads (host ∷ []) = tt
+result_reads (host ∷ judging ∷ []) = tt
+result_reads (host ∷ judging ∷ test ∷ []) = tt
+result_reads (host ∷ judging ∷ test ∷ kind ∷ []) =
+    after_name host (λ h. number_of judging >>= (λ j. number_of test >>= (λ t. kind_named kind >>= (λ k. Some (event.Result h j t k))))) (λ is.
+    after_number judging (λ j. number_of test >>= (λ t. kind_named kind >>= (λ k. Some (event.Result host j t k)))) (λ j j_small.
+    after_number test (λ t. kind_named kind >>= (λ k. Some (event.Result host j t k))) (λ t t_small.
+    after (kind_named kind) (λ k. Some (event.Result host j t k)) (λ k. (is, j_small, t_small)))))
+result_reads (host ∷ judging ∷ test ∷ kind ∷ more ∷ ws) = tt
+
+record_reads : (ws : List (List ℕ)) → IfRead (record_line ws)
+record_reads [] = tt
+record_reads (judging ∷ []) = tt
+record_reads (judging ∷ test ∷ []) = tt
+record_reads (judging ∷ test ∷ kind ∷ []) =
+    after_number judging (λ j. number_of test >>= (λ t. kind_named kind >>= (λ k. Some (event.Entry j t k)))) (λ j j_small.
+    after_number test (λ t. kind_named kind >>= (λ k. Some (event.Entry j t k))) (λ t t_small.
+    after (kind_named kind) (λ k. Some (event.Entry j t k)) (λ k. (j_small, t_small))))
+record_reads (judging ∷ test ∷ kind ∷ more ∷ ws) = tt
+
+renew_reads : (ws : List (List ℕ)) → IfRead (renew_line ws)
+renew_reads [] = tt
+renew_reads (host ∷ []) = tt
+renew_reads (host ∷ judging ∷ []) = tt
+renew_reads (host ∷ judging ∷ test ∷ []) =
+    after_name host (λ h. number_of judging >>= (λ j. number_of test >>= (λ t. Some (event.Renew h j t)))) (λ is.
+    after_number judging (λ j. number_of test >>= (λ t. Some (event.Renew host j t))) (λ j j_small.
+    after_number test (λ t. Some (event.Renew host j t)) (λ t t_small. (is, j_small, t_small))))
+renew_reads (host ∷ judging ∷ test ∷ more ∷ ws) = tt
+
+tick_reads : (ws : List (List ℕ)) → IfRead (tick_line ws)
+tick_reads [] = tt
+tick_reads (moment ∷ []) = after_limit (10 ^ 18 - 1) (whole_of moment) (λ m. Some (event.Tick m)) (λ m small. small)
+tick_reads (moment ∷ more ∷ ws) = tt
+
+show_reads : (ws : List (List ℕ)) → IfRead (show_line ws)
+show_reads [] = tt
+show_reads (judging ∷ []) = after_number judging (λ j. Some (event.Show j)) (λ j small. small)
+show_reads (judging ∷ more ∷ ws) = tt
+
+-- Words that begin a line
+
+or_else : (b : Bool) (x y : Option Event) → IfRead x → IfRead y → IfRead (cond b x y)
+or_else b x y p q = cond_both b x y IfRead (λ _. p) (λ _. q)
+
+host_event_reads : (word : List ℕ) (ws : List (List ℕ)) → IfRead (host_event_of word ws)
+host_event_reads word ws =
+    or_else (bytes_eq word (codes "host")) _ _ (name_reads event.Host (λ n is. is) ws)
+    (or_else (bytes_eq word (codes "claim")) _ _ (name_reads event.Claim (λ n is. is) ws)
+    (or_else (bytes_eq word (codes "result")) _ _ (result_reads ws)
+    (or_else (bytes_eq word (codes "renew")) _ _ (renew_reads ws)
+    (or_else (bytes_eq word (codes "down")) (name_line event.Down ws) None (name_reads event.Down (λ n is. is) ws) tt))))
+
+event_reads : (word : List ℕ) (ws : List (List ℕ)) → IfRead (event_of word ws)
+event_reads word ws =
+    or_else (bytes_eq word (codes "problem")) _ _ (problem_reads ws)
+    (or_else (bytes_eq word (codes "replace")) _ _ (replace_reads ws)
+    (or_else (bytes_eq word (codes "submit")) _ _ (submit_reads ws)
+    (or_else (bytes_eq word (codes "record")) _ _ (record_reads ws)
+    (or_else (bytes_eq word (codes "show")) _ _ (show_reads ws)
+    (or_else (bytes_eq word (codes "tick")) _ _ (tick_reads ws) (host_event_reads word ws))))))
+
+abbrev IfOkRead : Result (Option Event) LineFault → Type 0
+IfOkRead (Ok read) = IfRead read
+IfOkRead (Err f) = ⊤
+
+event_or_bad_reads : (o : Option Event) → IfRead o → IfOkRead (event_or_bad o)
+event_or_bad_reads None h = tt
+event_or_bad_reads (Some e) h = h
+
+words_read : (ws : List (List ℕ)) → IfOkRead (read_of_words ws)
+words_read [] = tt
+words_read (word ∷ ws) =
+    cond_both (is_comment word) (Ok None) (event_or_bad (event_of word ws)) IfOkRead (λ _. tt) (λ _. event_or_bad_reads (event_of word ws) (event_reads word ws))
+
+pub IsReadable-from_line : (line : List ℕ) (e : Event) → line_read line ≡ Ok (Some e) → IsReadable e
+IsReadable-from_line line e h = subst IfOkRead h (words_read (words line))

@@ -1,0 +1,218 @@
+ghost use Rattle.std.specs.Prelude.{◌≡◌, ◌++◌, ◌∷◌, [], ℕ, List, length, take, OnOk, OnErr, IfOk, codes};
+ghost use Rattle.std.specs.Fmt.{decimal};
+ghost use Rattle.std.specs.List.{join_with_byte};
+ghost use Rattle.farm_kinds.specs.Kinds.{name_of};
+ghost use Rattle.farm_model.specs.Texts.{class_words, image_words, event_words, actor_of, event_text};
+ghost use Rattle.command_text.specs.Actor.{actor_text};
+ghost use Rattle.command_text.specs.WordList.{texts_of};
+
+use crate::texts::{push, push_number, push_spaced, push_words};
+use farm_kinds::{Class, Event, Kind, Name, NoMemory, Text};
+use itoa::Buffer;
+use std::alloc::Global;
+
+/// Who acts in an event.
+fn actor_of(event: &Event) -> Name
+    ensures { result ≡ actor_of event.now }
+{
+    match event {
+        Event::Problem { who, .. } | Event::Replace { who, .. } => *who,
+        _ => Name::jury(),
+    }
+}
+
+/// Puts who acts, with a space behind it, where it is not the jury.
+/// At `NoMemory` a part of it may be there.
+#[tactic(auto, using(crate::proofs::Joining::front_stays))]
+fn push_actor(out: &mut Vec<u8>, who: Name) -> Result<(), NoMemory>
+    ensures ok { OnOk result (out.new.items ≡ out.old.items ++ actor_text who) }
+    ensures err { OnErr result (take (length out.old.items) out.new.items ≡ out.old.items) }
+{
+    if who.as_bytes() == Name::jury().as_bytes() {
+        return Ok(());
+    }
+    push(out, b"@")?;
+    push(out, who.as_bytes())?;
+    push(out, b" ")
+}
+
+/// The word that a class is written as.
+fn class_words(class: Class) -> &'static [&'static [u8]]
+    ensures { texts_of result.now ≡ class_words class }
+{
+    match class {
+        Class::High => &[b"high"],
+        Class::Normal => &[],
+        Class::Low => &[b"low"],
+    }
+}
+
+/// The word of a broken image.
+fn image_words(broken: bool) -> &'static [&'static [u8]]
+    ensures { texts_of result.now ≡ image_words broken }
+{
+    if broken { &[b"broken"] } else { &[] }
+}
+
+/// Puts the words of a submission. At `NoMemory` a part of them may be there.
+#[tactic(auto, using(crate::proofs::Joining::front_stays, crate::proofs::Joining::joined_more))]
+fn push_submit(
+    out: &mut Vec<u8>,
+    problem: &Name,
+    class: Class,
+    broken: bool,
+) -> Result<(), NoMemory>
+    ensures ok { OnOk result (out.new.items ≡ out.old.items
+        ++ join_with_byte 32 (codes "submit" ∷ problem.now ∷ class_words class ++ image_words broken)) }
+    ensures err { OnErr result (take (length out.old.items) out.new.items ≡ out.old.items) }
+{
+    push_words(out, &[b"submit", problem.as_bytes()])?;
+    push_spaced(out, class_words(class))?;
+    push_spaced(out, image_words(broken))
+}
+
+/// Puts a word, a problem's name and how many tests it has.
+fn push_tests(out: &mut Vec<u8>, word: &[u8], name: &Name, tests: u32) -> Result<(), NoMemory>
+    ensures ok { OnOk result (out.new.items ≡ out.old.items
+        ++ join_with_byte 32 (word.now ∷ name.now ∷ decimal tests ∷ [])) }
+    ensures err { OnErr result (out.new.items ≡ out.old.items) }
+{
+    let mut digits = Buffer::new();
+    push_words(
+        out,
+        &[word, name.as_bytes(), digits.format(tests).as_bytes()],
+    )
+}
+
+/// Puts a word, a host and the numbers of a judging and a test.
+fn push_task(
+    out: &mut Vec<u8>,
+    word: &[u8],
+    host: &Name,
+    judging: u32,
+    test: u32,
+) -> Result<(), NoMemory>
+    ensures ok { OnOk result (out.new.items ≡ out.old.items
+        ++ join_with_byte 32 (word.now ∷ host.now ∷ decimal judging ∷ decimal test ∷ [])) }
+    ensures err { OnErr result (out.new.items ≡ out.old.items) }
+{
+    let mut first = Buffer::new();
+    let mut second = Buffer::new();
+    push_words(
+        out,
+        &[
+            word,
+            host.as_bytes(),
+            first.format(judging).as_bytes(),
+            second.format(test).as_bytes(),
+        ],
+    )
+}
+
+/// Puts a host's result of a test. At `NoMemory` a part of it may be there.
+#[tactic(auto, using(crate::proofs::Joining::front_stays, crate::proofs::Joining::joined_more))]
+fn push_result(
+    out: &mut Vec<u8>,
+    host: &Name,
+    judging: u32,
+    test: u32,
+    kind: Kind,
+) -> Result<(), NoMemory>
+    ensures ok { OnOk result (out.new.items ≡ out.old.items
+        ++ join_with_byte 32 (codes "result" ∷ host.now ∷ decimal judging ∷ decimal test ∷ name_of kind ∷ [])) }
+    ensures err { OnErr result (take (length out.old.items) out.new.items ≡ out.old.items) }
+{
+    push_task(out, b"result", host, judging, test)?;
+    push_spaced(out, &[kind.name().as_bytes()])
+}
+
+/// Puts a result from outside.
+fn push_entry(out: &mut Vec<u8>, judging: u32, test: u32, kind: Kind) -> Result<(), NoMemory>
+    ensures ok { OnOk result (out.new.items ≡ out.old.items
+        ++ join_with_byte 32 (codes "record" ∷ decimal judging ∷ decimal test ∷ name_of kind ∷ [])) }
+    ensures err { OnErr result (out.new.items ≡ out.old.items) }
+{
+    let mut first = Buffer::new();
+    let mut second = Buffer::new();
+    push_words(
+        out,
+        &[
+            b"record",
+            first.format(judging).as_bytes(),
+            second.format(test).as_bytes(),
+            kind.name().as_bytes(),
+        ],
+    )
+}
+
+/// Puts the words of an event, without the name of who acts.
+/// At `NoMemory` a part of them may be there.
+fn push_event_words(out: &mut Vec<u8>, event: &Event) -> Result<(), NoMemory>
+    ensures ok { OnOk result (out.new.items ≡ out.old.items
+        ++ join_with_byte 32 (event_words event.now)) }
+    ensures err { OnErr result (take (length out.old.items) out.new.items ≡ out.old.items) }
+{
+    match event {
+        Event::Problem { name, tests, .. } => push_tests(out, b"problem", name, *tests),
+        Event::Replace { name, tests, .. } => push_tests(out, b"replace", name, *tests),
+        Event::Host { name } => push_words(out, &[b"host", name.as_bytes()]),
+        Event::Submit {
+            problem,
+            class,
+            broken,
+        } => push_submit(out, problem, *class, *broken),
+        Event::Claim { host } => push_words(out, &[b"claim", host.as_bytes()]),
+        Event::Result {
+            host,
+            judging,
+            test,
+            kind,
+        } => push_result(out, host, *judging, *test, *kind),
+        Event::Entry {
+            judging,
+            test,
+            kind,
+        } => push_entry(out, *judging, *test, *kind),
+        Event::Renew {
+            host,
+            judging,
+            test,
+        } => push_task(out, b"renew", host, *judging, *test),
+        Event::Tick { moment } => push_number(out, b"tick", *moment),
+        Event::Down { host } => push_words(out, &[b"down", host.as_bytes()]),
+        Event::Show { judging } => push_number(out, b"show", u64::from(*judging)),
+    }
+}
+
+/// Puts who acts, and the words of an event. At `NoMemory` a part of them may be there.
+#[tactic(auto, using(crate::proofs::Joining::front_stays, crate::proofs::ActorLemmas::event_text_by))]
+fn push_actor_and_words(out: &mut Vec<u8>, event: &Event) -> Result<(), NoMemory>
+    ensures ok { OnOk result (out.new.items ≡ out.old.items ++ event_text event.now) }
+    ensures err { OnErr result (take (length out.old.items) out.new.items ≡ out.old.items) }
+{
+    push_actor(out, actor_of(event))?;
+    push_event_words(out, event)
+}
+
+/// Puts an event as a line, without its line feed, behind what is there.
+/// At `NoMemory` nothing changes.
+pub fn push_event(out: &mut Vec<u8>, event: &Event) -> Result<(), NoMemory>
+    ensures ok { OnOk result (out.new.items ≡ out.old.items ++ event_text event.now) }
+    ensures err { OnErr result (out.new.items ≡ out.old.items) }
+{
+    let kept = out.len();
+    let pushed = push_actor_and_words(out, event);
+    if pushed.is_err() {
+        out.truncate(kept);
+    }
+    pushed
+}
+
+/// An event as a line, without its line feed.
+pub fn write_event(alloc: Global, event: &Event) -> Result<Text, NoMemory>
+    ensures { IfOk result (λ text. text ≡ event_text event.now) }
+{
+    let mut text = Vec::new(alloc);
+    push_event(&mut text, event)?;
+    Ok(Text::from_vec(text))
+}
