@@ -15,6 +15,13 @@ use Rattle.judging_core.specs.Holding.{IsOfHosts, IsHeldWell}
 pub none_held : (hosts : ℕ) → IsHeldWell hosts []
 none_held hosts = record { hosts_known = All-nil (IsOfHosts hosts); few_each = λ host. omega arith }
 
+-- one host more
+pub more_hosts : (hosts : ℕ) (xs : List Lease) → IsHeldWell hosts xs → IsHeldWell (hosts + 1) xs
+more_hosts hosts xs h = record {
+  hosts_known = λ k d lt. let a = h.hosts_known k d lt in (a.0, omega arith);
+  few_each = h.few_each;
+}
+
 -- some of the leases
 pub some_held : (hosts : ℕ) (p : Lease → Bool) (xs : List Lease) → IsHeldWell hosts xs → IsHeldWell hosts (filter p xs)
 some_held hosts p xs h = record {

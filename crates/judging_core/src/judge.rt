@@ -1,12 +1,12 @@
-ghost use Rattle.std.specs.Prelude.{◌≡◌, ◌+◌, ◌≤◌, ◌<◌, ◌∷◌, ◌++◌, [], length, IfOk, OnOk, OnErr};
+ghost use Rattle.std.specs.Prelude.{◌≡◌, ◌+◌, ◌≤◌, ◌<◌, length, IfOk, IfNone, OnErr};
 ghost use Rattle.farm_kinds.specs.declared.outcomes.Mode.TheVariants.{Full};
-ghost use Rattle.farm_model.specs.Leases.{left_after, ended_at};
-ghost use Rattle.farm_model.specs.Judge.{add_judging, answer_of_judging, judge_claim, judge_enter, judge_result, judge_renew, judge_tick, judge_down};
+ghost use Rattle.farm_model.specs.Leases.{left_after, ended_at, is_held_by};
+ghost use Rattle.farm_model.specs.Judge.{add_judging, answer_of_judging, judge_claim, judge_enter, judge_result, judge_renew, judge_tick, judge_down, renew_refusal};
 ghost use Rattle.lease_book.specs.Book.{room};
 ghost use Rattle.judging_core.specs.JudgeValue.{first_judge, in_state};
 
 use crate::judgings::{
-    KeptJudging, empty_judging, entry_refusal, fill, full_answer, judging_at, mark_handed,
+    KeptJudging, cell_at, empty_judging, entry_refusal, fill, full_answer, judging_at, mark_handed,
     result_refusal,
 };
 use crate::open::first_open;
@@ -160,26 +160,40 @@ impl Judge {
         ensures state { self.new ≡ in_state self.old (judge_renew self.old.state host judging test).0 }
         ensures answer { result ≡ (judge_renew self.old.state host judging test).1 }
     {
+        if let Some(refusal) = self.renew_refusal(host, judging, test) {
+            return refusal;
+        }
+        let until = self.moment + self.lease;
+        self.leases.renew(
+            Task {
+                judging,
+                test: test as u16,
+            },
+            until,
+        );
+        Renewed::Until { until }
+    }
+
+    /// Why the host cannot renew the lease.
+    fn renew_refusal(&self, host: u32, judging: u32, test: u32) -> Option<Renewed>
+        ensures refusal { result ≡ renew_refusal self.now.state host judging test }
+        ensures short { IfNone result (test ≤ 1000) }
+    {
         let Some(kept) = judging_at(&self.judgings, judging) else {
-            return Renewed::NoJudging;
+            return Some(Renewed::NoJudging);
         };
-        if test == 0 || test as usize > kept.row.len() {
-            return Renewed::NoTest;
+        if cell_at(&kept.row, test).is_none() {
+            return Some(Renewed::NoTest);
         }
         let task = Task {
             judging,
             test: test as u16,
         };
-        if !self
-            .leases
-            .find(task)
-            .is_some_and(|lease| lease.host == host)
-        {
-            return Renewed::NoLease;
+        if is_held_by(&self.leases, host, task) {
+            None
+        } else {
+            Some(Renewed::NoLease)
         }
-        let until = self.moment + self.lease;
-        self.leases.renew(task, until);
-        Renewed::Until { until }
     }
 
     /// Lets time go on to the moment, at most to 10^18 - 1 seconds and never back. Leases that end at or
@@ -214,15 +228,23 @@ impl Judge {
     }
 }
 
+/// Whether the host holds the lease on the task.
+fn is_held_by(leases: &LeaseBook, host: u32, task: Task) -> bool
+    ensures { result ≡ is_held_by leases.now.leases host task }
+{
+    match leases.find(task) {
+        Some(lease) => lease.host == host,
+        None => false,
+    }
+}
+
 /// Ends the leases that end at or before now, and counts them.
 fn end_due(leases: &mut LeaseBook, now: u64) -> u32
     ensures leases { leases.new.leases ≡ left_after leases.old.leases now }
     ensures count { result ≡ length (ended_at leases.old.leases now) }
     ensures room { room leases.new ≡ room leases.old }
 {
-    let mut count = 0;
-    while let Some(_) = leases.due(now) {
-        count += 1;
-    }
-    count
+    let held = leases.len();
+    while let Some(_) = leases.due(now) {}
+    held - leases.len()
 }

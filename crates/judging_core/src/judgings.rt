@@ -1,7 +1,9 @@
-ghost use Rattle.std.specs.Prelude.{◌≡◌, ◌++◌, ◌∷◌, [], ◌≤◌, List, length, replicate, false, is_some, IfOk, IfNone, IfSome, OnErr, Option, None, IsSome};
+ghost use Rattle.std.specs.Prelude.{◌≡◌, ◌≤◌, length, replicate, false, IfOk, IfNone, IfSome, OnSome, None, Some, IsSome};
 ghost use Rattle.farm_kinds.specs.declared.outcomes.Mode.TheVariants.{Full};
 ghost use Rattle.farm_model.specs.Rows.{kinds_of, full_kind, answer_of};
-ghost use Rattle.farm_model.specs.Judgings.{kept_count, cell_of, is_judging, has_test, entry_refusal, result_refusal, with_result, with_handed, empty_judging};
+ghost use Rattle.farm_model.specs.Numbered.{item_of};
+ghost use Rattle.farm_model.specs.Judgings.{kept_count, cell_of, entry_refusal, result_refusal, with_result, with_handed, empty_judging};
+ghost use Rattle.judging_core.specs.Refusals.{cell_refusal, is_never_handed};
 ghost use Rattle.judging_core.specs.JudgeShape.{judging_value, judging_values, IsShort, AreShort};
 
 use farm_kinds::{Answer, Class, Count, Kind, NoMemory, Rule, Task, Verdict, verdict_with};
@@ -52,12 +54,29 @@ fn no_marks(alloc: Global, tests: u16) -> Result<Vec<bool>, NoMemory>
 
 /// The judging of this number.
 pub fn judging_at(judgings: &[KeptJudging], judging: u32) -> Option<&KeptJudging>
-    ensures { is_some result ≡ is_judging (judging_values judgings.now) judging }
+    requires { AreShort judgings.now }
+    ensures none { IfNone result (item_of (judging_values judgings.now) judging ≡ None) }
+    ensures some { IfSome result (λ kept. item_of (judging_values judgings.now) judging ≡ Some (judging_value kept.now)) }
+    ensures short { IfSome result (λ kept. IsShort kept.now) }
+    ensures numbered { OnSome result (1 ≤ judging) }
+    ensures known { OnSome result (judging ≤ length judgings.now) }
 {
     if judging == 0 {
         return None;
     }
     judgings.get(judging as usize - 1)
+}
+
+/// The cell of this test.
+pub fn cell_at(row: &[Option<Kind>], test: u32) -> Option<Option<Kind>>
+    ensures cell { result ≡ item_of row.now test }
+    ensures numbered { OnSome result (1 ≤ test) }
+    ensures known { OnSome result (test ≤ length row.now) }
+{
+    if test == 0 {
+        return None;
+    }
+    row.get(test as usize - 1).copied()
 }
 
 /// Why a result from outside does not count.
@@ -74,14 +93,13 @@ pub fn entry_refusal(
     ensures cell { IfNone result (IsSome (cell_of (judging_values judgings.now) judging test)) }
     ensures short { IfNone result (test ≤ 1000) }
 {
-    if judging == 0 || judging as usize > judgings.len() {
+    let Some(kept) = judging_at(judgings, judging) else {
         return Some(Count::NoJudging);
-    }
-    let kept = &judgings[judging as usize - 1];
-    if test == 0 || test as usize > kept.row.len() {
+    };
+    let Some(cell) = cell_at(&kept.row, test) else {
         return Some(Count::NoTest);
-    }
-    cell_refusal(kept.row[test as usize - 1], kept.dropped, given)
+    };
+    cell_refusal(cell, kept.dropped, given)
 }
 
 /// Why a host's result does not count.
@@ -98,21 +116,30 @@ pub fn result_refusal(
     ensures cell { IfNone result (IsSome (cell_of (judging_values judgings.now) judging test)) }
     ensures short { IfNone result (test ≤ 1000) }
 {
-    if judging == 0 || judging as usize > judgings.len() {
-        return Some(Count::NoJudging);
-    }
-    let kept = &judgings[judging as usize - 1];
-    if test == 0 || test as usize > kept.row.len() {
-        return Some(Count::NoTest);
-    }
-    if !kept.handed[test as usize - 1] {
+    if is_never_handed(judgings, judging, test) {
         return Some(Count::NotHanded);
     }
-    cell_refusal(kept.row[test as usize - 1], kept.dropped, given)
+    entry_refusal(judgings, judging, test, given)
+}
+
+/// Whether there is such a task, and it was never handed out.
+fn is_never_handed(judgings: &[KeptJudging], judging: u32, test: u32) -> bool
+    requires { AreShort judgings.now }
+    ensures { result ≡ is_never_handed (judging_values judgings.now) judging test }
+{
+    let Some(kept) = judging_at(judgings, judging) else {
+        return false;
+    };
+    if cell_at(&kept.row, test).is_none() {
+        return false;
+    }
+    !kept.handed[test as usize - 1]
 }
 
 /// Why a result of this cell does not count: it holds a kind, or its judging was dropped.
-fn cell_refusal(cell: Option<Kind>, dropped: bool, given: Kind) -> Option<Count> {
+fn cell_refusal(cell: Option<Kind>, dropped: bool, given: Kind) -> Option<Count>
+    ensures { result ≡ cell_refusal cell dropped given }
+{
     match cell {
         Some(kept) => Some(kept_count(kept, given)),
         None if dropped => Some(Count::Dropped),

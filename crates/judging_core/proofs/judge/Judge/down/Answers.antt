@@ -1,4 +1,4 @@
-use Rattle.std.proofs.Common.{◌≤◌, ◌*◌, not, sym, subst, arith}
+use Rattle.std.proofs.Common.{rules, not, arith}
 use Rattle.farm_model.specs.Leases.{holds}
 use Rattle.judging_core.specs.Holding.{IsHeldWell}
 use Rattle.judging_core.proofs.Held.{some_held}
@@ -6,16 +6,5 @@ use Rattle.judging_core.proofs.judge.Judge.down.Goals as goal
 
 pub invariant_of-self : goal.invariant_of-self
 invariant_of-self c =
-    let at = c.self.inside in
-    let h = c.self.invariant in
-    record {
-      full = h.full;
-      some = h.some;
-      short = h.short;
-      moment = h.moment;
-      few = h.few;
-      rows = h.rows;
-      few_hosts = h.few_hosts;
-      held = rw c.end_host.ensures.leases (some_held at.hosts (λ x. not (holds c.args.host x)) at.leases.leases h.held);
-      roomy = omega arith;
-    }
+    let held : IsHeldWell c.self.inside.hosts c.end_host.new.self.leases = rw c.end_host.ensures.leases (some_held c.self.inside.hosts (λ x. not (holds c.args.host x)) c.self.inside.leases.leases c.self.invariant.held) in
+    search rules
