@@ -1,3 +1,4 @@
 pub mod Rows
 pub mod Changed
 pub mod Held
+pub mod FirstOpen
