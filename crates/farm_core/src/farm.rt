@@ -1,10 +1,10 @@
-ghost use Rattle.std.specs.Prelude.{◌≡◌, ◌+◌, ◌++◌, ◌∷◌, [], ◌<◌, ◌≤◌, ◌&&◌, ℕ, List, length, position, vec_capacity, IfOk, IfSome, OnErr, None};
+ghost use Rattle.std.specs.Prelude.{◌≡◌, ◌+◌, ◌++◌, ◌∷◌, [], ◌<◌, ◌≤◌, ◌&&◌, ℕ, List, length, position, vec_capacity, IfOk, IfSome, OnErr, None, true};
 ghost use Rattle.std.specs.Str.{bytes_eq};
 ghost use Rattle.farm_kinds.specs.declared.events.Event.TheVariants as event;
 ghost use Rattle.farm_model.specs.Numbered.{number_or_0};
-ghost use Rattle.farm_model.specs.State.{start, problem_number, host_number, up_number};
+ghost use Rattle.farm_model.specs.State.{start, problem_number, up_number};
 ghost use Rattle.farm_model.specs.Refusals.{claim_reply, count_reply, renewed_reply};
-ghost use Rattle.farm_model.specs.Changes.{submitted, cells_for};
+ghost use Rattle.farm_model.specs.Changes.{submitted, cells_for, host_as};
 ghost use Rattle.farm_model.specs.Farm.{Stepped};
 ghost use Rattle.farm_core.specs.FarmShape.{AreShort};
 
@@ -155,34 +155,32 @@ impl Farm {
     fn bring_up(&mut self, name: Name) -> Reply
         ensures { Stepped self.old (event.Host name) self.new result }
     {
-        match host_place(&self.hosts, &name) {
-            Some(place) => {
-                if self.hosts[place].up {
-                    return Reply::Known { name };
-                }
-                self.hosts[place].up = true;
-                Reply::Host { name }
-            }
-            None => self.add_host(name),
+        if self.up_number(&name).is_some() {
+            return Reply::Known { name };
         }
-    }
-
-    /// Adds a host of a new name.
-    fn add_host(&mut self, name: Name) -> Reply
-        requires { host_number self.old.hosts name ≡ None }
-        ensures { Stepped self.old (event.Host name) self.new result }
-    {
+        if let Some(place) = host_place(&self.hosts, &name) {
+            self.hosts[place] = Host { name, up: true };
+            return Reply::Host { name };
+        }
         if self.hosts.len() >= MAX_HOSTS as usize {
             return Reply::Full { limit: MAX_HOSTS };
         }
-        if self.hosts.reserve(1).is_err() {
-            return Reply::NoMemory;
+        match self.add_host(name) {
+            Ok(()) => Reply::Host { name },
+            Err(NoMemory) => Reply::NoMemory,
         }
-        if self.judge.add_host().is_err() {
-            return Reply::NoMemory;
-        }
+    }
+
+    /// Adds a host, which is up.
+    fn add_host(&mut self, name: Name) -> Result<(), NoMemory>
+        requires { length self.old.hosts < 1000 }
+        ensures added { IfOk result (λ done. self.new ≡ record self.old { hosts = self.old.hosts ++ host_as name true ∷ [] }) }
+        ensures unchanged { OnErr result (self.new ≡ self.old) }
+    {
+        self.hosts.reserve(1)?;
+        self.judge.add_host()?;
         self.hosts.push_reserved(Host { name, up: true });
-        Reply::Host { name }
+        Ok(())
     }
 
     fn submit(&mut self, problem: Name, class: Class, broken: bool) -> Reply
@@ -286,7 +284,10 @@ impl Farm {
         let Some(number) = self.up_number(&host) else {
             return Reply::NoHost { name: host };
         };
-        self.hosts[number as usize - 1].up = false;
+        self.hosts[number as usize - 1] = Host {
+            name: host,
+            up: false,
+        };
         Reply::Ended {
             count: self.judge.down(number),
         }
