@@ -1,1 +1,3 @@
 pub mod Submits
+pub mod Judged
+pub mod Entering

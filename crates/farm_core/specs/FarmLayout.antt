@@ -1,15 +1,15 @@
--- How a farm lies in memory. There are no hosts, no rejudgings and no audit texts.
-use Rattle.std.specs.Prelude.{◌≤◌, [], length}
+-- How a farm lies in memory. There are no rejudgings and no audit texts.
+use Rattle.std.specs.Prelude.{◌≡◌, ◌≤◌, [], length}
 use Rattle.farm_model.specs.State.{State}
 use Rattle.farm_core.specs.FarmShape.{AreShort}
 use Rattle.farm_core.specs.declared.farm.Farm.TheInside.{Inside}
 
 abbrev pub farm_value : Inside → State
 farm_value a = record {
-  judge = a.judge;
+  judge = a.judge.state;
   verification = a.verification;
   problems = a.problems.items;
-  hosts = [];
+  hosts = a.hosts.items;
   submissions = a.submissions.items;
   filings = a.filings.items;
   rejudgings = [];
@@ -19,4 +19,7 @@ farm_value a = record {
 pub record IsFarmLayout (a : Inside) : Type 0 where
   pub short : AreShort a.problems.items
   pub problems : length a.problems.items ≤ 1000
+  -- the judge numbers them as they stand
+  pub hosts : length a.hosts.items ≡ a.judge.hosts
+  pub few_hosts : length a.hosts.items ≤ 1000
   pub submissions : length a.submissions.items ≤ 100000

@@ -1,33 +1,40 @@
-ghost use Rattle.std.specs.Prelude.{◌≡◌, ◌+◌, ◌++◌, ◌∷◌, [], ◌<◌, ◌≤◌, ℕ, List, length, position, vec_capacity, IfOk, IfSome, OnErr};
+ghost use Rattle.std.specs.Prelude.{◌≡◌, ◌+◌, ◌++◌, ◌∷◌, [], ◌<◌, ◌≤◌, ◌&&◌, ℕ, List, length, position, vec_capacity, IfOk, IfSome, OnErr, None, true};
 ghost use Rattle.std.specs.Str.{bytes_eq};
 ghost use Rattle.farm_kinds.specs.declared.events.Event.TheVariants as event;
 ghost use Rattle.farm_model.specs.Numbered.{number_or_0};
-ghost use Rattle.farm_model.specs.State.{start, problem_number};
-ghost use Rattle.farm_model.specs.Refusals.{count_reply};
-ghost use Rattle.farm_model.specs.Changes.{submitted, cells_for};
+ghost use Rattle.farm_model.specs.State.{start, problem_number, up_number};
+ghost use Rattle.farm_model.specs.Refusals.{claim_reply, count_reply, renewed_reply};
+ghost use Rattle.farm_model.specs.Changes.{submitted, cells_for, host_as};
 ghost use Rattle.farm_model.specs.Farm.{Stepped};
 ghost use Rattle.farm_core.specs.FarmShape.{AreShort};
 
-use farm_kinds::{Class, Count, Event, Kind, Name, NoMemory, Reply};
-use farm_model::{Filing, Problem, Submission};
+use farm_kinds::{Claim, Class, Count, Event, Kind, Name, NoMemory, Renewed, Reply};
+use farm_model::{Filing, Host, Problem, Submission};
 use farm_settings::Settings;
 use judging_core::Judge;
 use std::alloc::Global;
 use std::marker::Model;
 
 /// The most problems there may be.
-const MAX_PROBLEMS: usize = 1_000;
+const MAX_PROBLEMS: u32 = 1_000;
+/// The most versions that a problem may have.
+const MAX_VERSIONS: u32 = 1_000;
+/// The most hosts there may be.
+const MAX_HOSTS: u32 = 1_000;
 /// The most submissions there may be.
-const MAX_SUBMISSIONS: usize = 100_000;
+const MAX_SUBMISSIONS: u32 = 100_000;
 /// The most judgings there may be.
-const MAX_JUDGINGS: usize = 400_000;
+const MAX_JUDGINGS: u32 = 400_000;
+/// The most leases that a host may hold.
+const MAX_HELD: u32 = 64;
 
-/// The problems, the submissions and their judgings.
+/// The problems, the hosts, the submissions and their judgings.
 #[derive(Drop)]
 pub struct Farm {
     judge: Judge,
     verification: bool,
     problems: Vec<Problem>,
+    hosts: Vec<Host>,
     submissions: Vec<Submission>,
     filings: Vec<Filing>,
 }
@@ -53,6 +60,7 @@ impl Farm {
             judge: Judge::new(alloc, settings.rule(), settings.mode(), settings.lease()),
             verification: settings.verification(),
             problems: Vec::new(alloc),
+            hosts: Vec::new(alloc),
             submissions: Vec::new(alloc),
             filings: Vec::new(alloc),
         }
@@ -64,16 +72,32 @@ impl Farm {
     {
         match event {
             Event::Problem { name, tests, .. } => self.add_problem(*name, *tests),
+            Event::Replace { name, tests, .. } => self.replace(*name, *tests),
+            Event::Host { name } => self.bring_up(*name),
             Event::Submit {
                 problem,
                 class,
                 broken,
             } => self.submit(*problem, *class, *broken),
+            Event::Claim { host } => self.claim(*host),
+            Event::Result {
+                host,
+                judging,
+                test,
+                kind,
+            } => self.result(*host, *judging, *test, *kind),
             Event::Entry {
                 judging,
                 test,
                 kind,
             } => self.enter(*judging, *test, *kind),
+            Event::Renew {
+                host,
+                judging,
+                test,
+            } => self.renew(*host, *judging, *test),
+            Event::Tick { moment } => self.tick(*moment),
+            Event::Down { host } => self.bring_down(*host),
             Event::Show { judging } => self.show(*judging),
         }
     }
@@ -87,8 +111,10 @@ impl Farm {
         if place_of(&self.problems, &name).is_some() {
             return Reply::Known { name };
         }
-        if self.problems.len() >= MAX_PROBLEMS {
-            return Reply::Full { limit: 1000 };
+        if self.problems.len() >= MAX_PROBLEMS as usize {
+            return Reply::Full {
+                limit: MAX_PROBLEMS,
+            };
         }
         let problem = Problem {
             name,
@@ -101,17 +127,77 @@ impl Farm {
         }
     }
 
+    fn replace(&mut self, name: Name, tests: u32) -> Reply
+        ensures { (who : List ℕ) → Stepped self.old (event.Replace who name tests) self.new result }
+    {
+        if tests == 0 || tests > 1000 {
+            return Reply::BadTests { tests };
+        }
+        let Some(place) = place_of(&self.problems, &name) else {
+            return Reply::NoProblem { name };
+        };
+        let version = self.problems[place].version;
+        if version >= MAX_VERSIONS {
+            return Reply::Full {
+                limit: MAX_VERSIONS,
+            };
+        }
+        let problem = &mut self.problems[place];
+        problem.version = version + 1;
+        problem.tests = tests as u16;
+        Reply::Problem {
+            name,
+            version: version + 1,
+        }
+    }
+
+    /// Brings a host up, under its old number where its name was entered before.
+    fn bring_up(&mut self, name: Name) -> Reply
+        ensures { Stepped self.old (event.Host name) self.new result }
+    {
+        if self.up_number(&name).is_some() {
+            return Reply::Known { name };
+        }
+        if let Some(place) = host_place(&self.hosts, &name) {
+            self.hosts[place] = Host { name, up: true };
+            return Reply::Host { name };
+        }
+        if self.hosts.len() >= MAX_HOSTS as usize {
+            return Reply::Full { limit: MAX_HOSTS };
+        }
+        match self.add_host(name) {
+            Ok(()) => Reply::Host { name },
+            Err(NoMemory) => Reply::NoMemory,
+        }
+    }
+
+    /// Adds a host, which is up.
+    fn add_host(&mut self, name: Name) -> Result<(), NoMemory>
+        requires { length self.old.hosts < 1000 }
+        ensures added { IfOk result (λ done. self.new ≡ record self.old { hosts = self.old.hosts ++ host_as name true ∷ [] }) }
+        ensures unchanged { OnErr result (self.new ≡ self.old) }
+    {
+        self.hosts.reserve(1)?;
+        self.judge.add_host()?;
+        self.hosts.push_reserved(Host { name, up: true });
+        Ok(())
+    }
+
     fn submit(&mut self, problem: Name, class: Class, broken: bool) -> Reply
         ensures { Stepped self.old (event.Submit problem class broken) self.new result }
     {
         let Some(place) = place_of(&self.problems, &problem) else {
             return Reply::NoProblem { name: problem };
         };
-        if self.submissions.len() >= MAX_SUBMISSIONS {
-            return Reply::Full { limit: 100_000 };
+        if self.submissions.len() >= MAX_SUBMISSIONS as usize {
+            return Reply::Full {
+                limit: MAX_SUBMISSIONS,
+            };
         }
-        if self.judge.judgings() >= MAX_JUDGINGS {
-            return Reply::Full { limit: 400_000 };
+        if self.judge.judgings() >= MAX_JUDGINGS as usize {
+            return Reply::Full {
+                limit: MAX_JUDGINGS,
+            };
         }
         let Ok(judging) = self.add_submission(place as u32 + 1, class, broken) else {
             return Reply::NoMemory;
@@ -150,10 +236,70 @@ impl Farm {
         Ok(current)
     }
 
+    fn claim(&mut self, host: Name) -> Reply
+        ensures { Stepped self.old (event.Claim host) self.new result }
+    {
+        match self.up_number(&host) {
+            Some(number) => claim_reply(self.judge.claim(number)),
+            None => Reply::NoHost { name: host },
+        }
+    }
+
+    fn result(&mut self, host: Name, judging: u32, test: u32, kind: Kind) -> Reply
+        ensures { Stepped self.old (event.Result host judging test kind) self.new result }
+    {
+        match self.up_number(&host) {
+            Some(_) => count_reply(judging, test, self.judge.result(judging, test, kind)),
+            None => Reply::NoHost { name: host },
+        }
+    }
+
     fn enter(&mut self, judging: u32, test: u32, kind: Kind) -> Reply
         ensures { Stepped self.old (event.Entry judging test kind) self.new result }
     {
         count_reply(judging, test, self.judge.enter(judging, test, kind))
+    }
+
+    fn renew(&mut self, host: Name, judging: u32, test: u32) -> Reply
+        ensures { Stepped self.old (event.Renew host judging test) self.new result }
+    {
+        match self.up_number(&host) {
+            Some(number) => renewed_reply(judging, test, self.judge.renew(number, judging, test)),
+            None => Reply::NoHost { name: host },
+        }
+    }
+
+    fn tick(&mut self, moment: u64) -> Reply
+        ensures { Stepped self.old (event.Tick moment) self.new result }
+    {
+        Reply::Ended {
+            count: self.judge.tick(moment),
+        }
+    }
+
+    /// Brings a host down, and ends its leases.
+    fn bring_down(&mut self, host: Name) -> Reply
+        ensures { Stepped self.old (event.Down host) self.new result }
+    {
+        let Some(number) = self.up_number(&host) else {
+            return Reply::NoHost { name: host };
+        };
+        self.hosts[number as usize - 1] = Host {
+            name: host,
+            up: false,
+        };
+        Reply::Ended {
+            count: self.judge.down(number),
+        }
+    }
+
+    /// The number of the host of this name, where it is up.
+    fn up_number(&self, name: &Name) -> Option<u32>
+        ensures number { result ≡ up_number self.now.hosts name.now }
+        ensures known { IfSome result (λ number. (1 ≤ number) × (number ≤ length self.now.hosts)) }
+    {
+        let place = up_place(&self.hosts, name)?;
+        Some(place as u32 + 1)
     }
 
     fn show(&mut self, judging: u32) -> Reply
@@ -187,6 +333,7 @@ fn count_reply(judging: u32, test: u32, count: Count) -> Reply
     match count {
         Count::NoJudging => Reply::NoJudging { judging },
         Count::NoTest => Reply::NoTest { test },
+        Count::NotHanded => Reply::NotHanded,
         Count::Repeat { kept } => Reply::Repeat { kept },
         Count::Differs { kept, given } => Reply::Differs { kept, given },
         Count::Dropped => Reply::Dropped,
@@ -200,4 +347,43 @@ fn place_of(problems: &[Problem], name: &Name) -> Option<usize>
     ensures within { IfSome result (λ place. place < length problems.now) }
 {
     problems.iter().position(|problem| problem.name == *name)
+}
+
+/// What a claim is answered, as a reply.
+fn claim_reply(claim: Claim) -> Reply
+    ensures { result ≡ claim_reply claim }
+{
+    match claim {
+        Claim::Holding => Reply::Holding { limit: MAX_HELD },
+        Claim::Nothing => Reply::Nothing,
+        Claim::Handed { task, until } => Reply::Handed { task, until },
+    }
+}
+
+/// What becomes of a lease, as a reply.
+fn renewed_reply(judging: u32, test: u32, renewed: Renewed) -> Reply
+    ensures { result ≡ renewed_reply judging test renewed }
+{
+    match renewed {
+        Renewed::NoJudging => Reply::NoJudging { judging },
+        Renewed::NoTest => Reply::NoTest { test },
+        Renewed::NoLease => Reply::NoLease,
+        Renewed::Until { until } => Reply::Until { until },
+    }
+}
+
+/// Where the host of this name stands.
+fn host_place(hosts: &[Host], name: &Name) -> Option<usize>
+    ensures place { result ≡ position (λ host. bytes_eq host.name name.now) hosts.now }
+    ensures within { IfSome result (λ place. place < length hosts.now) }
+{
+    hosts.iter().position(|host| host.name == *name)
+}
+
+/// Where the host of this name stands, if it is up.
+fn up_place(hosts: &[Host], name: &Name) -> Option<usize>
+    ensures place { result ≡ position (λ host. bytes_eq host.name name.now && host.up) hosts.now }
+    ensures within { IfSome result (λ place. place < length hosts.now) }
+{
+    hosts.iter().position(|host| host.name == *name && host.up)
 }

@@ -1,3 +1,4 @@
 pub mod Rows
 pub mod Changed
-pub mod Filled
+pub mod Held
+pub mod FirstOpen

@@ -1,36 +1,43 @@
-ghost use Rattle.std.specs.Prelude.{◌≡◌, ◌≢◌, ◌++◌, ◌∷◌, [], ◌+◌, ◌-◌, ◌≤◌, ◌<◌, List, length, replicate, slice_set, IfOk, IfNone, OnErr, Option, None, Some, IsSome};
+ghost use Rattle.std.specs.Prelude.{◌≡◌, ◌+◌, ◌≤◌, ◌<◌, length, IfOk, IfNone, OnErr};
 ghost use Rattle.farm_kinds.specs.declared.outcomes.Mode.TheVariants.{Full};
-ghost use Rattle.farm_kinds.specs.Rules.{remap_of};
-ghost use Rattle.farm_model.specs.Rows.{kinds_of, full_kind, answer_of};
-ghost use Rattle.farm_model.specs.Judgings.{kept_count, cell_of, entry_refusal, with_result};
-ghost use Rattle.farm_model.specs.Judge.{first_state, add_judging, answer_of_judging, judge_enter};
-ghost use Rattle.judging_core.specs.JudgeShape.{judging_values};
+ghost use Rattle.farm_model.specs.Leases.{left_after, ended_at, is_held_by};
+ghost use Rattle.farm_model.specs.Judge.{add_judging, answer_of_judging, judge_claim, judge_enter, judge_result, judge_renew, judge_tick, judge_down, renew_refusal};
+ghost use Rattle.lease_book.specs.Book.{room};
+ghost use Rattle.judging_core.specs.JudgeValue.{first_judge, in_state};
 
-use farm_kinds::{Answer, Class, Count, Kind, Mode, NoMemory, Rule, Verdict, verdict_with};
+use crate::judgings::{
+    KeptJudging, cell_at, empty_judging, entry_refusal, fill, full_answer, judging_at, mark_handed,
+    result_refusal,
+};
+use crate::open::first_open;
+use farm_kinds::{Answer, Claim, Class, Count, Kind, Mode, NoMemory, Renewed, Rule, Task};
+use lease_book::LeaseBook;
 use std::alloc::Global;
 use std::marker::Model;
 
-/// A judging as it is kept.
-#[derive(Drop)]
-pub struct KeptJudging {
-    class: Class,
-    row: Vec<Option<Kind>>,
-}
+/// The most leases that a host holds.
+const MAX_HELD: u32 = 64;
+/// The moment past which time does not go on, in seconds: 10^18 - 1.
+const LAST_MOMENT: u64 = 999_999_999_999_999_999;
 
-/// The judgings, numbered from 1, and the rule by which they are judged.
+/// The judgings and the hosts, both numbered from 1, the leases of the hosts, and the rule by which the
+/// judgings are judged.
 #[derive(Drop)]
 pub struct Judge {
     alloc: Global,
     rule: Rule,
     mode: Mode,
     lease: u64,
+    moment: u64,
     judgings: Vec<KeptJudging>,
+    hosts: u32,
+    leases: LeaseBook,
 }
 
 impl Model for Judge {
-    ghost use Rattle.farm_model.specs.Judge.{JudgeState};
+    ghost use Rattle.judging_core.specs.JudgeValue.{JudgeValue};
 
-    ghost Value = { JudgeState };
+    ghost Value = { JudgeValue };
 
     ghost use Rattle.judging_core.specs.JudgeLayout.{judge_value, IsJudgeLayout};
 
@@ -40,59 +47,178 @@ impl Model for Judge {
 }
 
 impl Judge {
-    /// A judge of no judgings. The lease is in seconds.
+    /// A judge of no judgings and no hosts, at moment 0. The lease is in seconds.
     pub fn new(alloc: Global, rule: Rule, mode: Mode, lease: u64) -> Judge
         requires full { mode ≡ Full }
         requires some { 1 ≤ lease }
         requires short { lease ≤ 1000000 }
-        ensures { result ≡ first_state rule mode lease }
+        ensures { result ≡ first_judge rule mode lease }
     {
         Judge {
             alloc,
             rule,
             mode,
             lease,
+            moment: 0,
             judgings: Vec::new(alloc),
+            hosts: 0,
+            leases: LeaseBook::new(alloc),
         }
     }
 
     /// How many judgings there are.
     pub fn judgings(&self) -> usize
-        ensures { result ≡ length self.now.judgings }
+        ensures { result ≡ length self.now.state.judgings }
     {
         self.judgings.len()
     }
 
     /// Adds a judging of this many tests, none for a broken submission, and answers its number.
     pub fn add_judging(&mut self, class: Class, tests: u16) -> Result<u32, NoMemory>
-        requires few { length self.old.judgings < 400000 }
+        requires few { length self.old.state.judgings < 400000 }
         requires short { tests ≤ 1000 }
-        ensures number { IfOk result (λ j. j ≡ length self.old.judgings + 1) }
-        ensures added { IfOk result (λ j. self.new ≡ add_judging self.old class tests) }
+        ensures number { IfOk result (λ j. j ≡ length self.old.state.judgings + 1) }
+        ensures added { IfOk result (λ j. self.new ≡ in_state self.old (add_judging self.old.state class tests)) }
         ensures unchanged { OnErr result (self.new ≡ self.old) }
     {
-        let row = empty_row(self.alloc, tests)?;
-        push_judging(&mut self.judgings, class, row)?;
+        let judging = empty_judging(self.alloc, class, tests)?;
+        self.judgings.push(judging).map_err(|_| NoMemory)?;
         Ok(self.judgings.len() as u32)
     }
 
-    /// Enters a result from outside. It counts as its remapped kind, where its cell is empty.
+    /// Adds a host, and answers its number. There is room for 64 leases of each host then, so that no
+    /// later call of a host takes memory.
+    pub fn add_host(&mut self) -> Result<u32, NoMemory>
+        requires { self.old.hosts < 1000 }
+        ensures number { IfOk result (λ host. host ≡ self.old.hosts + 1) }
+        ensures added { IfOk result (λ host. self.new ≡ record self.old { hosts = self.old.hosts + 1 }) }
+        ensures unchanged { OnErr result (self.new ≡ self.old) }
+    {
+        let room = (self.hosts + 1) * MAX_HELD;
+        self.leases.reserve(room - self.leases.len())?;
+        self.hosts += 1;
+        Ok(self.hosts)
+    }
+
+    /// Gives the host the least open task by class, judging and test, and a lease on it.
+    pub fn claim(&mut self, host: u32) -> Claim
+        requires numbered { 1 ≤ host }
+        requires known { host ≤ self.old.hosts }
+        ensures state { self.new ≡ in_state self.old (judge_claim self.old.state host).0 }
+        ensures answer { result ≡ (judge_claim self.old.state host).1 }
+    {
+        if self.leases.held(host) >= MAX_HELD {
+            return Claim::Holding;
+        }
+        let Some(task) = first_open(&self.judgings, &self.leases) else {
+            return Claim::Nothing;
+        };
+        let until = self.moment + self.lease;
+        mark_handed(&mut self.judgings, task);
+        self.leases.grant(host, task, until);
+        Claim::Handed { task, until }
+    }
+
+    /// Enters a host's result of a task that was handed out. It counts as its remapped kind, where its cell
+    /// is empty, whether or not the lease has ended. The lease on its task ends.
+    pub fn result(&mut self, judging: u32, test: u32, kind: Kind) -> Count
+        ensures state { self.new ≡ in_state self.old (judge_result self.old.state judging test kind).0 }
+        ensures answer { result ≡ (judge_result self.old.state judging test kind).1 }
+    {
+        let given = self.rule.remap(kind);
+        if let Some(refusal) = result_refusal(&self.judgings, judging, test, given) {
+            return refusal;
+        }
+        fill(&mut self.judgings, judging, test, given);
+        self.leases.end(Task {
+            judging,
+            test: test as u16,
+        });
+        Count::Counted
+    }
+
+    /// Enters a result from outside. It counts as its remapped kind, where its cell is empty. The lease on
+    /// its task ends.
     pub fn enter(&mut self, judging: u32, test: u32, kind: Kind) -> Count
-        ensures state { self.new ≡ (judge_enter self.old judging test kind).0 }
-        ensures answer { result ≡ (judge_enter self.old judging test kind).1 }
+        ensures state { self.new ≡ in_state self.old (judge_enter self.old.state judging test kind).0 }
+        ensures answer { result ≡ (judge_enter self.old.state judging test kind).1 }
     {
         let given = self.rule.remap(kind);
         if let Some(refusal) = entry_refusal(&self.judgings, judging, test, given) {
             return refusal;
         }
         fill(&mut self.judgings, judging, test, given);
+        self.leases.end(Task {
+            judging,
+            test: test as u16,
+        });
         Count::Counted
+    }
+
+    /// Lets the host hold the task until a lease from now ends, where it holds it.
+    pub fn renew(&mut self, host: u32, judging: u32, test: u32) -> Renewed
+        ensures state { self.new ≡ in_state self.old (judge_renew self.old.state host judging test).0 }
+        ensures answer { result ≡ (judge_renew self.old.state host judging test).1 }
+    {
+        if let Some(refusal) = self.renew_refusal(host, judging, test) {
+            return refusal;
+        }
+        let until = self.moment + self.lease;
+        self.leases.renew(
+            Task {
+                judging,
+                test: test as u16,
+            },
+            until,
+        );
+        Renewed::Until { until }
+    }
+
+    /// Why the host cannot renew the lease.
+    fn renew_refusal(&self, host: u32, judging: u32, test: u32) -> Option<Renewed>
+        ensures refusal { result ≡ renew_refusal self.now.state host judging test }
+        ensures short { IfNone result (test ≤ 1000) }
+    {
+        let Some(kept) = judging_at(&self.judgings, judging) else {
+            return Some(Renewed::NoJudging);
+        };
+        if cell_at(&kept.row, test).is_none() {
+            return Some(Renewed::NoTest);
+        }
+        let task = Task {
+            judging,
+            test: test as u16,
+        };
+        if is_held_by(&self.leases, host, task) {
+            None
+        } else {
+            Some(Renewed::NoLease)
+        }
+    }
+
+    /// Lets time go on to the moment, at most to 10^18 - 1 seconds and never back. Leases that end at or
+    /// before it end, and are counted.
+    pub fn tick(&mut self, moment: u64) -> u32
+        ensures state { self.new ≡ in_state self.old (judge_tick self.old.state moment).0 }
+        ensures count { result ≡ (judge_tick self.old.state moment).1 }
+    {
+        let now = self.moment.max(moment.min(LAST_MOMENT));
+        self.moment = now;
+        end_due(&mut self.leases, now)
+    }
+
+    /// Ends the leases of the host, and counts them.
+    pub fn down(&mut self, host: u32) -> u32
+        ensures state { self.new ≡ in_state self.old (judge_down self.old.state host).0 }
+        ensures count { result ≡ (judge_down self.old.state host).1 }
+    {
+        self.leases.end_host(host)
     }
 
     /// What is reported of a judging: final once every cell is filled. None where no judging has the
     /// number.
     pub fn answer(&self, judging: u32) -> Option<Answer>
-        ensures { result ≡ answer_of_judging self.now judging }
+        ensures { result ≡ answer_of_judging self.now.state judging }
     {
         if judging == 0 || judging as usize > self.judgings.len() {
             return None;
@@ -102,88 +228,23 @@ impl Judge {
     }
 }
 
-/// A row of empty cells.
-fn empty_row(alloc: Global, tests: u16) -> Result<Vec<Option<Kind>>, NoMemory>
-    ensures { IfOk result (λ row. row.items ≡ replicate tests None) }
+/// Whether the host holds the lease on the task.
+fn is_held_by(leases: &LeaseBook, host: u32, task: Task) -> bool
+    ensures { result ≡ is_held_by leases.now.leases host task }
 {
-    vec![in alloc; None; tests as usize].map_err(|_| NoMemory)
-}
-
-fn push_judging(
-    judgings: &mut Vec<KeptJudging>,
-    class: Class,
-    row: Vec<Option<Kind>>,
-) -> Result<(), NoMemory>
-    ensures ok { IfOk result (λ _. judgings.new.items ≡ judgings.old.items ++ (record { class = class; row = row }) ∷ []) }
-    ensures err { OnErr result (judgings.new.items ≡ judgings.old.items) }
-{
-    judgings
-        .push(KeptJudging { class, row })
-        .map_err(|_| NoMemory)
-}
-
-/// Why a result from outside does not count.
-fn entry_refusal(judgings: &[KeptJudging], judging: u32, test: u32, given: Kind) -> Option<Count>
-    ensures refusal { result ≡ entry_refusal (judging_values judgings.now) judging test given }
-    ensures numbered { IfNone result (1 ≤ judging) }
-    ensures known { IfNone result (judging ≤ length judgings.now) }
-    ensures cell { IfNone result (IsSome (cell_of (judging_values judgings.now) judging test)) }
-{
-    if judging == 0 || judging as usize > judgings.len() {
-        return Some(Count::NoJudging);
-    }
-    let kept = &judgings[judging as usize - 1];
-    if test == 0 || test as usize > kept.row.len() {
-        return Some(Count::NoTest);
-    }
-    kept.row[test as usize - 1].map(|kind| kept_count(kind, given))
-}
-
-/// What a result is answered whose cell keeps a kind.
-fn kept_count(kept: Kind, given: Kind) -> Count
-    ensures { result ≡ kept_count given kept }
-{
-    if kept == given {
-        Count::Repeat { kept }
-    } else {
-        Count::Differs { kept, given }
+    match leases.find(task) {
+        Some(lease) => lease.host == host,
+        None => false,
     }
 }
 
-/// Puts the kind into the cell.
-fn fill(judgings: &mut Vec<KeptJudging>, judging: u32, test: u32, given: Kind)
-    requires numbered { 1 ≤ judging }
-    requires known { judging ≤ length judgings.old.items }
-    requires cell { IsSome (cell_of (judging_values judgings.old.items) judging test) }
-    ensures { judging_values judgings.new.items ≡ with_result (judging_values judgings.old.items) judging test given }
+/// Ends the leases that end at or before now, and counts them.
+fn end_due(leases: &mut LeaseBook, now: u64) -> u32
+    ensures leases { leases.new.leases ≡ left_after leases.old.leases now }
+    ensures count { result ≡ length (ended_at leases.old.leases now) }
+    ensures room { room leases.new ≡ room leases.old }
 {
-    let kept = &mut judgings[judging as usize - 1];
-    kept.row[test as usize - 1] = Some(given);
-}
-
-/// The verdict of a row whose cells are all filled. None where a cell is empty, or there is none.
-fn full_kind(rule: &Rule, row: &[Option<Kind>]) -> Option<Kind>
-    ensures { result ≡ full_kind rule.now (kinds_of row.now) }
-{
-    let mut best: Option<Kind> = None;
-    for cell in row {
-        let Some(kind) = *cell else {
-            return None;
-        };
-        best = Some(verdict_with(rule, best, kind));
-    }
-    best
-}
-
-/// What is reported of a row where every test is judged.
-fn full_answer(rule: &Rule, row: &[Option<Kind>]) -> Answer
-    ensures { result ≡ answer_of rule.now Full row.now }
-{
-    if row.is_empty() {
-        return Answer::Final(Verdict::CompilerError);
-    }
-    match full_kind(rule, row) {
-        Some(kind) => Answer::Final(Verdict::Tests(kind)),
-        None => Answer::Pending,
-    }
+    let held = leases.len();
+    while let Some(_) = leases.due(now) {}
+    held - leases.len()
 }

@@ -1,7 +1,10 @@
-//! The judge: judgings, each a row of cells that results fill.
+//! The judge: judgings, each a row of cells that results fill, and hosts, which claim open tasks and hold
+//! leases on them.
 #![tactic(auto)]
 
 mod judge;
+mod judgings;
+mod open;
 #[cfg(test)]
 mod tests;
 

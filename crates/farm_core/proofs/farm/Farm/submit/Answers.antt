@@ -12,9 +12,9 @@ returns c =
     ap (position (λ problem. bytes_eq problem.name c.args.problem)) (sym (ap (λ s. s.problems) before) ∙ sym c.deref.ensures.value)
     ∙ sym c.place_of.ensures.place ∙ c.in-Some.is in
     let kept : length c.self.inside.submissions.items ≡ length c.args.self.now.submissions = ap (λ s. length s.submissions) before in
-    let few : length c.args.self.now.submissions < 100000 = omega (arith, kept, c.self.inside.submissions.ok.0, c.len.ensures, c.if-len-ge-MAX_SUBMISSIONS.false) in
-    let judged : length c.self.inside.judge.judgings ≡ length c.args.self.now.judge.judgings = ap (λ s. length s.judge.judgings) before in
-    let room : length c.args.self.now.judge.judgings < 400000 = omega (arith, judged, c.judgings.ensures, c.if-judgings-ge-MAX_JUDGINGS.false) in
+    let few : length c.args.self.now.submissions < 100000 = omega (arith, kept, c.self.inside.submissions.ok.0, c.len.ensures, c.if-len.false) in
+    let judged : length c.self.inside.judge.state.judgings ≡ length c.args.self.now.judge.judgings = ap (λ s. length s.judge.judgings) before in
+    let room : length c.args.self.now.judge.judgings < 400000 = omega (arith, judged, c.judgings.ensures, c.if-judgings.false) in
     let many : length c.self-2.inside.submissions.items ≡ length c.add_submission.new.self.submissions = ap (λ s. length s.submissions) after in
     let number : c.len-submission.result ≡ length c.add_submission.new.self.submissions = omega (arith, many, c.self-2.inside.submissions.ok.0, c.len-submission.ensures) in
     submit_stepped c.args.self.now c.args.problem c.args.class c.args.broken c.in-Some.place c.add_submission.new.self c.len-submission.result c.in-Ok.judging

@@ -1,0 +1,63 @@
+-- Events that the judge answers.
+use Rattle.std.proofs.Common.{ℕ, ◌≡◌, ◌≢◌, List, [], ◌∷◌, Option, Some, None, refl, sym, ap, ◌∙◌, subst}
+use Rattle.std.specs.Option.{option_map}
+use Rattle.farm_kinds.specs.declared.kinds.Kind.{Kind}
+use Rattle.farm_kinds.specs.declared.outcomes.Claim.{Claim}
+use Rattle.farm_kinds.specs.declared.outcomes.Claim.TheVariants as claim
+use Rattle.farm_kinds.specs.declared.outcomes.Count.{Count}
+use Rattle.farm_kinds.specs.declared.outcomes.Count.TheVariants as count
+use Rattle.farm_kinds.specs.declared.events.Event.TheVariants as event
+use Rattle.farm_kinds.specs.declared.events.Reply.{Reply}
+use Rattle.farm_kinds.specs.declared.events.Reply.TheVariants as reply
+use Rattle.farm_kinds.specs.Rules.{remap_of}
+use Rattle.farm_model.specs.Refusing.{first_of, refused_or}
+use Rattle.farm_model.specs.Judgings.{result_refusal}
+use Rattle.farm_model.specs.Judge.{JudgeState, claim_refusal, claimed, first_open, judge_claim, counted, judge_result}
+use Rattle.farm_model.specs.State.{State, up_number}
+use Rattle.farm_model.specs.Refusals.{claim_reply, count_reply}
+use Rattle.farm_model.specs.Changes.{by_judge}
+use Rattle.farm_model.specs.Farm.{farm_step, Stepped}
+use Rattle.farm_core.proofs.Submits.{stepped_by}
+
+-- what the judge refuses is refused, and changes nothing
+judged : {R : Type 0} (s : State) (replied : R → Reply) (r : Option R) (done : JudgeState × R)
+    → refused_or s (first_of (option_map replied r ∷ [])) (by_judge s replied (refused_or s.judge r done)) ≡ by_judge s replied (refused_or s.judge r done)
+judged s replied None done = refl
+judged s replied (Some x) done = refl
+
+claim_step : (s : State) (name : List ℕ) (n : ℕ) → up_number s.hosts name ≡ Some n
+    → farm_step s (event.Claim name) ≡ by_judge s claim_reply (judge_claim s.judge n)
+claim_step s name n found = rw found (judged s claim_reply (claim_refusal s.judge.leases n) (claimed s.judge n (first_open s.judge)))
+
+result_step : (s : State) (name : List ℕ) (n j t : ℕ) (kind : Kind) → up_number s.hosts name ≡ Some n
+    → farm_step s (event.Result name j t kind) ≡ by_judge s (count_reply j t) (judge_result s.judge j t kind)
+result_step s name n j t kind found =
+    let given = remap_of s.judge.rule kind in
+    rw found (judged s (count_reply j t) (result_refusal s.judge.judgings j t given) (counted s.judge j t given))
+
+claim_answers : (x : Claim) → claim_reply x ≢ reply.NoMemory
+claim_answers claim.Holding = λ no. cc
+claim_answers claim.Nothing = λ no. cc
+claim_answers (claim.Handed task until) = λ no. cc
+
+count_answers : (j t : ℕ) (x : Count) → count_reply j t x ≢ reply.NoMemory
+count_answers j t count.NoJudging = λ no. cc
+count_answers j t count.NoTest = λ no. cc
+count_answers j t count.NotHanded = λ no. cc
+count_answers j t (count.Repeat kept) = λ no. cc
+count_answers j t (count.Differs kept given) = λ no. cc
+count_answers j t count.Dropped = λ no. cc
+count_answers j t count.Counted = λ no. cc
+
+-- the judge's part is the new one, and the reply is that to its answer
+pub claim_stepped : (s : State) (name : List ℕ) (n : ℕ) (new : State) (x : Claim) (r : Reply) → up_number s.hosts name ≡ Some n
+    → new ≡ record s { judge = (judge_claim s.judge n).0 } → x ≡ (judge_claim s.judge n).1 → r ≡ claim_reply x → Stepped s (event.Claim name) new r
+claim_stepped s name n new x r found state answer replied =
+    stepped_by s (event.Claim name) new r (subst (λ (q : Reply). q ≢ reply.NoMemory) (sym replied) (claim_answers x))
+    (claim_step s name n found ∙ ap (λ t. (t, claim_reply (judge_claim s.judge n).1)) (sym state) ∙ ap (λ y. (new, claim_reply y)) (sym answer) ∙ ap (λ q. (new, q)) (sym replied))
+
+pub result_stepped : (s : State) (name : List ℕ) (n j t : ℕ) (kind : Kind) (new : State) (x : Count) (r : Reply) → up_number s.hosts name ≡ Some n
+    → new ≡ record s { judge = (judge_result s.judge j t kind).0 } → x ≡ (judge_result s.judge j t kind).1 → r ≡ count_reply j t x → Stepped s (event.Result name j t kind) new r
+result_stepped s name n j t kind new x r found state answer replied =
+    stepped_by s (event.Result name j t kind) new r (subst (λ (q : Reply). q ≢ reply.NoMemory) (sym replied) (count_answers j t x))
+    (result_step s name n j t kind found ∙ ap (λ u. (u, count_reply j t (judge_result s.judge j t kind).1)) (sym state) ∙ ap (λ y. (new, count_reply j t y)) (sym answer) ∙ ap (λ q. (new, q)) (sym replied))
