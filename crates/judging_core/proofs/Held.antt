@@ -1,19 +1,16 @@
 -- What each change of the leases keeps: each is one of the hosts', and none of them holds more than 64.
-use Rattle.std.proofs.Common.{ℕ, zero, suc, ◌≡◌, ◌≤◌, ◌<◌, ◌+◌, ◌*◌, List, [], ◌∷◌, ◌++◌, Option, Some, None, Bool, true, false, not, cond, refl, sym, ap, ◌∙◌, subst, arith, length, filter, find, count_by, eqb, get_or}
+use Rattle.std.proofs.Common.{ℕ, zero, suc, ◌≡◌, ◌≤◌, ◌<◌, ◌+◌, ◌*◌, List, [], ◌∷◌, ◌++◌, Some, None, Bool, true, false, not, cond, refl, ap, subst, arith, length, filter, find, count_by, eqb}
 use Rattle.std.specs.List.{All}
 use Rattle.std.proofs.lemmas.List.{length_push}
-use Rattle.std.proofs.lemmas.List.Elements.{All-nil, All-cons, All-head, All-tail, All-push, All-filter, filter_passes}
+use Rattle.std.proofs.lemmas.List.Elements.{All-head, All-tail, All-push, All-filter, filter_passes}
 use Rattle.std.proofs.lemmas.Bool.{eq-eqb}
 use Rattle.std.proofs.lemmas.Bool.Decides.{nat_tests}
 use Rattle.farm_kinds.specs.declared.outcomes.Task.{Task}
 use Rattle.farm_model.specs.declared.records.Lease.{Lease}
-use Rattle.farm_model.specs.Leases.{same_task, lease_on, holds, held_count, with_lease, without_task, without_host, renewed, renew_in}
+use Rattle.farm_model.specs.Leases.{same_task, lease_on, holds, held_count, without_task, without_host, renewed, renew_in}
 use Rattle.lease_book.specs.Book.{Book, room}
-use Rattle.lease_book.proofs.Counts.{one_if, count_cons, count_push, count_parts, length_kept, none_left}
+use Rattle.lease_book.proofs.Counts.{one_if, count_cons, count_push, count_parts, length_kept}
 use Rattle.judging_core.specs.Holding.{IsOfHosts, IsHeldWell}
-
-pub none_held : (hosts : ℕ) → IsHeldWell hosts []
-none_held hosts = record { hosts_known = All-nil (IsOfHosts hosts); few_each = λ host. omega arith }
 
 -- one host more
 pub more_hosts : (hosts : ℕ) (xs : List Lease) → IsHeldWell hosts xs → IsHeldWell (hosts + 1) xs

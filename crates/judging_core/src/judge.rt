@@ -163,14 +163,12 @@ impl Judge {
         if let Some(refusal) = self.renew_refusal(host, judging, test) {
             return refusal;
         }
+        let task = Task {
+            judging,
+            test: test as u16,
+        };
         let until = self.moment + self.lease;
-        self.leases.renew(
-            Task {
-                judging,
-                test: test as u16,
-            },
-            until,
-        );
+        self.leases.renew(task, until);
         Renewed::Until { until }
     }
 

@@ -1,17 +1,32 @@
+ghost use Rattle.std.specs.Prelude.{◌≡◌, ◌≤◌, IfOk};
+
 use crate::Judge;
-use farm_kinds::{Answer, Class, Count, Kind, Mode, NoMemory, Rule, Verdict};
+use farm_kinds::{Answer, Claim, Class, Count, Kind, Mode, NoMemory, Renewed, Rule, Task, Verdict};
 use std::test::Fail;
 
-/// The judge of the standard rule with one judging of two tests.
-fn judge_of_two(rt: &HostRuntime) -> Result<Judge, NoMemory> {
+/// A judge of the standard rule and of leases of a minute, with one judging and two hosts.
+fn judge_of(rt: &HostRuntime, tests: u16) -> Result<Judge, NoMemory>
+    requires { tests ≤ 1000 }
+    ensures { IfOk result (λ judge. judge.hosts ≡ 2) }
+{
     let mut judge = Judge::new(rt.alloc(), Rule::standard(), Mode::Full, 60);
-    judge.add_judging(Class::Normal, 2)?;
+    judge.add_judging(Class::Normal, tests)?;
+    judge.add_host()?;
+    judge.add_host()?;
     Ok(judge)
+}
+
+/// What a host is answered that is given a test of the first judging until that moment.
+fn handed(test: u16, until: u64) -> Claim {
+    Claim::Handed {
+        task: Task { judging: 1, test },
+        until,
+    }
 }
 
 #[test]
 fn final_once_every_cell_is_filled(rt: HostRuntime) -> Result<(), Fail> {
-    let mut judge = judge_of_two(&rt)?;
+    let mut judge = judge_of(&rt, 2)?;
     assert_eq!(rt; judge.enter(1, 2, Kind::RunError), Count::Counted);
     assert_eq!(rt; judge.answer(1), Some(Answer::Pending));
     assert_eq!(rt; judge.enter(1, 1, Kind::Correct), Count::Counted);
@@ -19,5 +34,90 @@ fn final_once_every_cell_is_filled(rt: HostRuntime) -> Result<(), Fail> {
         judge.answer(1),
         Some(Answer::Final(Verdict::Tests(Kind::RunError)))
     );
+    assert_eq!(rt; (judge.judgings(), judge.answer(2)), (1, None));
+    Ok(())
+}
+
+#[test]
+fn late_result_counts(rt: HostRuntime) -> Result<(), Fail> {
+    let mut judge = judge_of(&rt, 2)?;
+    assert_eq!(rt; judge.claim(1), handed(1, 60));
+    assert_eq!(rt; judge.tick(60), 1);
+    assert_eq!(rt; judge.renew(1, 1, 1), Renewed::NoLease);
+    assert_eq!(rt; judge.result(1, 1, Kind::Correct), Count::Counted);
+    assert_eq!(rt; judge.claim(2), handed(2, 120));
+    Ok(())
+}
+
+#[test]
+fn first_result_stays(rt: HostRuntime) -> Result<(), Fail> {
+    let mut judge = judge_of(&rt, 2)?;
+    assert_eq!(rt; judge.result(1, 1, Kind::Correct), Count::NotHanded);
+    assert_eq!(rt; judge.claim(1), handed(1, 60));
+    assert_eq!(rt; judge.result(1, 1, Kind::Correct), Count::Counted);
+    let kept = Kind::Correct;
+    assert_eq!(rt; judge.result(1, 1, kept), Count::Repeat { kept });
+    let given = Kind::RunError;
+    assert_eq!(rt; judge.result(1, 1, given), Count::Differs { kept, given });
+    assert_eq!(rt; judge.enter(1, 1, given), Count::Differs { kept, given });
+    assert_eq!(rt; judge.enter(1, 3, given), Count::NoTest);
+    assert_eq!(rt; judge.result(2, 1, given), Count::NoJudging);
+    Ok(())
+}
+
+#[test]
+fn one_before_the_end(rt: HostRuntime) -> Result<(), Fail> {
+    let mut judge = judge_of(&rt, 3)?;
+    assert_eq!(rt; judge.claim(1), handed(1, 60));
+    assert_eq!(rt; judge.tick(59), 0);
+    assert_eq!(rt; judge.claim(2), handed(2, 119));
+    assert_eq!(rt; judge.tick(60), 1);
+    assert_eq!(rt; judge.claim(2), handed(1, 120));
+    assert_eq!(rt; judge.renew(2, 1, 2), Renewed::Until { until: 120 });
+    assert_eq!(rt; judge.renew(1, 1, 2), Renewed::NoLease);
+    assert_eq!(rt; judge.tick(119), 0);
+    assert_eq!(rt; judge.tick(120), 2);
+    Ok(())
+}
+
+#[test]
+fn host_dies_and_returns(rt: HostRuntime) -> Result<(), Fail> {
+    let mut judge = judge_of(&rt, 2)?;
+    assert_eq!(rt; judge.claim(1), handed(1, 60));
+    assert_eq!(rt; (judge.down(2), judge.down(1), judge.down(1)), (0, 1, 0));
+    assert_eq!(rt; judge.claim(2), handed(1, 60));
+    assert_eq!(rt; judge.claim(1), handed(2, 60));
+    assert_eq!(rt; judge.claim(1), Claim::Nothing);
+    assert_eq!(rt; judge.down(2), 1);
+    assert_eq!(rt; judge.add_host(), Ok(3));
+    assert_eq!(rt; judge.claim(3), handed(1, 60));
+    Ok(())
+}
+
+#[test]
+fn holds_at_most_64(rt: HostRuntime) -> Result<(), Fail> {
+    let mut judge = judge_of(&rt, 66)?;
+    for test in 1..=64 {
+        assert_eq!(rt; judge.claim(1), handed(test, 60));
+    }
+    assert_eq!(rt; judge.claim(1), Claim::Holding);
+    assert_eq!(rt; judge.claim(2), handed(65, 60));
+    assert_eq!(rt; judge.result(1, 7, Kind::Correct), Count::Counted);
+    assert_eq!(rt; judge.claim(1), handed(66, 60));
+    assert_eq!(rt; judge.claim(2), Claim::Nothing);
+    Ok(())
+}
+
+#[test]
+fn time_stops_at_its_last_moment(rt: HostRuntime) -> Result<(), Fail> {
+    let mut judge = judge_of(&rt, 2)?;
+    let until = 1_000_000_000_000_000_059;
+    assert_eq!(rt; judge.claim(1), handed(1, 60));
+    assert_eq!(rt; judge.tick(1_000_000_000_000_000_000), 1);
+    assert_eq!(rt; judge.claim(1), handed(1, until));
+    assert_eq!(rt; judge.tick(u64::MAX), 0);
+    assert_eq!(rt; judge.tick(0), 0);
+    assert_eq!(rt; judge.renew(1, 1, 1), Renewed::Until { until });
+    assert_eq!(rt; judge.claim(2), handed(2, until));
     Ok(())
 }

@@ -1,4 +1,4 @@
-use Rattle.std.proofs.Common.{rules, not, arith}
+use Rattle.std.proofs.Common.{rules, not}
 use Rattle.farm_model.specs.Leases.{holds}
 use Rattle.judging_core.specs.Holding.{IsHeldWell}
 use Rattle.judging_core.proofs.Held.{some_held}
