@@ -4,7 +4,7 @@ use Rattle.std.specs.Str.{bytes_eq}
 use Rattle.farm_kinds.specs.declared.outcomes.Answer.{Answer}
 use Rattle.farm_kinds.specs.declared.outcomes.Answer.TheVariants.{Pending}
 use Rattle.farm_kinds.specs.declared.outcomes.Mode.{Mode}
-use Rattle.farm_kinds.specs.declared.outcomes.Mode.TheVariants.{Full}
+use Rattle.farm_kinds.specs.declared.outcomes.Mode.TheVariants.{Lazy}
 use Rattle.farm_kinds.specs.RuleValue.{RuleValue}
 use Rattle.farm_kinds.specs.Rules.{standard}
 use Rattle.farm_model.specs.declared.records.Problem.{Problem}
@@ -27,7 +27,7 @@ pub record SettingsValue : Type 0 where
   pub ips : ℕ
 
 abbrev pub standard_settings : SettingsValue
-standard_settings = record { rule = standard; mode = Full; lease = 60; verification = false; ips = 10000000 }
+standard_settings = record { rule = standard; mode = Lazy; lease = 60; verification = false; ips = 10000000 }
 
 -- problems, hosts, submissions, judgings and rejudgings are numbered from 1
 pub record State : Type 0 where

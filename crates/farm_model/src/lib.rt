@@ -15,7 +15,8 @@ pub use members::Members;
 pub use records::{Filing, Host, Lease, Member, Problem, RejudgeState, Rejudging, Submission};
 pub use worked::{
     answers_to_rows, broken_image, cells_that_matter, classes, death_and_return, empty_input,
-    event_lines, greatest_priority_decides, late_repeated_different, lines_and_comments,
-    lines_of_hosts, one_before_the_end, refusals, refusals_of_hosts, repeated_different,
-    replaced_problem, smallest_path, too_long, words_and_numbers,
+    equal_priorities, equal_priorities_later, event_lines, full_judging, greatest_priority_decides,
+    late_repeated_different, lines_and_comments, lines_of_hosts, one_before_the_end,
+    one_possible_kind, refusals, refusals_of_hosts, repeated_different, replaced_problem,
+    smallest_path, tie_with_an_earlier_rank, too_long, unique_greatest_priority, words_and_numbers,
 };

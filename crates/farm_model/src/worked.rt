@@ -45,10 +45,46 @@ pub fn empty_input()
     ensures { script_output standard_settings [] ≡ [] }
 {}
 
-/// Every test is judged, and the greatest priority decides.
+/// A middle priority does not stop the judging, and the greatest priority decides.
 pub fn greatest_priority_decides()
     ensures { script_output standard_settings (codes "problem A 3\nsubmit A\nrecord 1 1 correct\nrecord 1 2 wrong-answer\nshow 1\nrecord 1 3 correct\nshow 1\n")
         ≡ codes "problem A version 1\nsubmission 1 judging 1\ncounted\ncounted\npending\ncounted\nfinal wrong-answer\n" }
+{}
+
+/// A result of the greatest priority decides once the earlier tests are judged, which could tie with it.
+pub fn tie_with_an_earlier_rank()
+    ensures { script_output standard_settings (codes "problem A 3\nhost h1\nhost h2\nsubmit A\nrecord 1 2 run-error\nshow 1\nrecord 1 1 correct\nshow 1\nclaim h1\n")
+        ≡ codes "problem A version 1\nhost h1\nhost h2\nsubmission 1 judging 1\ncounted\npending\ncounted\nfinal run-error\nnothing\n" }
+{}
+
+/// A kind that alone has the greatest priority decides at once.
+pub fn unique_greatest_priority()
+    ensures { script_output (record standard_settings { rule = record standard { prios = 1 ∷ 30 ∷ 99 ∷ 100 ∷ 10 ∷ 99 ∷ 99 ∷ 99 ∷ [] } }) (codes "problem A 3\nhost h1\nhost h2\nsubmit A\nrecord 1 2 timelimit\nshow 1\nclaim h1\n")
+        ≡ codes "problem A version 1\nhost h1\nhost h2\nsubmission 1 judging 1\ncounted\nfinal timelimit\nnothing\n" }
+{}
+
+/// Where every kind counts as one, no test has to be judged.
+pub fn one_possible_kind()
+    ensures { script_output (record standard_settings { rule = record standard { remaps = replicate 8 Correct } }) (codes "problem A 3\nhost h1\nhost h2\nsubmit A\nshow 1\nclaim h1\nrecord 1 1 run-error\nrecord 1 1 timelimit\n")
+        ≡ codes "problem A version 1\nhost h1\nhost h2\nsubmission 1 judging 1\nfinal correct\nnothing\ncounted\nrepeat correct\n" }
+{}
+
+/// With equal priorities the first test decides.
+pub fn equal_priorities()
+    ensures { script_output (record standard_settings { rule = record standard { prios = replicate 8 5 } }) (codes "problem A 3\nhost h1\nhost h2\nsubmit A\nrecord 1 1 no-output\nshow 1\n")
+        ≡ codes "problem A version 1\nhost h1\nhost h2\nsubmission 1 judging 1\ncounted\nfinal no-output\n" }
+{}
+
+/// With equal priorities a later test decides nothing, and only the first one is handed out.
+pub fn equal_priorities_later()
+    ensures { script_output (record standard_settings { rule = record standard { prios = replicate 8 5 } }) (codes "problem A 3\nhost h1\nhost h2\nsubmit A\nrecord 1 2 no-output\nshow 1\nclaim h1\nclaim h1\n")
+        ≡ codes "problem A version 1\nhost h1\nhost h2\nsubmission 1 judging 1\ncounted\npending\ntask 1 1 until 60\nnothing\n" }
+{}
+
+/// Without lazy evaluation every test is judged.
+pub fn full_judging()
+    ensures { script_output (record standard_settings { mode = Full }) (codes "problem A 2\nsubmit A\nrecord 1 1 run-error\nshow 1\nrecord 1 2 correct\nshow 1\n")
+        ≡ codes "problem A version 1\nsubmission 1 judging 1\ncounted\npending\ncounted\nfinal run-error\n" }
 {}
 
 /// A result that comes again or comes otherwise does not count.
