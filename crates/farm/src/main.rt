@@ -9,10 +9,17 @@ use std::{env, io};
 const USAGE: &str = "usage: farm script < LINES
 
 Reads event lines from standard input and writes a reply to each:
-  problem NAME N           a problem with N tests
-  submit NAME              a submission to a problem, and its judging
-  record J T KIND          the result of test T of judging J
-  show J                   what is reported of judging J
+  problem NAME N                 a problem with N tests
+  replace NAME N                 its next version, with N tests
+  host NAME                      a judgehost comes up
+  submit NAME [CLASS] [broken]   a submission; CLASS is high, normal or low
+  claim HOST                     the host asks for a task
+  result HOST J T KIND           the host's result of test T of judging J
+  record J T KIND                a result from outside
+  renew HOST J T                 the host asks to hold the task for longer
+  tick N                         time goes on to moment N, in seconds
+  down HOST                      the host goes down
+  show J                         what is reported of judging J
 Empty lines, and lines whose first word begins with #, have no reply.
 
 Status: 0 done, 2 usage, 4 read fault, 5 write fault, 6 no memory, 9 input limit.

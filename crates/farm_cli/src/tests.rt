@@ -61,8 +61,8 @@ fn refusals(rt: HostRuntime) -> Result<(), Fail> {
 
 /// A problem of three tests, two hosts and a submission, and what they are answered.
 const CONTEST: &[u8] = b"problem A 3\nhost h1\nhost h2\nsubmit A\n";
-const CONTEST_REPLIES: &[u8] =
-    b"problem A version 1\nhost h1\nhost h2\nsubmission 1 judging 1\n";
+
+const CONTEST_REPLIES: &[u8] = b"problem A version 1\nhost h1\nhost h2\nsubmission 1 judging 1\n";
 
 /// Both texts one after the other.
 fn joined(alloc: Global, first: &[u8], second: &[u8]) -> Result<Vec<u8>, AllocError> {
@@ -168,7 +168,10 @@ fn lines_out_of_form(rt: HostRuntime) -> Result<(), Fail> {
         rt.alloc(),
         b"tick\ntick 01\ntick 1000000000000000000\nhost\nhost a.b\nclaim\nclaim h1 h2\nresult h1 1 1\nrenew h1 1\ndown\nsubmit A fast\nsubmit A broken high\nreplace A\n@ann problem A 1\nboard\naudit\n",
     )?;
-    assert_eq!(rt; out.bytes(), b"bad-line\n".repeat(rt.alloc(), 16)?.as_slice());
+    assert_eq!(rt;
+        out.bytes(),
+        b"bad-line\n".repeat(rt.alloc(), 16)?.as_slice()
+    );
     Ok(())
 }
 
@@ -186,10 +189,7 @@ fn time_stops_at_the_last_moment(rt: HostRuntime) -> Result<(), Fail> {
 
 #[test]
 fn a_name_up_down_and_up(rt: HostRuntime) -> Result<(), Fail> {
-    let (_, out) = script(
-        rt.alloc(),
-        b"host h\ndown h\ndown h\nhost h\nhost h\n",
-    )?;
+    let (_, out) = script(rt.alloc(), b"host h\ndown h\ndown h\nhost h\nhost h\n")?;
     assert_eq!(rt;
         out.bytes(),
         b"host h\nended 0\nno-host h\nhost h\nknown h\n".as_slice()

@@ -4,7 +4,10 @@ ghost use Rattle.farm_io.specs.Lines.{Whole, HasFeed};
 ghost use Rattle.farm_io.specs.Streams.{Rose, HasCausePut};
 ghost use Rattle.farm_io.specs.ReaderValue.{budget};
 ghost use Rattle.farm_io.specs.Reading.{MayGoOn};
+ghost use Rattle.farm_kinds.specs.declared.events.Event.{Event};
+ghost use Rattle.farm_model.specs.State.{SettingsValue};
 ghost use Rattle.farm_model.specs.Script.{after_line};
+ghost use Rattle.farm_laws.specs.Laws.{KeepsPromise};
 ghost use Rattle.script_session.specs.Session.{AllAnswered, LinesAnswered, FrontAnswered, TookLimit, IsShort, Turned, PutsPending};
 
 use crate::end::ScriptEnd;
@@ -133,6 +136,8 @@ fn turn<S: Source, K: Sink>(
 
 /// Reads lines to the input's end, answers each, and writes the replies. The replies to the lines that one
 /// take of the input brought are written together.
+///
+/// `promise` is the law of all runs from an empty farm, whose step answers the lines here.
 pub fn run_script<S: Source, K: Sink>(
     alloc: Global,
     farm: &mut Farm,
@@ -145,6 +150,7 @@ pub fn run_script<S: Source, K: Sink>(
         → LinesAnswered (record { farm = farm.old; left = S.left input.old; held = K.held out.old }) (S.left input.new) (K.held out.new) }
     ensures front { (result ≡ ScriptEnd.WriteFault) ⊎ (result ≡ ScriptEnd.NoMemory)
         → FrontAnswered (record { farm = farm.old; left = S.left input.old; held = K.held out.old }) (S.left input.new) (K.held out.new) }
+    ensures promise { (settings : SettingsValue) (es : List Event) → KeepsPromise settings es }
     ensures read_fault { result ≡ ScriptEnd.ReadFault → Rose (S.faults input.old) (S.faults input.new) }
     ensures write_fault { result ≡ ScriptEnd.WriteFault → Rose (K.faults out.old) (K.faults out.new) }
     ensures limit { result ≡ ScriptEnd.InputLimit → TookLimit (S.left input.old) (S.left input.new) }

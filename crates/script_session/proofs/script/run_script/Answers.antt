@@ -1,5 +1,6 @@
 use Rattle.std.proofs.Common.{ap, Some}
 use Rattle.script_session.proofs.Completing.{rose_since, completed}
+use Rattle.farm_laws.proofs.Reporting.{keeps_promise}
 use Rattle.script_session.proofs.script.run_script.Goals as goal
 
 pub returns-in-Some-clause-limit : goal.returns-in-Some-clause-limit
@@ -14,3 +15,6 @@ returns-in-Some-clause-complete g c short no_read no_write =
     (λ told. rose_since _ _ _ so_far.write (turn.write (ap Some told)))
     (λ told. let turned = rw told at turn.turned in (turned _ so_far.under_way).1)
     short no_read no_write
+
+pub returns-in-Some-clause-promise : goal.returns-in-Some-clause-promise
+returns-in-Some-clause-promise g c = keeps_promise
