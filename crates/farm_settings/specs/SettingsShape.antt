@@ -1,6 +1,5 @@
 -- How settings lie in memory.
-use Rattle.std.specs.Prelude.{◌≡◌, ◌≤◌}
-use Rattle.farm_kinds.specs.declared.outcomes.Mode.TheVariants.{Full}
+use Rattle.std.specs.Prelude.{◌≤◌}
 use Rattle.farm_model.specs.State.{SettingsValue}
 use Rattle.farm_settings.specs.declared.settings.Settings.TheInside.{Inside}
 
@@ -11,7 +10,7 @@ abbrev pub settings_of : SettingsValue → Inside
 settings_of s = record { rule = s.rule; mode = s.mode; lease = s.lease; verification = s.verification; ips = s.ips }
 
 pub record IsSettings (a : Inside) : Type 0 where
-  -- every test is judged
-  pub full : a.mode ≡ Full
   pub some : 1 ≤ a.lease
   pub short : a.lease ≤ 1000000
+  pub slow : 1000 ≤ a.ips
+  pub fast : a.ips ≤ 100000000

@@ -1,6 +1,18 @@
-//! What a contest sets.
+//! What a contest sets, and the text of `farm.json` that says it.
 #![tactic(auto)]
 
+mod checks;
+mod faults;
+mod keys;
+mod reading;
 mod settings;
+#[cfg(test)]
+mod tests;
+mod values;
+mod worked;
 
+pub use faults::SettingsFault;
+pub use keys::Setting;
+pub use reading::read_settings;
 pub use settings::Settings;
+pub use worked::{worked_faults, worked_texts, worked_values};

@@ -1,13 +1,14 @@
 ghost use Rattle.std.specs.Prelude.{◌≡◌, ◌≤◌};
-ghost use Rattle.farm_kinds.specs.declared.outcomes.Mode.TheVariants.{Full};
+ghost use Rattle.serde_json.specs.View.{view};
 ghost use Rattle.farm_model.specs.State.{standard_settings};
+ghost use Rattle.farm_settings.specs.Values.{settings_in};
 
+use crate::values::{flag_at, mode_of, number_at, rule_in};
 use farm_kinds::{Mode, Rule};
+use serde_json::Value;
 use std::marker::Model;
 
 /// What a contest sets: how its verdicts come about, and how its farm works.
-///
-/// For now every test is judged: the mode is `Full`.
 #[derive(Clone, Copy, Debug)]
 pub struct Settings {
     rule: Rule,
@@ -46,6 +47,25 @@ impl Settings {
         }
     }
 
+    /// What an object sets whose entries have no fault.
+    pub(crate) fn of_object(object: &Value) -> Settings
+        ensures { result ≡ settings_in (view object.now) }
+    {
+        Settings {
+            rule: rule_in(object),
+            mode: mode_of(flag_at(object, "lazy_eval_results", true)),
+            lease: number_at(object, "lease", 1, 1_000_000, 60),
+            verification: flag_at(object, "verification_required", false),
+            ips: number_at(
+                object,
+                "instructions_per_second",
+                1000,
+                100_000_000,
+                10_000_000,
+            ) as u32,
+        }
+    }
+
     /// The priorities and the remapping of results.
     pub fn rule(&self) -> Rule
         ensures { result ≡ self.now.rule }
@@ -55,8 +75,7 @@ impl Settings {
 
     /// When a judging is final.
     pub fn mode(&self) -> Mode
-        ensures value { result ≡ self.now.mode }
-        ensures full { result ≡ Full }
+        ensures { result ≡ self.now.mode }
     {
         self.mode
     }
@@ -77,9 +96,11 @@ impl Settings {
         self.verification
     }
 
-    /// How many instructions a second of a time limit stands for.
+    /// How many instructions a second of a time limit stands for: from 1,000 to 100,000,000.
     pub fn ips(&self) -> u32
-        ensures { result ≡ self.now.ips }
+        ensures value { result ≡ self.now.ips }
+        ensures slow { 1000 ≤ result }
+        ensures fast { result ≤ 100000000 }
     {
         self.ips
     }
