@@ -5,6 +5,7 @@ mod exit;
 #[cfg(test)]
 mod tests;
 mod top;
+mod words;
 
 pub use exit::Exit;
 pub use top::farm_main;

@@ -6,9 +6,6 @@ use Rattle.farm_settings.specs.declared.settings.Settings.TheInside.{Inside}
 abbrev pub settings_value : Inside → SettingsValue
 settings_value a = record { rule = a.rule; mode = a.mode; lease = a.lease; verification = a.verification; ips = a.ips }
 
-abbrev pub settings_of : SettingsValue → Inside
-settings_of s = record { rule = s.rule; mode = s.mode; lease = s.lease; verification = s.verification; ips = s.ips }
-
 pub record IsSettings (a : Inside) : Type 0 where
   pub some : 1 ≤ a.lease
   pub short : a.lease ≤ 1000000

@@ -1,15 +1,15 @@
-ghost use Rattle.std.specs.Prelude.{◌≡◌, ◌≤◌};
+ghost use Rattle.std.specs.Prelude.{◌≡◌, ◌≤◌, IfOk};
 ghost use Rattle.serde_json.specs.View.{view};
 ghost use Rattle.farm_model.specs.State.{standard_settings};
 ghost use Rattle.farm_settings.specs.Values.{settings_in};
 
 use crate::values::{flag_at, mode_of, number_at, rule_in};
-use farm_kinds::{Mode, Rule};
+use farm_kinds::{Mode, NoMemory, Rule};
 use serde_json::Value;
 use std::marker::Model;
 
 /// What a contest sets: how its verdicts come about, and how its farm works.
-#[derive(Clone, Copy, Debug)]
+#[derive(Debug, Drop)]
 pub struct Settings {
     rule: Rule,
     mode: Mode,
@@ -23,24 +23,22 @@ impl Model for Settings {
 
     ghost Value = { SettingsValue };
 
-    ghost use Rattle.farm_settings.specs.SettingsShape.{settings_value, settings_of, IsSettings};
+    ghost use Rattle.farm_settings.specs.SettingsShape.{settings_value, IsSettings};
 
     ghost view = { settings_value };
 
     ghost invariant = { IsSettings };
-
-    ghost inverse = { settings_of };
 }
 
 impl Settings {
-    /// The standard rule, every test is judged, leases of 60 seconds, judgings are public without being
+    /// The standard rule, lazy evaluation, leases of 60 seconds, judgings are public without being
     /// verified, and 10,000,000 instructions stand for a second.
     pub fn standard() -> Settings
         ensures { result ≡ standard_settings }
     {
         Settings {
             rule: Rule::standard(),
-            mode: Mode::Full,
+            mode: Mode::Lazy,
             lease: 60,
             verification: false,
             ips: 10_000_000,
@@ -64,6 +62,19 @@ impl Settings {
                 10_000_000,
             ) as u32,
         }
+    }
+
+    /// Equal settings.
+    pub fn copy(&self) -> Result<Settings, NoMemory>
+        ensures { IfOk result (λ copy. copy ≡ self.now) }
+    {
+        Ok(Settings {
+            rule: self.rule,
+            mode: self.mode,
+            lease: self.lease,
+            verification: self.verification,
+            ips: self.ips,
+        })
     }
 
     /// The priorities and the remapping of results.

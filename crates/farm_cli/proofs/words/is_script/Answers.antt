@@ -2,7 +2,7 @@ use Rattle.std.proofs.Common.{ℕ, ◌≡◌, ◌≤◌, ◌<◌, List, [], ◌�
 use Rattle.std.specs.Prelude.{codes, string_bytes}
 use Rattle.std.proofs.lemmas.Slice.Eq.{bytes_eq-Decides}
 use Rattle.farm_cli.specs.CommandLine.{IsScript}
-use Rattle.farm_cli.proofs.top.is_script.Goals as goal
+use Rattle.farm_cli.proofs.words.is_script.Goals as goal
 
 -- two words, of which the second is `script`
 two_words : {X : Type 0} (bytes : X → List ℕ) (ws : List X) (d : X) → 2 ≤ length ws → length ws < 3 → bytes (get_or ws 1 d) ≡ codes "script" → IsScript (map bytes ws)
