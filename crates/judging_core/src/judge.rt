@@ -1,16 +1,18 @@
 ghost use Rattle.std.specs.Prelude.{◌≡◌, ◌+◌, ◌≤◌, ◌<◌, length, IfOk, IfNone, OnErr};
-ghost use Rattle.farm_kinds.specs.declared.outcomes.Mode.TheVariants.{Full};
+ghost use Rattle.farm_kinds.specs.Rules.{remap_of};
 ghost use Rattle.farm_model.specs.Leases.{left_after, ended_at, is_held_by};
 ghost use Rattle.farm_model.specs.Judge.{add_judging, answer_of_judging, judge_claim, judge_enter, judge_result, judge_renew, judge_tick, judge_down, renew_refusal};
+ghost use Rattle.lazy_stop.specs.Matters.{IsPossible};
 ghost use Rattle.lease_book.specs.Book.{room};
 ghost use Rattle.judging_core.specs.JudgeValue.{first_judge, in_state};
 
 use crate::judgings::{
-    KeptJudging, cell_at, empty_judging, entry_refusal, fill, full_answer, judging_at, mark_handed,
+    KeptJudging, answer_of, cell_at, empty_judging, entry_refusal, fill, judging_at, mark_handed,
     result_refusal,
 };
 use crate::open::first_open;
 use farm_kinds::{Answer, Claim, Class, Count, Kind, Mode, NoMemory, Renewed, Rule, Task};
+use lazy_stop::remapped_is_possible;
 use lease_book::LeaseBook;
 use std::alloc::Global;
 use std::marker::Model;
@@ -49,7 +51,6 @@ impl Model for Judge {
 impl Judge {
     /// A judge of no judgings and no hosts, at moment 0. The lease is in seconds.
     pub fn new(alloc: Global, rule: Rule, mode: Mode, lease: u64) -> Judge
-        requires full { mode ≡ Full }
         requires some { 1 ≤ lease }
         requires short { lease ≤ 1000000 }
         ensures { result ≡ first_judge rule mode lease }
@@ -81,7 +82,7 @@ impl Judge {
         ensures added { IfOk result (λ j. self.new ≡ in_state self.old (add_judging self.old.state class tests)) }
         ensures unchanged { OnErr result (self.new ≡ self.old) }
     {
-        let judging = empty_judging(self.alloc, class, tests)?;
+        let judging = empty_judging(self.alloc, self.rule, class, tests)?;
         self.judgings.push(judging).map_err(|_| NoMemory)?;
         Ok(self.judgings.len() as u32)
     }
@@ -110,7 +111,7 @@ impl Judge {
         if self.leases.held(host) >= MAX_HELD {
             return Claim::Holding;
         }
-        let Some(task) = first_open(&self.judgings, &self.leases) else {
+        let Some(task) = first_open(self.mode, &self.judgings, &self.leases) else {
             return Claim::Nothing;
         };
         let until = self.moment + self.lease;
@@ -125,7 +126,7 @@ impl Judge {
         ensures state { self.new ≡ in_state self.old (judge_result self.old.state judging test kind).0 }
         ensures answer { result ≡ (judge_result self.old.state judging test kind).1 }
     {
-        let given = self.rule.remap(kind);
+        let given = counts_as(&self.rule, kind);
         if let Some(refusal) = result_refusal(&self.judgings, judging, test, given) {
             return refusal;
         }
@@ -143,7 +144,7 @@ impl Judge {
         ensures state { self.new ≡ in_state self.old (judge_enter self.old.state judging test kind).0 }
         ensures answer { result ≡ (judge_enter self.old.state judging test kind).1 }
     {
-        let given = self.rule.remap(kind);
+        let given = counts_as(&self.rule, kind);
         if let Some(refusal) = entry_refusal(&self.judgings, judging, test, given) {
             return refusal;
         }
@@ -180,7 +181,7 @@ impl Judge {
         let Some(kept) = judging_at(&self.judgings, judging) else {
             return Some(Renewed::NoJudging);
         };
-        if cell_at(&kept.row, test).is_none() {
+        if cell_at(kept, test).is_none() {
             return Some(Renewed::NoTest);
         }
         let task = Task {
@@ -218,12 +219,18 @@ impl Judge {
     pub fn answer(&self, judging: u32) -> Option<Answer>
         ensures { result ≡ answer_of_judging self.now.state judging }
     {
-        if judging == 0 || judging as usize > self.judgings.len() {
-            return None;
-        }
-        let kept = &self.judgings[judging as usize - 1];
-        Some(full_answer(&self.rule, &kept.row))
+        let kept = judging_at(&self.judgings, judging)?;
+        Some(answer_of(kept, self.mode))
     }
+}
+
+/// What the kind counts as, which a cell can hold.
+fn counts_as(rule: &Rule, kind: Kind) -> Kind
+    ensures value { result ≡ remap_of rule.now kind }
+    ensures possible { IsPossible rule.now result }
+{
+    remapped_is_possible(rule, kind);
+    rule.remap(kind)
 }
 
 /// Whether the host holds the lease on the task.
