@@ -22,8 +22,8 @@ const MAX_HELD: u32 = 64;
 /// The moment past which time does not go on, in seconds: 10^18 - 1.
 const LAST_MOMENT: u64 = 999_999_999_999_999_999;
 
-/// The judgings and the hosts, both numbered from 1, the leases of the hosts, and the rule by which the
-/// judgings are judged.
+/// The judgings and the hosts, both numbered from 1, the leases of the hosts, and the rule and the mode by
+/// which the judgings are judged.
 #[derive(Drop)]
 pub struct Judge {
     alloc: Global,
@@ -49,7 +49,8 @@ impl Model for Judge {
 }
 
 impl Judge {
-    /// A judge of no judgings and no hosts, at moment 0. The lease is in seconds.
+    /// A judge of no judgings and no hosts, at moment 0, that judges lazily or in full. The lease is in
+    /// seconds.
     pub fn new(alloc: Global, rule: Rule, mode: Mode, lease: u64) -> Judge
         requires some { 1 ≤ lease }
         requires short { lease ≤ 1000000 }
@@ -102,6 +103,9 @@ impl Judge {
     }
 
     /// Gives the host the least open task by class, judging and test, and a lease on it.
+    ///
+    /// A task is open where its cell is empty and no lease is held on it, in a judging that takes results,
+    /// and lazily only where its result can change the verdict.
     pub fn claim(&mut self, host: u32) -> Claim
         requires numbered { 1 ≤ host }
         requires known { host ≤ self.old.hosts }
@@ -214,8 +218,8 @@ impl Judge {
         self.leases.end_host(host)
     }
 
-    /// What is reported of a judging: final once every cell is filled. None where no judging has the
-    /// number.
+    /// What is reported of a judging: lazily final once no other result can change its verdict, in full
+    /// once every cell is filled. None where no judging has the number.
     pub fn answer(&self, judging: u32) -> Option<Answer>
         ensures { result ≡ answer_of_judging self.now.state judging }
     {

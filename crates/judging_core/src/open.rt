@@ -11,7 +11,8 @@ use farm_kinds::{Class, Mode, Task};
 use lazy_stop::Row;
 use lease_book::LeaseBook;
 
-/// The least open task by class, judging and test.
+/// The least open task by class, judging and test: one on an empty cell, which lazily can change the
+/// verdict, with no lease.
 pub fn first_open(mode: Mode, judgings: &[KeptJudging], leases: &LeaseBook) -> Option<Task>
     requires few { length judgings.now ≤ 400000 }
     requires short { AreShort judgings.now }
