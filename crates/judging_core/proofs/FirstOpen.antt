@@ -1,23 +1,25 @@
 -- The first open task, found cell by cell and judging by judging.
-use Rattle.std.proofs.Common.{ℕ, zero, suc, ◌≡◌, ◌+◌, ◌-◌, ◌<◌, ◌≤◌, List, [], ◌∷◌, ◌++◌, Option, Some, None, Bool, true, false, cond, ◌&&◌, refl, sym, ap, ◌∙◌, arith, length, get_or, slice_get, map, IfSome, IsSome}
+use Rattle.std.proofs.Common.{ℕ, zero, suc, ◌≡◌, ◌+◌, ◌-◌, ◌<◌, ◌≤◌, List, [], ◌∷◌, ◌++◌, Option, Some, None, Bool, true, false, cond, ◌&&◌, refl, sym, ap, ◌∙◌, arith, length, get_or, drop, slice_get, map, IfSome, IsSome}
 use Rattle.std.specs.Prelude.{not, nat_lt, slice_index_or}
 use Rattle.std.specs.Option.{is_none, option_or}
 use Rattle.std.specs.List.{filter, flat_map, range_with_len, enumerate_from}
+use Rattle.std.proofs.Math.Seq.{drop-cons}
 use Rattle.std.proofs.lemmas.Bool.Decides.{nat_tests}
+use Rattle.std.proofs.lemmas.Option.{slice_get-get_or}
 use Rattle.farm_kinds.specs.declared.kinds.Kind.{Kind}
 use Rattle.farm_kinds.specs.declared.outcomes.Class.{Class}
 use Rattle.farm_kinds.specs.declared.outcomes.Class.TheVariants.{High, Normal, Low}
-use Rattle.farm_kinds.specs.declared.outcomes.Mode.TheVariants.{Full}
+use Rattle.farm_kinds.specs.declared.outcomes.Mode.{Mode}
 use Rattle.farm_kinds.specs.declared.outcomes.Task.{Task}
 use Rattle.farm_kinds.specs.RuleValue.{RuleValue}
 use Rattle.farm_model.specs.declared.records.Lease.{Lease}
 use Rattle.std.proofs.lemmas.List.{get_or-map, length-map}
-use Rattle.farm_model.specs.Numbered.{numbers_to, item_of}
+use Rattle.farm_model.specs.Numbered.{item_of}
 use Rattle.farm_model.specs.Rows.{Row}
 use Rattle.farm_model.specs.Judgings.{Judging, task_of, cell_of}
-use Rattle.farm_model.specs.Open.{same_class, is_free, is_empty_cell, open_in, open_in_class, open_tasks}
+use Rattle.farm_model.specs.Open.{same_class, is_free, is_empty_cell, is_wanted, open_in, open_in_class, open_tasks}
 use Rattle.judging_core.specs.JudgeShape.{judging_value, judging_values}
-use Rattle.judging_core.specs.FirstOpen.{first_free, first_from, IsOpenIn, IsOpenTask}
+use Rattle.judging_core.specs.FirstOpen.{is_open, first_open_of, first_from, IsOpenIn, IsOpenTask}
 use Rattle.judging_core.specs.declared.judgings.KeptJudging.{KeptJudging}
 use Rattle.judging_core.proofs.Changed.{item_there}
 
@@ -26,37 +28,35 @@ pub first_append : {X : Type 0} (xs ys : List X) → slice_get (xs ++ ys) 0 ≡ 
 first_append [] ys = refl
 first_append (x ∷ xs) ys = refl
 
--- what is filtered by a test that all pass
-all_pass : {X : Type 0} (xs : List X) → filter (λ x. true) xs ≡ xs
-all_pass [] = refl
-all_pass (x ∷ xs) = ap (λ ys. x ∷ ys) (all_pass xs)
-
--- the first free task of the tests from a on whose cells are empty
-free_from : (leases : List Lease) (j a : ℕ) (empty : ℕ → Bool) (cells : Row)
+-- the first open task of the tests from a on, whose cells these are
+open_from : (wanted : ℕ → Bool) (leases : List Lease) (j a : ℕ) (empty : ℕ → Bool) (cells : Row)
     → ((i : ℕ) (c : Option Kind) → slice_get cells i ≡ Some c → empty (a + i) ≡ is_none c)
-    → slice_get (filter (is_free leases) (map (task_of j) (filter empty (range_with_len a (length cells))))) 0 ≡ first_free leases j a cells
-free_from leases j a empty [] h = refl
-free_from leases j a empty (c ∷ cells) h =
+    → slice_get (filter (is_free leases) (map (task_of j) (filter wanted (filter empty (range_with_len a (length cells)))))) 0 ≡ first_open_of wanted leases j a cells
+open_from wanted leases j a empty [] h = refl
+open_from wanted leases j a empty (c ∷ cells) h =
     let here : empty a ≡ is_none c = ap empty (omega arith) ∙ h zero c refl in
-    let rest = free_from leases j (a + 1) empty cells (λ i x e. ap empty (omega arith) ∙ h (suc i) x e) in
-    rw here (free_cell leases j a empty c cells rest) where
-      free_cell : (leases : List Lease) (j a : ℕ) (empty : ℕ → Bool) (c : Option Kind) (cells : Row)
-          → slice_get (filter (is_free leases) (map (task_of j) (filter empty (range_with_len (a + 1) (length cells))))) 0 ≡ first_free leases j (a + 1) cells
-          → slice_get (filter (is_free leases) (map (task_of j) (cond (is_none c) (a ∷ filter empty (range_with_len (a + 1) (length cells))) (filter empty (range_with_len (a + 1) (length cells)))))) 0
-          ≡ cond (is_none c && is_free leases (task_of j a)) (Some (task_of j a)) (first_free leases j (a + 1) cells)
-      free_cell leases j a empty (Some k) cells h = h
-      free_cell leases j a empty None cells h = elim (is_free leases (task_of j a)) as (λ b. slice_get (cond b (task_of j a ∷ filter (is_free leases) (map (task_of j) (filter empty (range_with_len (a + 1) (length cells))))) (filter (is_free leases) (map (task_of j) (filter empty (range_with_len (a + 1) (length cells)))))) 0 ≡ cond b (Some (task_of j a)) (first_free leases j (a + 1) cells)) [ true ↦ refl | false ↦ h ]
+    let rest = open_from wanted leases j (a + 1) empty cells (λ i x e. ap empty (omega arith) ∙ h (suc i) x e) in
+    rw here (open_cell wanted leases j a (filter empty (range_with_len (a + 1) (length cells))) c (first_open_of wanted leases j (a + 1) cells) rest) where
+      open_cell : (wanted : ℕ → Bool) (leases : List Lease) (j a : ℕ) (others : List ℕ) (c : Option Kind) (first : Option Task)
+          → slice_get (filter (is_free leases) (map (task_of j) (filter wanted others))) 0 ≡ first
+          → slice_get (filter (is_free leases) (map (task_of j) (filter wanted (cond (is_none c) (a ∷ others) others)))) 0
+          ≡ cond (is_open wanted leases (task_of j a) c) (Some (task_of j a)) first
+      open_cell wanted leases j a others (Some k) first h = h
+      open_cell wanted leases j a others None first h =
+          elim (wanted a) as (λ b. slice_get (filter (is_free leases) (map (task_of j) (cond b (a ∷ filter wanted others) (filter wanted others)))) 0 ≡ cond (b && is_free leases (task_of j a)) (Some (task_of j a)) first) [
+            | true ↦ elim (is_free leases (task_of j a)) as (λ b. slice_get (cond b (task_of j a ∷ filter (is_free leases) (map (task_of j) (filter wanted others))) (filter (is_free leases) (map (task_of j) (filter wanted others)))) 0 ≡ cond b (Some (task_of j a)) first) [ true ↦ refl | false ↦ h ]
+            | false ↦ h
+          ]
 
 read_at : {X : Type 0} (xs : List X) (i : ℕ) (x d : X) → slice_get xs i ≡ Some x → slice_index_or xs i d ≡ x
 read_at [] i x d h = cc
 read_at (y ∷ xs) zero x d h = cc
 read_at (y ∷ xs) (suc i) x d h = read_at xs i x d h
 
--- with `Full` each empty cell is wanted
-first_in : (rule : RuleValue) (leases : List Lease) (n : ℕ) (judging : Judging) → slice_get (open_in rule Full leases (n, judging)) 0 ≡ first_free leases n 1 judging.row
-first_in rule leases n judging =
-    ap (λ tests. slice_get (filter (is_free leases) (map (task_of n) tests)) 0) (all_pass (filter (is_empty_cell judging.row) (numbers_to (length judging.row))))
-    ∙ free_from leases n 1 (is_empty_cell judging.row) judging.row (λ i c e.
+first_in : (rule : RuleValue) (mode : Mode) (leases : List Lease) (n : ℕ) (judging : Judging)
+    → slice_get (open_in rule mode leases (n, judging)) 0 ≡ first_open_of (is_wanted rule mode judging.row) leases n 1 judging.row
+first_in rule mode leases n judging =
+    open_from (is_wanted rule mode judging.row) leases n 1 (is_empty_cell judging.row) judging.row (λ i c e.
     let place : 1 + i - 1 ≡ i = omega arith in ap (λ m. is_none (slice_index_or judging.row m None)) place ∙ ap is_none (read_at judging.row i c None e))
 
 -- the first of what one item gives, where it passes both tests, and else of what the others give
@@ -70,27 +70,40 @@ flat_first f test p ps true first others h g =
       | false ↦ g
     ]
 
-first_numbered : (rule : RuleValue) (leases : List Lease) (class : Class) (n : ℕ) (judgings : List Judging)
-    → slice_get (flat_map (open_in rule Full leases) (filter (λ p. same_class p.1.class class) (filter (λ p. not p.1.dropped) (enumerate_from n judgings)))) 0 ≡ first_from leases class n judgings
-first_numbered rule leases class n [] = refl
-first_numbered rule leases class n (judging ∷ judgings) =
-    flat_first (open_in rule Full leases) (λ p. same_class p.1.class class) (n, judging) (filter (λ p. not p.1.dropped) (enumerate_from (n + 1) judgings)) (not judging.dropped)
-    (first_free leases n 1 judging.row) (first_from leases class (n + 1) judgings)
-    (first_in rule leases n judging) (first_numbered rule leases class (n + 1) judgings)
+first_numbered : (rule : RuleValue) (mode : Mode) (leases : List Lease) (class : Class) (n : ℕ) (judgings : List Judging)
+    → slice_get (flat_map (open_in rule mode leases) (filter (λ p. same_class p.1.class class) (filter (λ p. not p.1.dropped) (enumerate_from n judgings)))) 0 ≡ first_from rule mode leases class n judgings
+first_numbered rule mode leases class n [] = refl
+first_numbered rule mode leases class n (judging ∷ judgings) =
+    flat_first (open_in rule mode leases) (λ p. same_class p.1.class class) (n, judging) (filter (λ p. not p.1.dropped) (enumerate_from (n + 1) judgings)) (not judging.dropped)
+    (first_open_of (is_wanted rule mode judging.row) leases n 1 judging.row) (first_from rule mode leases class (n + 1) judgings)
+    (first_in rule mode leases n judging) (first_numbered rule mode leases class (n + 1) judgings)
 
-first_class : (rule : RuleValue) (leases : List Lease) (judgings : List Judging) (class : Class) → slice_get (open_in_class rule Full judgings leases class) 0 ≡ first_from leases class 1 judgings
-first_class rule leases judgings class = first_numbered rule leases class 1 judgings
+first_class : (rule : RuleValue) (mode : Mode) (leases : List Lease) (judgings : List Judging) (class : Class)
+    → slice_get (open_in_class rule mode judgings leases class) 0 ≡ first_from rule mode leases class 1 judgings
+first_class rule mode leases judgings class = first_numbered rule mode leases class 1 judgings
 
 -- the first open task is the first of a class
-pub first_of_all : (rule : RuleValue) (judgings : List Judging) (leases : List Lease)
-    → slice_get (open_tasks rule Full judgings leases) 0 ≡ option_or (option_or (first_from leases High 1 judgings) (first_from leases Normal 1 judgings)) (first_from leases Low 1 judgings)
-first_of_all rule judgings leases =
-    let high = open_in_class rule Full judgings leases High in
-    let normal = open_in_class rule Full judgings leases Normal in
-    let low = open_in_class rule Full judgings leases Low in
+pub first_of_all : (rule : RuleValue) (mode : Mode) (judgings : List Judging) (leases : List Lease)
+    → slice_get (open_tasks rule mode judgings leases) 0
+    ≡ option_or (option_or (first_from rule mode leases High 1 judgings) (first_from rule mode leases Normal 1 judgings)) (first_from rule mode leases Low 1 judgings)
+first_of_all rule mode judgings leases =
+    let high = open_in_class rule mode judgings leases High in
+    let normal = open_in_class rule mode judgings leases Normal in
+    let low = open_in_class rule mode judgings leases Low in
     first_append (high ++ normal) low
     ∙ ap (λ o. option_or o (slice_get low 0)) (first_append high normal)
-    ∙ rw (first_class rule leases judgings High, first_class rule leases judgings Normal, first_class rule leases judgings Low) refl
+    ∙ rw (first_class rule mode leases judgings High, first_class rule mode leases judgings Normal, first_class rule mode leases judgings Low) refl
+
+-- one test of a row
+pub open_step : (wanted : ℕ → Bool) (leases : List Lease) (j i : ℕ) (row : Row) (answer : Bool) → i < length row
+    → ((cell : Option Kind) → slice_get row (i + 1 - 1) ≡ Some cell → answer ≡ is_open wanted leases (task_of j (i + 1)) cell)
+    → first_open_of wanted leases j (i + 1) (drop i row) ≡ cond answer (Some (task_of j (i + 1))) (first_open_of wanted leases j (i + 1 + 1) (drop (i + 1) row))
+open_step wanted leases j i row answer lt h =
+    let place : i + 1 - 1 ≡ i = omega arith in
+    let next : suc i ≡ i + 1 = omega arith in
+    ap (first_open_of wanted leases j (i + 1)) (drop-cons row i None lt ∙ ap (λ n. get_or row i None ∷ drop n row) next)
+    ∙ ap (λ b. cond b (Some (task_of j (i + 1))) (first_open_of wanted leases j (i + 1 + 1) (drop (i + 1) row)))
+    (sym (h (get_or row i None) (ap (λ n. slice_get row n) place ∙ slice_get-get_or row i None lt)))
 
 -- The facts of an open task
 

@@ -1,4 +1,3 @@
-pub mod Rows
 pub mod Changed
 pub mod Held
 pub mod FirstOpen

@@ -1,10 +1,9 @@
 -- How a judge lies in memory.
-use Rattle.std.specs.Prelude.{◌≡◌, ◌≤◌, ◌<◌, ◌*◌, ◌^◌, length}
-use Rattle.farm_kinds.specs.declared.outcomes.Mode.TheVariants.{Full}
+use Rattle.std.specs.Prelude.{◌≤◌, ◌<◌, ◌*◌, ◌^◌, length}
 use Rattle.farm_model.specs.Judge.{JudgeState}
 use Rattle.lease_book.specs.Book.{room}
 use Rattle.judging_core.specs.JudgeValue.{JudgeValue}
-use Rattle.judging_core.specs.JudgeShape.{judging_values, AreShort}
+use Rattle.judging_core.specs.JudgeShape.{judging_values, AreShort, AreRuledBy}
 use Rattle.judging_core.specs.Holding.{IsHeldWell}
 use Rattle.judging_core.specs.declared.judge.Judge.TheInside.{Inside}
 
@@ -15,13 +14,13 @@ abbrev pub judge_value : Inside → JudgeValue
 judge_value a = record { state = judge_state a; hosts = a.hosts }
 
 pub record IsJudgeLayout (a : Inside) : Type 0 where
-  -- every test is judged
-  pub full : a.mode ≡ Full
   pub some : 1 ≤ a.lease
   pub short : a.lease ≤ 1000000
   pub moment : a.moment < 10 ^ 18
   pub few : length a.judgings.items ≤ 400000
   pub rows : AreShort a.judgings.items
+  -- each row is judged by the judge's rule
+  pub ruled : AreRuledBy a.rule a.judgings.items
   pub few_hosts : a.hosts ≤ 1000
   pub held : IsHeldWell a.hosts a.leases.leases
   -- 64 leases for each host

@@ -1,16 +1,18 @@
 ghost use Rattle.std.specs.Prelude.{◌≡◌, ◌+◌, ◌≤◌, ◌<◌, length, IfOk, IfNone, OnErr};
-ghost use Rattle.farm_kinds.specs.declared.outcomes.Mode.TheVariants.{Full};
+ghost use Rattle.farm_kinds.specs.Rules.{remap_of};
 ghost use Rattle.farm_model.specs.Leases.{left_after, ended_at, is_held_by};
 ghost use Rattle.farm_model.specs.Judge.{add_judging, answer_of_judging, judge_claim, judge_enter, judge_result, judge_renew, judge_tick, judge_down, renew_refusal};
+ghost use Rattle.lazy_stop.specs.Matters.{IsPossible};
 ghost use Rattle.lease_book.specs.Book.{room};
 ghost use Rattle.judging_core.specs.JudgeValue.{first_judge, in_state};
 
 use crate::judgings::{
-    KeptJudging, cell_at, empty_judging, entry_refusal, fill, full_answer, judging_at, mark_handed,
+    KeptJudging, answer_of, cell_at, empty_judging, entry_refusal, fill, judging_at, mark_handed,
     result_refusal,
 };
 use crate::open::first_open;
 use farm_kinds::{Answer, Claim, Class, Count, Kind, Mode, NoMemory, Renewed, Rule, Task};
+use lazy_stop::remapped_is_possible;
 use lease_book::LeaseBook;
 use std::alloc::Global;
 use std::marker::Model;
@@ -20,8 +22,8 @@ const MAX_HELD: u32 = 64;
 /// The moment past which time does not go on, in seconds: 10^18 - 1.
 const LAST_MOMENT: u64 = 999_999_999_999_999_999;
 
-/// The judgings and the hosts, both numbered from 1, the leases of the hosts, and the rule by which the
-/// judgings are judged.
+/// The judgings and the hosts, both numbered from 1, the leases of the hosts, and the rule and the mode by
+/// which the judgings are judged.
 #[derive(Drop)]
 pub struct Judge {
     alloc: Global,
@@ -47,9 +49,9 @@ impl Model for Judge {
 }
 
 impl Judge {
-    /// A judge of no judgings and no hosts, at moment 0. The lease is in seconds.
+    /// A judge of no judgings and no hosts, at moment 0, that judges lazily or in full. The lease is in
+    /// seconds.
     pub fn new(alloc: Global, rule: Rule, mode: Mode, lease: u64) -> Judge
-        requires full { mode ≡ Full }
         requires some { 1 ≤ lease }
         requires short { lease ≤ 1000000 }
         ensures { result ≡ first_judge rule mode lease }
@@ -81,7 +83,7 @@ impl Judge {
         ensures added { IfOk result (λ j. self.new ≡ in_state self.old (add_judging self.old.state class tests)) }
         ensures unchanged { OnErr result (self.new ≡ self.old) }
     {
-        let judging = empty_judging(self.alloc, class, tests)?;
+        let judging = empty_judging(self.alloc, self.rule, class, tests)?;
         self.judgings.push(judging).map_err(|_| NoMemory)?;
         Ok(self.judgings.len() as u32)
     }
@@ -101,6 +103,9 @@ impl Judge {
     }
 
     /// Gives the host the least open task by class, judging and test, and a lease on it.
+    ///
+    /// A task is open where its cell is empty and no lease is held on it, in a judging that takes results,
+    /// and lazily only where its result can change the verdict.
     pub fn claim(&mut self, host: u32) -> Claim
         requires numbered { 1 ≤ host }
         requires known { host ≤ self.old.hosts }
@@ -110,7 +115,7 @@ impl Judge {
         if self.leases.held(host) >= MAX_HELD {
             return Claim::Holding;
         }
-        let Some(task) = first_open(&self.judgings, &self.leases) else {
+        let Some(task) = first_open(self.mode, &self.judgings, &self.leases) else {
             return Claim::Nothing;
         };
         let until = self.moment + self.lease;
@@ -125,7 +130,7 @@ impl Judge {
         ensures state { self.new ≡ in_state self.old (judge_result self.old.state judging test kind).0 }
         ensures answer { result ≡ (judge_result self.old.state judging test kind).1 }
     {
-        let given = self.rule.remap(kind);
+        let given = counts_as(&self.rule, kind);
         if let Some(refusal) = result_refusal(&self.judgings, judging, test, given) {
             return refusal;
         }
@@ -143,7 +148,7 @@ impl Judge {
         ensures state { self.new ≡ in_state self.old (judge_enter self.old.state judging test kind).0 }
         ensures answer { result ≡ (judge_enter self.old.state judging test kind).1 }
     {
-        let given = self.rule.remap(kind);
+        let given = counts_as(&self.rule, kind);
         if let Some(refusal) = entry_refusal(&self.judgings, judging, test, given) {
             return refusal;
         }
@@ -180,7 +185,7 @@ impl Judge {
         let Some(kept) = judging_at(&self.judgings, judging) else {
             return Some(Renewed::NoJudging);
         };
-        if cell_at(&kept.row, test).is_none() {
+        if cell_at(kept, test).is_none() {
             return Some(Renewed::NoTest);
         }
         let task = Task {
@@ -213,17 +218,23 @@ impl Judge {
         self.leases.end_host(host)
     }
 
-    /// What is reported of a judging: final once every cell is filled. None where no judging has the
-    /// number.
+    /// What is reported of a judging: lazily final once no other result can change its verdict, in full
+    /// once every cell is filled. None where no judging has the number.
     pub fn answer(&self, judging: u32) -> Option<Answer>
         ensures { result ≡ answer_of_judging self.now.state judging }
     {
-        if judging == 0 || judging as usize > self.judgings.len() {
-            return None;
-        }
-        let kept = &self.judgings[judging as usize - 1];
-        Some(full_answer(&self.rule, &kept.row))
+        let kept = judging_at(&self.judgings, judging)?;
+        Some(answer_of(kept, self.mode))
     }
+}
+
+/// What the kind counts as, which a cell can hold.
+fn counts_as(rule: &Rule, kind: Kind) -> Kind
+    ensures value { result ≡ remap_of rule.now kind }
+    ensures possible { IsPossible rule.now result }
+{
+    remapped_is_possible(rule, kind);
+    rule.remap(kind)
 }
 
 /// Whether the host holds the lease on the task.

@@ -1,12 +1,14 @@
-ghost use Rattle.std.specs.Prelude.{◌≡◌, ◌≤◌, length, replicate, false, IfOk, IfNone, IfSome, OnSome, None, Some, IsSome};
-ghost use Rattle.farm_kinds.specs.declared.outcomes.Mode.TheVariants.{Full};
-ghost use Rattle.farm_model.specs.Rows.{kinds_of, full_kind, answer_of};
+ghost use Rattle.std.specs.Prelude.{◌≡◌, ◌≤◌, ◌-◌, length, replicate, slice_get, slice_set, false, IfOk, IfNone, IfSome, OnSome, None, Some, IsSome};
+ghost use Rattle.farm_kinds.specs.RuleValue.{RuleValue};
+ghost use Rattle.farm_model.specs.Rows.{answer_of};
 ghost use Rattle.farm_model.specs.Numbered.{item_of};
 ghost use Rattle.farm_model.specs.Judgings.{kept_count, cell_of, entry_refusal, result_refusal, with_result, with_handed, empty_judging};
+ghost use Rattle.lazy_stop.specs.Matters.{IsPossible};
 ghost use Rattle.judging_core.specs.Refusals.{cell_refusal, is_never_handed};
-ghost use Rattle.judging_core.specs.JudgeShape.{judging_value, judging_values, IsShort, AreShort};
+ghost use Rattle.judging_core.specs.JudgeShape.{judging_value, judging_values, IsShort, AreShort, IsRuledBy, AreRuledBy, CanAllHold};
 
-use farm_kinds::{Answer, Class, Count, Kind, NoMemory, Rule, Task, Verdict, verdict_with};
+use farm_kinds::{Answer, Class, Count, Kind, Mode, NoMemory, Rule, Task, Verdict};
+use lazy_stop::Row;
 use std::alloc::Global;
 
 /// A judging as it is kept.
@@ -15,20 +17,26 @@ pub struct KeptJudging {
     /// Which judgings go before it.
     pub class: Class,
     /// One cell per test, in rank order: empty, or the kind of its result after remapping.
-    pub row: Vec<Option<Kind>>,
+    pub row: Row,
     /// For each test whether its task was ever handed out.
     pub handed: Vec<bool>,
     /// Whether it takes no more results.
     pub dropped: bool,
 }
 
-/// A judging of this many tests, none of which was handed out or judged.
-pub fn empty_judging(alloc: Global, class: Class, tests: u16) -> Result<KeptJudging, NoMemory>
+/// A judging by this rule of this many tests, none of which was handed out or judged.
+pub fn empty_judging(
+    alloc: Global,
+    rule: Rule,
+    class: Class,
+    tests: u16,
+) -> Result<KeptJudging, NoMemory>
     requires { tests ≤ 1000 }
     ensures value { IfOk result (λ kept. judging_value kept ≡ empty_judging class tests) }
     ensures short { IfOk result (λ kept. IsShort kept) }
+    ensures ruled { IfOk result (λ kept. IsRuledBy rule kept) }
 {
-    let row = empty_row(alloc, tests)?;
+    let row = Row::new(alloc, rule, tests)?;
     let handed = no_marks(alloc, tests)?;
     Ok(KeptJudging {
         class,
@@ -36,13 +44,6 @@ pub fn empty_judging(alloc: Global, class: Class, tests: u16) -> Result<KeptJudg
         handed,
         dropped: false,
     })
-}
-
-/// A row of empty cells.
-fn empty_row(alloc: Global, tests: u16) -> Result<Vec<Option<Kind>>, NoMemory>
-    ensures { IfOk result (λ row. row.items ≡ replicate tests None) }
-{
-    vec![in alloc; None; tests as usize].map_err(|_| NoMemory)
 }
 
 /// For each test that its task was not handed out.
@@ -59,6 +60,7 @@ pub fn judging_at(judgings: &[KeptJudging], judging: u32) -> Option<&KeptJudging
     ensures some { IfSome result (λ kept. item_of (judging_values judgings.now) judging ≡ Some (judging_value kept.now)) }
     ensures short { IfSome result (λ kept. IsShort kept.now) }
     ensures numbered { OnSome result (1 ≤ judging) }
+    ensures ruled { (rule : RuleValue) → AreRuledBy rule judgings.now → IfSome result (λ kept. IsRuledBy rule kept.now) }
     ensures known { OnSome result (judging ≤ length judgings.now) }
 {
     if judging == 0 {
@@ -68,15 +70,16 @@ pub fn judging_at(judgings: &[KeptJudging], judging: u32) -> Option<&KeptJudging
 }
 
 /// The cell of this test.
-pub fn cell_at(row: &[Option<Kind>], test: u32) -> Option<Option<Kind>>
-    ensures cell { result ≡ item_of row.now test }
+pub fn cell_at(kept: &KeptJudging, test: u32) -> Option<Option<Kind>>
+    requires { IsShort kept.now }
+    ensures cell { result ≡ item_of kept.now.row.cells test }
     ensures numbered { OnSome result (1 ≤ test) }
-    ensures known { OnSome result (test ≤ length row.now) }
+    ensures known { OnSome result (test ≤ length kept.now.row.cells) }
 {
-    if test == 0 {
+    if test == 0 || test as usize > kept.handed.len() {
         return None;
     }
-    row.get(test as usize - 1).copied()
+    Some(kept.row.cell(test as u16))
 }
 
 /// Why a result from outside does not count.
@@ -90,13 +93,13 @@ pub fn entry_refusal(
     ensures refusal { result ≡ entry_refusal (judging_values judgings.now) judging test given }
     ensures numbered { IfNone result (1 ≤ judging) }
     ensures known { IfNone result (judging ≤ length judgings.now) }
-    ensures cell { IfNone result (IsSome (cell_of (judging_values judgings.now) judging test)) }
+    ensures empty { IfNone result (cell_of (judging_values judgings.now) judging test ≡ Some None) }
     ensures short { IfNone result (test ≤ 1000) }
 {
     let Some(kept) = judging_at(judgings, judging) else {
         return Some(Count::NoJudging);
     };
-    let Some(cell) = cell_at(&kept.row, test) else {
+    let Some(cell) = cell_at(kept, test) else {
         return Some(Count::NoTest);
     };
     cell_refusal(cell, kept.dropped, given)
@@ -113,7 +116,7 @@ pub fn result_refusal(
     ensures refusal { result ≡ result_refusal (judging_values judgings.now) judging test given }
     ensures numbered { IfNone result (1 ≤ judging) }
     ensures known { IfNone result (judging ≤ length judgings.now) }
-    ensures cell { IfNone result (IsSome (cell_of (judging_values judgings.now) judging test)) }
+    ensures empty { IfNone result (cell_of (judging_values judgings.now) judging test ≡ Some None) }
     ensures short { IfNone result (test ≤ 1000) }
 {
     if is_never_handed(judgings, judging, test) {
@@ -130,7 +133,7 @@ fn is_never_handed(judgings: &[KeptJudging], judging: u32, test: u32) -> bool
     let Some(kept) = judging_at(judgings, judging) else {
         return false;
     };
-    if cell_at(&kept.row, test).is_none() {
+    if cell_at(kept, test).is_none() {
         return false;
     }
     !kept.handed[test as usize - 1]
@@ -158,17 +161,30 @@ fn kept_count(kept: Kind, given: Kind) -> Count
     }
 }
 
-/// Puts the kind into the cell.
+/// Puts the kind into the cell, which is empty.
 pub fn fill(judgings: &mut Vec<KeptJudging>, judging: u32, test: u32, given: Kind)
     requires numbered { 1 ≤ judging }
     requires known { judging ≤ length judgings.old.items }
-    requires cell { IsSome (cell_of (judging_values judgings.old.items) judging test) }
+    requires empty { cell_of (judging_values judgings.old.items) judging test ≡ Some None }
+    requires short { AreShort judgings.old.items }
+    requires possible { CanAllHold given judgings.old.items }
     ensures value { judging_values judgings.new.items ≡ with_result (judging_values judgings.old.items) judging test given }
-    ensures short { AreShort judgings.old.items → AreShort judgings.new.items }
+    ensures short { AreShort judgings.new.items }
+    ensures ruled { (rule : RuleValue) → AreRuledBy rule judgings.old.items → AreRuledBy rule judgings.new.items }
     ensures count { length judgings.new.items ≡ length judgings.old.items }
 {
     let kept = &mut judgings[judging as usize - 1];
-    kept.row[test as usize - 1] = Some(given);
+    put(&mut kept.row, test as u16, given);
+}
+
+/// Puts the kind into the empty cell.
+fn put(row: &mut Row, test: u16, given: Kind)
+    requires numbered { 1 ≤ test }
+    requires empty { slice_get row.old.cells (test - 1) ≡ Some None }
+    requires possible { IsPossible row.old.rule given }
+    ensures { row.new ≡ record row.old { cells = slice_set row.old.cells (test - 1) (Some given) } }
+{
+    row.put(test, given);
 }
 
 /// Marks the task as handed out.
@@ -179,35 +195,20 @@ pub fn mark_handed(judgings: &mut Vec<KeptJudging>, task: Task)
     requires short { AreShort judgings.old.items }
     ensures value { judging_values judgings.new.items ≡ with_handed (judging_values judgings.old.items) task }
     ensures short { AreShort judgings.new.items }
+    ensures ruled { (rule : RuleValue) → AreRuledBy rule judgings.old.items → AreRuledBy rule judgings.new.items }
     ensures count { length judgings.new.items ≡ length judgings.old.items }
 {
     let kept = &mut judgings[task.judging as usize - 1];
     kept.handed[task.test as usize - 1] = true;
 }
 
-/// The verdict of a row whose cells are all filled. None where a cell is empty, or there is none.
-fn full_kind(rule: &Rule, row: &[Option<Kind>]) -> Option<Kind>
-    ensures { result ≡ full_kind rule.now (kinds_of row.now) }
+/// What is reported of a judging. One of no tests is of a broken submission.
+pub fn answer_of(kept: &KeptJudging, mode: Mode) -> Answer
+    requires { IsShort kept.now }
+    ensures { result ≡ answer_of kept.now.row.rule mode kept.now.row.cells }
 {
-    let mut best: Option<Kind> = None;
-    for cell in row {
-        let Some(kind) = *cell else {
-            return None;
-        };
-        best = Some(verdict_with(rule, best, kind));
-    }
-    best
-}
-
-/// What is reported of a row where every test is judged.
-pub fn full_answer(rule: &Rule, row: &[Option<Kind>]) -> Answer
-    ensures { result ≡ answer_of rule.now Full row.now }
-{
-    if row.is_empty() {
+    if kept.handed.is_empty() {
         return Answer::Final(Verdict::CompilerError);
     }
-    match full_kind(rule, row) {
-        Some(kind) => Answer::Final(Verdict::Tests(kind)),
-        None => Answer::Pending,
-    }
+    kept.row.answer(mode)
 }

@@ -1,36 +1,43 @@
-ghost use Rattle.std.specs.Prelude.{◌≡◌, ◌≤◌, ◌&&◌, length, slice_get, is_none, true, IfSome, None};
-ghost use Rattle.farm_kinds.specs.declared.outcomes.Mode.TheVariants.{Full};
+ghost use Rattle.std.specs.Prelude.{◌≡◌, ◌≤◌, ◌-◌, length, slice_get, true, IfSome, Option, Some, None};
+ghost use Rattle.farm_kinds.specs.declared.kinds.Kind.{Kind};
 ghost use Rattle.farm_kinds.specs.RuleValue.{RuleValue};
 ghost use Rattle.farm_model.specs.Leases.{lease_on};
-ghost use Rattle.farm_model.specs.Open.{is_free, open_tasks};
-ghost use Rattle.judging_core.specs.FirstOpen.{first_free, first_of, first_from, IsOpenIn, IsOpenTask};
-ghost use Rattle.judging_core.specs.JudgeShape.{judging_value, judging_values, AreShort};
+ghost use Rattle.farm_model.specs.Open.{is_wanted, open_tasks};
+ghost use Rattle.judging_core.specs.FirstOpen.{is_open, first_open_of, first_of, first_from, IsOpenIn, IsOpenTask};
+ghost use Rattle.judging_core.specs.JudgeShape.{judging_value, judging_values, IsShort, AreShort, AreRuledBy};
 
 use crate::judgings::KeptJudging;
-use farm_kinds::{Class, Kind, Task};
+use farm_kinds::{Class, Mode, Task};
+use lazy_stop::Row;
 use lease_book::LeaseBook;
 
-/// The least open task by class, judging and test.
-pub fn first_open(judgings: &[KeptJudging], leases: &LeaseBook) -> Option<Task>
+/// The least open task by class, judging and test: one on an empty cell, which lazily can change the
+/// verdict, with no lease.
+pub fn first_open(mode: Mode, judgings: &[KeptJudging], leases: &LeaseBook) -> Option<Task>
     requires few { length judgings.now ≤ 400000 }
     requires short { AreShort judgings.now }
-    ensures first { (rule : RuleValue) → result ≡ slice_get (open_tasks rule Full (judging_values judgings.now) leases.now.leases) 0 }
+    ensures first { (rule : RuleValue) → AreRuledBy rule judgings.now → result ≡ slice_get (open_tasks rule mode (judging_values judgings.now) leases.now.leases) 0 }
     ensures facts { IfSome result (IsOpenTask judgings.now leases.now.leases) }
 {
-    first_in_class(judgings, leases, Class::High)
-        .or_else(|| first_in_class(judgings, leases, Class::Normal))
-        .or_else(|| first_in_class(judgings, leases, Class::Low))
+    first_in_class(mode, judgings, leases, Class::High)
+        .or_else(|| first_in_class(mode, judgings, leases, Class::Normal))
+        .or_else(|| first_in_class(mode, judgings, leases, Class::Low))
 }
 
 /// The least open task of a class.
-fn first_in_class(judgings: &[KeptJudging], leases: &LeaseBook, class: Class) -> Option<Task>
+fn first_in_class(
+    mode: Mode,
+    judgings: &[KeptJudging],
+    leases: &LeaseBook,
+    class: Class,
+) -> Option<Task>
     requires few { length judgings.now ≤ 400000 }
     requires short { AreShort judgings.now }
-    ensures first { result ≡ first_from leases.now.leases class 1 (judging_values judgings.now) }
+    ensures first { (rule : RuleValue) → AreRuledBy rule judgings.now → result ≡ first_from rule mode leases.now.leases class 1 (judging_values judgings.now) }
     ensures facts { IfSome result (IsOpenTask judgings.now leases.now.leases) }
 {
     for (i, kept) in judgings.iter().enumerate() {
-        let first = first_of_class(kept, leases, class, i as u32 + 1);
+        let first = first_of_class(mode, kept, leases, class, i as u32 + 1);
         if first.is_some() {
             return first;
         }
@@ -40,46 +47,66 @@ fn first_in_class(judgings: &[KeptJudging], leases: &LeaseBook, class: Class) ->
 
 /// The first open task of a judging, if it is of the class.
 fn first_of_class(
+    mode: Mode,
     kept: &KeptJudging,
     leases: &LeaseBook,
     class: Class,
     judging: u32,
 ) -> Option<Task>
-    requires { length kept.now.row.items ≤ 1000 }
-    ensures first { result ≡ first_of leases.now.leases class judging (judging_value kept.now) }
+    requires { IsShort kept.now }
+    ensures first { result ≡ first_of kept.now.row.rule mode leases.now.leases class judging (judging_value kept.now) }
     ensures facts { IfSome result (IsOpenIn kept.now leases.now.leases judging) }
 {
     if kept.dropped || kept.class != class {
         return None;
     }
-    first_in_row(&kept.row, leases, judging)
+    first_in_row(mode, &kept.row, kept.handed.len() as u16, leases, judging)
 }
 
-/// The first open task of a row, by its test.
-fn first_in_row(row: &[Option<Kind>], leases: &LeaseBook, judging: u32) -> Option<Task>
-    requires { length row.now ≤ 1000 }
-    ensures first { result ≡ first_free leases.now.leases judging 1 row.now }
+/// The first open task of a row of this many tests.
+fn first_in_row(mode: Mode, row: &Row, tests: u16, leases: &LeaseBook, judging: u32) -> Option<Task>
+    requires short { tests ≤ 1000 }
+    requires all { length row.now.cells ≡ tests }
+    ensures first { result ≡ first_open_of (is_wanted row.now.rule mode row.now.cells) leases.now.leases judging 1 row.now.cells }
     ensures judging { IfSome result (λ task. task.judging ≡ judging) }
     ensures low { IfSome result (λ task. 1 ≤ task.test) }
-    ensures high { IfSome result (λ task. task.test ≤ length row.now) }
+    ensures high { IfSome result (λ task. task.test ≤ length row.now.cells) }
     ensures unheld { IfSome result (λ task. lease_on leases.now.leases task ≡ None) }
 {
-    for (i, cell) in row.iter().enumerate() {
+    for i in 0..tests {
         let task = Task {
             judging,
-            test: i as u16 + 1,
+            test: i + 1,
         };
-        if is_open(*cell, leases, task) {
+        if is_open(mode, row, leases, task) {
             return Some(task);
         }
     }
     None
 }
 
-/// Whether the cell is empty and no lease is held on its task.
-fn is_open(cell: Option<Kind>, leases: &LeaseBook, task: Task) -> bool
-    ensures open_ { result ≡ (is_none cell && is_free leases.now.leases task) }
+/// Whether the cell of the task is empty and wanted, and no lease is held on the task.
+fn is_open(mode: Mode, row: &Row, leases: &LeaseBook, task: Task) -> bool
+    requires low { 1 ≤ task.test }
+    requires high { task.test ≤ length row.now.cells }
+    ensures open_ { (cell : Option Kind) → slice_get row.now.cells (task.test - 1) ≡ Some cell
+        → result ≡ is_open (is_wanted row.now.rule mode row.now.cells) leases.now.leases task cell }
     ensures unheld { result ≡ true → lease_on leases.now.leases task ≡ None }
 {
-    cell.is_none() && leases.find(task).is_none()
+    if row.cell(task.test).is_some() || !is_wanted(mode, row, task.test) {
+        return false;
+    }
+    leases.find(task).is_none()
+}
+
+/// Whether this test, whose cell is empty, is to be judged: lazily only where it can change the verdict.
+fn is_wanted(mode: Mode, row: &Row, test: u16) -> bool
+    requires low { 1 ≤ test }
+    requires empty { slice_get row.now.cells (test - 1) ≡ Some None }
+    ensures { result ≡ is_wanted row.now.rule mode row.now.cells test }
+{
+    match mode {
+        Mode::Full => true,
+        Mode::Lazy => row.matters(test),
+    }
 }

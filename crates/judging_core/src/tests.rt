@@ -4,16 +4,26 @@ use crate::Judge;
 use farm_kinds::{Answer, Claim, Class, Count, Kind, Mode, NoMemory, Renewed, Rule, Task, Verdict};
 use std::test::Fail;
 
-/// A judge of the standard rule and of leases of a minute, with one judging and two hosts.
-fn judge_of(rt: &HostRuntime, tests: u16) -> Result<Judge, NoMemory>
+const FINAL_RUN_ERROR: Option<Answer> = Some(Answer::Final(Verdict::Tests(Kind::RunError)));
+
+/// A judge of leases of a minute, with one judging and two hosts.
+fn judge_by(rt: &HostRuntime, rule: Rule, mode: Mode, tests: u16) -> Result<Judge, NoMemory>
     requires { tests ≤ 1000 }
     ensures { IfOk result (λ judge. judge.hosts ≡ 2) }
 {
-    let mut judge = Judge::new(rt.alloc(), Rule::standard(), Mode::Full, 60);
+    let mut judge = Judge::new(rt.alloc(), rule, mode, 60);
     judge.add_judging(Class::Normal, tests)?;
     judge.add_host()?;
     judge.add_host()?;
     Ok(judge)
+}
+
+/// The same by the standard rule.
+fn judge_of(rt: &HostRuntime, mode: Mode, tests: u16) -> Result<Judge, NoMemory>
+    requires { tests ≤ 1000 }
+    ensures { IfOk result (λ judge. judge.hosts ≡ 2) }
+{
+    judge_by(rt, Rule::standard(), mode, tests)
 }
 
 /// What a host is answered that is given a test of the first judging until that moment.
@@ -26,48 +36,142 @@ fn handed(test: u16, until: u64) -> Claim {
 
 #[test]
 fn final_once_every_cell_is_filled(rt: HostRuntime) -> Result<(), Fail> {
-    let mut judge = judge_of(&rt, 2)?;
+    for mode in [Mode::Lazy, Mode::Full] {
+        let mut judge = judge_of(&rt, mode, 2)?;
+        assert_eq!(rt; judge.enter(1, 2, Kind::RunError), Count::Counted);
+        assert_eq!(rt; judge.answer(1), Some(Answer::Pending));
+        assert_eq!(rt; judge.enter(1, 1, Kind::Correct), Count::Counted);
+        assert_eq!(rt; judge.answer(1), FINAL_RUN_ERROR);
+        assert_eq!(rt; (judge.judgings(), judge.answer(2)), (1, None));
+    }
+    Ok(())
+}
+
+#[test]
+fn only_full_judging_goes_on_once_the_verdict_is_known(rt: HostRuntime) -> Result<(), Fail> {
+    let mut lazy = judge_of(&rt, Mode::Lazy, 2)?;
+    assert_eq!(rt; lazy.enter(1, 1, Kind::RunError), Count::Counted);
+    assert_eq!(rt; lazy.answer(1), FINAL_RUN_ERROR);
+    assert_eq!(rt; lazy.claim(1), Claim::Nothing);
+    let mut full = judge_of(&rt, Mode::Full, 2)?;
+    assert_eq!(rt; full.enter(1, 1, Kind::RunError), Count::Counted);
+    assert_eq!(rt; full.answer(1), Some(Answer::Pending));
+    assert_eq!(rt; full.claim(1), handed(2, 60));
+    assert_eq!(rt; full.result(1, 2, Kind::Correct), Count::Counted);
+    assert_eq!(rt; full.answer(1), FINAL_RUN_ERROR);
+    Ok(())
+}
+
+#[test]
+fn a_tie_waits_for_an_earlier_rank(rt: HostRuntime) -> Result<(), Fail> {
+    let mut judge = judge_of(&rt, Mode::Lazy, 3)?;
     assert_eq!(rt; judge.enter(1, 2, Kind::RunError), Count::Counted);
     assert_eq!(rt; judge.answer(1), Some(Answer::Pending));
-    assert_eq!(rt; judge.enter(1, 1, Kind::Correct), Count::Counted);
-    assert_eq!(rt;
-        judge.answer(1),
-        Some(Answer::Final(Verdict::Tests(Kind::RunError)))
-    );
-    assert_eq!(rt; (judge.judgings(), judge.answer(2)), (1, None));
+    assert_eq!(rt; judge.claim(1), handed(1, 60));
+    assert_eq!(rt; judge.claim(2), Claim::Nothing);
+    assert_eq!(rt; judge.result(1, 1, Kind::Correct), Count::Counted);
+    assert_eq!(rt; judge.answer(1), FINAL_RUN_ERROR);
+    assert_eq!(rt; judge.claim(1), Claim::Nothing);
+    // a result that comes all the same is kept, and the verdict stays
+    assert_eq!(rt; judge.enter(1, 3, Kind::TimeLimit), Count::Counted);
+    assert_eq!(rt; judge.answer(1), FINAL_RUN_ERROR);
+    Ok(())
+}
+
+#[test]
+fn a_middle_priority_does_not_stop(rt: HostRuntime) -> Result<(), Fail> {
+    let mut judge = judge_of(&rt, Mode::Lazy, 2)?;
+    assert_eq!(rt; judge.enter(1, 1, Kind::WrongAnswer), Count::Counted);
+    assert_eq!(rt; judge.answer(1), Some(Answer::Pending));
+    assert_eq!(rt; judge.claim(1), handed(2, 60));
+    Ok(())
+}
+
+#[test]
+fn a_unique_greatest_priority_stops(rt: HostRuntime) -> Result<(), Fail> {
+    let Ok(rule) = Rule::new([1, 30, 100, 99, 10, 99, 99, 99], Kind::ALL) else {
+        panic!(rt; "no rule");
+    };
+    let mut judge = judge_by(&rt, rule, Mode::Lazy, 3)?;
+    assert_eq!(rt; judge.enter(1, 3, Kind::RunError), Count::Counted);
+    assert_eq!(rt; judge.answer(1), FINAL_RUN_ERROR);
+    assert_eq!(rt; judge.claim(1), Claim::Nothing);
+    Ok(())
+}
+
+#[test]
+fn one_possible_kind_needs_no_test(rt: HostRuntime) -> Result<(), Fail> {
+    let Ok(rule) = Rule::new([1, 30, 99, 99, 10, 99, 99, 99], [Kind::RunError; 8]) else {
+        panic!(rt; "no rule");
+    };
+    let mut judge = judge_by(&rt, rule, Mode::Lazy, 2)?;
+    assert_eq!(rt; judge.answer(1), FINAL_RUN_ERROR);
+    assert_eq!(rt; judge.claim(1), Claim::Nothing);
+    Ok(())
+}
+
+#[test]
+fn with_equal_priorities_the_first_test_decides(rt: HostRuntime) -> Result<(), Fail> {
+    let Ok(rule) = Rule::new([7; 8], Kind::ALL) else {
+        panic!(rt; "no rule");
+    };
+    let mut judge = judge_by(&rt, rule, Mode::Lazy, 3)?;
+    assert_eq!(rt; judge.enter(1, 2, Kind::Correct), Count::Counted);
+    assert_eq!(rt; judge.answer(1), Some(Answer::Pending));
+    assert_eq!(rt; judge.claim(1), handed(1, 60));
+    assert_eq!(rt; judge.claim(2), Claim::Nothing);
+    assert_eq!(rt; judge.result(1, 1, Kind::RunError), Count::Counted);
+    assert_eq!(rt; judge.answer(1), FINAL_RUN_ERROR);
+    Ok(())
+}
+
+#[test]
+fn broken_submission_is_final_at_once(rt: HostRuntime) -> Result<(), Fail> {
+    for mode in [Mode::Lazy, Mode::Full] {
+        let mut judge = judge_of(&rt, mode, 0)?;
+        assert_eq!(rt;
+            judge.answer(1),
+            Some(Answer::Final(Verdict::CompilerError))
+        );
+        assert_eq!(rt; judge.claim(1), Claim::Nothing);
+    }
     Ok(())
 }
 
 #[test]
 fn late_result_counts(rt: HostRuntime) -> Result<(), Fail> {
-    let mut judge = judge_of(&rt, 2)?;
-    assert_eq!(rt; judge.claim(1), handed(1, 60));
-    assert_eq!(rt; judge.tick(60), 1);
-    assert_eq!(rt; judge.renew(1, 1, 1), Renewed::NoLease);
-    assert_eq!(rt; judge.result(1, 1, Kind::Correct), Count::Counted);
-    assert_eq!(rt; judge.claim(2), handed(2, 120));
+    for mode in [Mode::Lazy, Mode::Full] {
+        let mut judge = judge_of(&rt, mode, 2)?;
+        assert_eq!(rt; judge.claim(1), handed(1, 60));
+        assert_eq!(rt; judge.tick(60), 1);
+        assert_eq!(rt; judge.renew(1, 1, 1), Renewed::NoLease);
+        assert_eq!(rt; judge.result(1, 1, Kind::Correct), Count::Counted);
+        assert_eq!(rt; judge.claim(2), handed(2, 120));
+    }
     Ok(())
 }
 
 #[test]
 fn first_result_stays(rt: HostRuntime) -> Result<(), Fail> {
-    let mut judge = judge_of(&rt, 2)?;
-    assert_eq!(rt; judge.result(1, 1, Kind::Correct), Count::NotHanded);
-    assert_eq!(rt; judge.claim(1), handed(1, 60));
-    assert_eq!(rt; judge.result(1, 1, Kind::Correct), Count::Counted);
-    let kept = Kind::Correct;
-    assert_eq!(rt; judge.result(1, 1, kept), Count::Repeat { kept });
-    let given = Kind::RunError;
-    assert_eq!(rt; judge.result(1, 1, given), Count::Differs { kept, given });
-    assert_eq!(rt; judge.enter(1, 1, given), Count::Differs { kept, given });
-    assert_eq!(rt; judge.enter(1, 3, given), Count::NoTest);
-    assert_eq!(rt; judge.result(2, 1, given), Count::NoJudging);
+    for mode in [Mode::Lazy, Mode::Full] {
+        let mut judge = judge_of(&rt, mode, 2)?;
+        assert_eq!(rt; judge.result(1, 1, Kind::Correct), Count::NotHanded);
+        assert_eq!(rt; judge.claim(1), handed(1, 60));
+        assert_eq!(rt; judge.result(1, 1, Kind::Correct), Count::Counted);
+        let kept = Kind::Correct;
+        assert_eq!(rt; judge.result(1, 1, kept), Count::Repeat { kept });
+        let given = Kind::RunError;
+        assert_eq!(rt; judge.result(1, 1, given), Count::Differs { kept, given });
+        assert_eq!(rt; judge.enter(1, 1, given), Count::Differs { kept, given });
+        assert_eq!(rt; judge.enter(1, 3, given), Count::NoTest);
+        assert_eq!(rt; judge.result(2, 1, given), Count::NoJudging);
+    }
     Ok(())
 }
 
 #[test]
 fn one_before_the_end(rt: HostRuntime) -> Result<(), Fail> {
-    let mut judge = judge_of(&rt, 3)?;
+    let mut judge = judge_of(&rt, Mode::Lazy, 3)?;
     assert_eq!(rt; judge.claim(1), handed(1, 60));
     assert_eq!(rt; judge.tick(59), 0);
     assert_eq!(rt; judge.claim(2), handed(2, 119));
@@ -82,7 +186,7 @@ fn one_before_the_end(rt: HostRuntime) -> Result<(), Fail> {
 
 #[test]
 fn host_dies_and_returns(rt: HostRuntime) -> Result<(), Fail> {
-    let mut judge = judge_of(&rt, 2)?;
+    let mut judge = judge_of(&rt, Mode::Lazy, 2)?;
     assert_eq!(rt; judge.claim(1), handed(1, 60));
     assert_eq!(rt; (judge.down(2), judge.down(1), judge.down(1)), (0, 1, 0));
     assert_eq!(rt; judge.claim(2), handed(1, 60));
@@ -96,7 +200,7 @@ fn host_dies_and_returns(rt: HostRuntime) -> Result<(), Fail> {
 
 #[test]
 fn holds_at_most_64(rt: HostRuntime) -> Result<(), Fail> {
-    let mut judge = judge_of(&rt, 66)?;
+    let mut judge = judge_of(&rt, Mode::Lazy, 66)?;
     for test in 1..=64 {
         assert_eq!(rt; judge.claim(1), handed(test, 60));
     }
@@ -110,7 +214,7 @@ fn holds_at_most_64(rt: HostRuntime) -> Result<(), Fail> {
 
 #[test]
 fn time_stops_at_its_last_moment(rt: HostRuntime) -> Result<(), Fail> {
-    let mut judge = judge_of(&rt, 2)?;
+    let mut judge = judge_of(&rt, Mode::Lazy, 2)?;
     let until = 1_000_000_000_000_000_059;
     assert_eq!(rt; judge.claim(1), handed(1, 60));
     assert_eq!(rt; judge.tick(1_000_000_000_000_000_000), 1);

@@ -3,7 +3,7 @@ use Rattle.std.specs.List.{All}
 use Rattle.std.proofs.lemmas.List.{length_push, length-map}
 use Rattle.std.proofs.lemmas.List.Elements.{All-push}
 use Rattle.judging_core.specs.JudgeValue.{JudgeValue}
-use Rattle.judging_core.specs.JudgeShape.{judging_value, IsShort, AreShort}
+use Rattle.judging_core.specs.JudgeShape.{judging_value, IsShort, AreShort, IsRuledBy, AreRuledBy}
 use Rattle.judging_core.proofs.judge.Judge.add_judging.Goals as goal
 
 -- whether or not the item was pushed
@@ -20,6 +20,7 @@ invariant_of-self-2 c =
     let at = c.self.inside.judgings.items in
     let judging = c.in_ok-judging.judging in
     let rows : AreShort c.push.new.self.items = rw c.push.ensures.items (all_with IsShort (is_ok c.push.result) at judging c.self.invariant.rows c.in_ok-judging.ensures.short) in
+    let ruled : AreRuledBy c.self.inside.rule c.push.new.self.items = rw c.push.ensures.items (all_with (IsRuledBy c.self.inside.rule) (is_ok c.push.result) at judging c.self.invariant.ruled c.in_ok-judging.ensures.ruled) in
     let room : length at < 400000 = omega (arith, length-map at judging_value, ap (λ (v : JudgeValue). length v.state.judgings) c.self.view_is, c.requires.few) in
     let few : length c.push.new.self.items ≤ 400000 = rw c.push.ensures.items (one_more 400000 (is_ok c.push.result) at judging room) in
     search rules
