@@ -1,5 +1,5 @@
 -- What the values of `farm.json` say.
-use Rattle.std.specs.Prelude.{ℕ, ◌&&◌, List, [], ◌∷◌, codes, map, Option, Some, None, Bool, true, false, nat_le, if◌then◌else◌, option_and_then, unwrap_or}
+use Rattle.std.specs.Prelude.{ℕ, ◌&&◌, List, map, Option, Some, None, Bool, true, false, nat_le, if◌then◌else◌, option_and_then, unwrap_or}
 use Rattle.serde_json.specs.Data.{Data, null}
 use Rattle.serde_json.specs.Find.{get, as_bool, as_number, as_str, as_u64}
 use Rattle.farm_kinds.specs.declared.kinds.Kind.{Kind}
