@@ -7,7 +7,9 @@ use Rattle.farm_cli.specs.declared.exit.Exit.TheVariants as exit
 abbrev pub status_of : Exit → ℕ
 status_of exit.Done = 0
 status_of exit.Usage = 2
+status_of exit.BadContest = 3
 status_of exit.ReadFault = 4
 status_of exit.WriteFault = 5
 status_of exit.Memory = 6
+status_of exit.TreeFault = 7
 status_of exit.InputLimit = 9

@@ -8,12 +8,16 @@ pub enum Exit {
     Done,
     /// The words are not a command line.
     Usage,
+    /// The settings' file gives no settings; one line says why.
+    BadContest,
     /// The input failed.
     ReadFault,
     /// The output failed.
     WriteFault,
     /// No memory was left.
     Memory,
+    /// The tree of files failed.
+    TreeFault,
     /// As many bytes were taken from the input as are taken at most, 2^40, and its end was not among them.
     InputLimit,
 }
@@ -26,9 +30,11 @@ impl Exit {
         match self {
             Exit::Done => 0,
             Exit::Usage => 2,
+            Exit::BadContest => 3,
             Exit::ReadFault => 4,
             Exit::WriteFault => 5,
             Exit::Memory => 6,
+            Exit::TreeFault => 7,
             Exit::InputLimit => 9,
         }
     }

@@ -1,6 +1,7 @@
 //! The commands of the farm.
 #![tactic(auto)]
 
+mod config;
 mod exit;
 #[cfg(test)]
 mod tests;
