@@ -3,6 +3,7 @@ ghost use Rattle.serde_json.specs.View.{view};
 ghost use Rattle.farm_model.specs.State.{standard_settings};
 ghost use Rattle.farm_settings.specs.Values.{settings_in};
 
+use crate::keys::Setting;
 use crate::values::{flag_at, mode_of, number_at, rule_in};
 use farm_kinds::{Mode, NoMemory, Rule};
 use serde_json::Value;
@@ -49,18 +50,14 @@ impl Settings {
     pub(crate) fn of_object(object: &Value) -> Settings
         ensures { result ≡ settings_in (view object.now) }
     {
+        let lazy = flag_at(object, Setting::LazyEvalResults.key(), true);
+        let ips = Setting::InstructionsPerSecond.key();
         Settings {
             rule: rule_in(object),
-            mode: mode_of(flag_at(object, "lazy_eval_results", true)),
-            lease: number_at(object, "lease", 1, 1_000_000, 60),
-            verification: flag_at(object, "verification_required", false),
-            ips: number_at(
-                object,
-                "instructions_per_second",
-                1000,
-                100_000_000,
-                10_000_000,
-            ) as u32,
+            mode: mode_of(lazy),
+            lease: number_at(object, Setting::Lease.key(), 1, 1_000_000, 60),
+            verification: flag_at(object, Setting::VerificationRequired.key(), false),
+            ips: number_at(object, ips, 1000, 100_000_000, 10_000_000) as u32,
         }
     }
 

@@ -8,6 +8,7 @@ ghost use Rattle.farm_settings.specs.Values.{whole, kind_of, said_at, value_at, 
 ghost use Rattle.farm_settings.specs.declared.keys.Setting.TheVariants.{ResultsPrio, ResultsRemap};
 ghost use Rattle.farm_settings.specs.Keys.{key_of};
 
+use crate::keys::Setting;
 use farm_kinds::{Kind, Mode, Rule};
 use serde_json::Value;
 
@@ -96,7 +97,7 @@ fn prio_in(object: &Value, kind: Kind) -> u16
     ensures small { result ≤ 999 }
 {
     let default = Rule::standard().prio(kind);
-    match object.get("results_prio") {
+    match object.get(Setting::ResultsPrio.key()) {
         Some(prios) => number_at(prios, kind.name(), 0, 999, u64::from(default)) as u16,
         None => default,
     }
@@ -122,7 +123,7 @@ fn remaps_in(object: &Value) -> [Kind; 8]
 fn remap_in(object: &Value, kind: Kind) -> Kind
     ensures { result ≡ said_at kind_of kind (name_of kind) (value_at (key_of ResultsRemap) (view object.now)) }
 {
-    match object.get("results_remap") {
+    match object.get(Setting::ResultsRemap.key()) {
         Some(remaps) => kind_at(remaps, kind),
         None => kind,
     }
