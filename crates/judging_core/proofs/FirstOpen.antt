@@ -1,5 +1,5 @@
 -- The first open task, found cell by cell and judging by judging.
-use Rattle.std.proofs.Common.{ℕ, zero, suc, ◌≡◌, ◌+◌, ◌-◌, ◌<◌, ◌≤◌, List, [], ◌∷◌, ◌++◌, Option, Some, None, Bool, true, false, cond, ◌&&◌, refl, sym, ap, ◌∙◌, arith, length, get_or, drop, slice_get, map, IfSome, IsSome}
+use Rattle.std.proofs.Common.{ℕ, zero, suc, ◌≡◌, ◌≢◌, ◌+◌, ◌-◌, ◌<◌, ◌≤◌, List, [], ◌∷◌, ◌++◌, Option, Some, None, Bool, true, false, cond, ◌&&◌, refl, sym, ap, ◌∙◌, arith, length, get_or, drop, slice_get, map, IfSome, IsSome}
 use Rattle.std.specs.Prelude.{not, nat_lt, slice_index_or}
 use Rattle.std.specs.Option.{is_none, option_or}
 use Rattle.std.specs.List.{filter, flat_map, range_with_len, enumerate_from}
@@ -9,15 +9,19 @@ use Rattle.std.proofs.lemmas.Option.{slice_get-get_or}
 use Rattle.farm_kinds.specs.declared.kinds.Kind.{Kind}
 use Rattle.farm_kinds.specs.declared.outcomes.Class.{Class}
 use Rattle.farm_kinds.specs.declared.outcomes.Class.TheVariants.{High, Normal, Low}
+use Rattle.farm_kinds.specs.declared.outcomes.Answer.TheVariants.{Pending}
 use Rattle.farm_kinds.specs.declared.outcomes.Mode.{Mode}
+use Rattle.farm_kinds.specs.declared.outcomes.Mode.TheVariants.{Lazy, Full}
 use Rattle.farm_kinds.specs.declared.outcomes.Task.{Task}
 use Rattle.farm_kinds.specs.RuleValue.{RuleValue}
 use Rattle.farm_model.specs.declared.records.Lease.{Lease}
 use Rattle.std.proofs.lemmas.List.{get_or-map, length-map}
 use Rattle.farm_model.specs.Numbered.{item_of}
-use Rattle.farm_model.specs.Rows.{Row}
+use Rattle.farm_model.specs.Rows.{Row, answer_of, matters}
 use Rattle.farm_model.specs.Judgings.{Judging, task_of, cell_of}
 use Rattle.farm_model.specs.Open.{same_class, is_free, is_empty_cell, is_wanted, open_in, open_in_class, open_tasks}
+use Rattle.lazy_stop.proofs.Answering.{pending_when_matters, pending_when_open}
+use Rattle.lazy_stop.proofs.Computing.{matters_computed}
 use Rattle.judging_core.specs.JudgeShape.{judging_value, judging_values}
 use Rattle.judging_core.specs.FirstOpen.{is_open, first_open_of, first_from, IsOpenIn, IsOpenTask}
 use Rattle.judging_core.specs.declared.judgings.KeptJudging.{KeptJudging}
@@ -104,6 +108,33 @@ open_step wanted leases j i row answer lt h =
     ap (first_open_of wanted leases j (i + 1)) (drop-cons row i None lt ∙ ap (λ n. get_or row i None ∷ drop n row) next)
     ∙ ap (λ b. cond b (Some (task_of j (i + 1))) (first_open_of wanted leases j (i + 1 + 1) (drop (i + 1) row)))
     (sym (h (get_or row i None) (ap (λ n. slice_get row n) place ∙ slice_get-get_or row i None lt)))
+
+-- no test is wanted whose cell is empty
+none_open : (wanted : ℕ → Bool) (leases : List Lease) (j a : ℕ) (cells : Row)
+    → ((i : ℕ) → slice_get cells i ≡ Some None → wanted (a + i) ≡ false) → first_open_of wanted leases j a cells ≡ None
+none_open wanted leases j a [] h = refl
+none_open wanted leases j a (Some k ∷ cells) h = none_open wanted leases j (a + 1) cells (λ i e. ap wanted (omega arith) ∙ h (suc i) e)
+none_open wanted leases j a (None ∷ cells) h =
+    let here : wanted a ≡ false = ap wanted (omega arith) ∙ h zero refl in
+    rw here (none_open wanted leases j (a + 1) cells (λ i e. ap wanted (omega arith) ∙ h (suc i) e))
+
+-- a cell that the mode wants keeps the answer pending
+unwanted : (rule : RuleValue) (mode : Mode) (row : Row) (i : ℕ) → 0 < length row → answer_of rule mode row ≢ Pending → slice_get row i ≡ Some None → is_wanted rule mode row (1 + i) ≡ false
+unwanted rule Full row i some over e = absurd (over (sym (pending_when_open rule row i some e)))
+unwanted rule Lazy row i some over e =
+    let place : 1 + i ≡ i + 1 = omega arith in
+    ap (matters rule row) place
+    ∙ elim (matters rule row (i + 1)) as (λ b. matters rule row (i + 1) ≡ b → b ≡ false) [
+      | true ↦ λ t. absurd (over (sym (pending_when_matters rule row i some ((matters_computed rule row i).0 t))))
+      | false ↦ λ t. refl
+    ] refl
+
+-- a judging that is final has no open task
+pub none_when_final : (rule : RuleValue) (mode : Mode) (leases : List Lease) (j : ℕ) (row : Row)
+    → answer_of rule mode row ≢ Pending → first_open_of (is_wanted rule mode row) leases j 1 row ≡ None
+none_when_final rule mode leases j [] over = refl
+none_when_final rule mode leases j (cell ∷ row) over =
+    none_open (is_wanted rule mode (cell ∷ row)) leases j 1 (cell ∷ row) (λ i e. unwanted rule mode (cell ∷ row) i (omega arith) over e)
 
 -- The facts of an open task
 

@@ -1,13 +1,15 @@
-ghost use Rattle.std.specs.Prelude.{◌≡◌, ◌≤◌, ◌-◌, length, slice_get, true, IfSome, Option, Some, None};
+ghost use Rattle.std.specs.Prelude.{◌≡◌, ◌≤◌, ◌-◌, length, slice_get, true, false, ◌↔◌, IfSome, Option, Some, None};
 ghost use Rattle.farm_kinds.specs.declared.kinds.Kind.{Kind};
+ghost use Rattle.farm_kinds.specs.declared.outcomes.Answer.TheVariants.{Pending};
 ghost use Rattle.farm_kinds.specs.RuleValue.{RuleValue};
 ghost use Rattle.farm_model.specs.Leases.{lease_on};
+ghost use Rattle.farm_model.specs.Rows.{answer_of};
 ghost use Rattle.farm_model.specs.Open.{is_wanted, open_tasks};
 ghost use Rattle.judging_core.specs.FirstOpen.{is_open, first_open_of, first_of, first_from, IsOpenIn, IsOpenTask};
 ghost use Rattle.judging_core.specs.JudgeShape.{judging_value, judging_values, IsShort, AreShort, AreRuledBy};
 
-use crate::judgings::KeptJudging;
-use farm_kinds::{Class, Mode, Task};
+use crate::judgings::{KeptJudging, answer_of};
+use farm_kinds::{Answer, Class, Mode, Task};
 use lazy_stop::Row;
 use lease_book::LeaseBook;
 
@@ -60,7 +62,35 @@ fn first_of_class(
     if kept.dropped || kept.class != class {
         return None;
     }
+    first_in_judging(mode, kept, leases, judging)
+}
+
+/// The first open task of a judging. One that is final has none, whatever its row.
+fn first_in_judging(
+    mode: Mode,
+    kept: &KeptJudging,
+    leases: &LeaseBook,
+    judging: u32,
+) -> Option<Task>
+    requires { IsShort kept.now }
+    ensures first { result ≡ first_open_of (is_wanted kept.now.row.rule mode kept.now.row.cells) leases.now.leases judging 1 kept.now.row.cells }
+    ensures facts { IfSome result (IsOpenIn kept.now leases.now.leases judging) }
+{
+    if is_final(mode, kept) {
+        return None;
+    }
     first_in_row(mode, &kept.row, kept.handed.len() as u16, leases, judging)
+}
+
+/// Whether the verdict of a judging is reported.
+fn is_final(mode: Mode, kept: &KeptJudging) -> bool
+    requires { IsShort kept.now }
+    ensures { result ≡ false ↔ (answer_of kept.now.row.rule mode kept.now.row.cells ≡ Pending) }
+{
+    match answer_of(kept, mode) {
+        Answer::Final(_) => true,
+        Answer::Pending => false,
+    }
 }
 
 /// The first open task of a row of this many tests.
