@@ -3,10 +3,11 @@
 
 use farm_cli::{Exit, farm_main};
 use farm_io::{ReadSource, WriteSink};
+use farm_tree::DiskTree;
 use std::process::ExitCode;
 use std::{env, io};
 
-const USAGE: &str = "usage: farm script < LINES
+const USAGE: &str = "usage: farm script [--config FILE] < LINES
 
 Reads event lines from standard input and writes a reply to each:
   problem NAME N                 a problem with N tests
@@ -21,8 +22,10 @@ Reads event lines from standard input and writes a reply to each:
   down HOST                      the host goes down
   show J                         what is reported of judging J
 Empty lines, and lines whose first word begins with #, have no reply.
+FILE holds settings in JSON: priorities, remapping, lazy evaluation, leases.
 
-Status: 0 done, 2 usage, 4 read fault, 5 write fault, 6 no memory, 9 input limit.
+Status: 0 done, 2 usage, 3 bad settings, 4 read fault, 5 write fault,
+6 no memory, 7 file fault, 9 input limit.
 ";
 
 fn main(rt: HostRuntime) -> ExitCode {
@@ -33,7 +36,7 @@ fn main(rt: HostRuntime) -> ExitCode {
     ExitCode::from(exit.status())
 }
 
-/// Runs the command of the program's words over standard input and output.
+/// Runs the command of the program's words over the files, standard input and output.
 fn run(rt: &HostRuntime) -> Exit {
     let alloc = rt.alloc();
     let mut words = Vec::new(alloc);
@@ -47,5 +50,6 @@ fn run(rt: &HostRuntime) -> Exit {
     }
     let mut input = ReadSource::new(rt.reader());
     let mut out = WriteSink::new(io::writer(rt));
-    farm_main(alloc, words.as_slice(), &mut input, &mut out)
+    let mut tree = DiskTree::new(rt, alloc);
+    farm_main(alloc, words.as_slice(), &mut tree, &mut input, &mut out)
 }

@@ -1,23 +1,19 @@
-use Rattle.std.proofs.Common.{rules, ◌≡◌, ◌≢◌, ◌≤◌, ◌↔◌, ◌⊎◌, ℕ, List, map, option_map, string_bytes, take, ◌+◌, ◌-◌, ◌*◌, ◌<◌, length, ◌/◌, ◌%◌, Bool, true, false, nat_eq, nat_lt, [], ◌∷◌, ◌++◌, slice_index_or, slice_set, bit_and, bit_or, Fits, w8, w32, w64, Bor, MutBor}
-use Rattle.std.specs.Io.KnownBytes.{Appends}
-use Rattle.farm_kinds.specs.declared.events.Event.{Event}
-use Rattle.farm_io.specs.Streams.{Rose}
-use Rattle.farm_model.specs.State.{SettingsValue}
-use Rattle.farm_laws.specs.Laws.{KeepsPromise}
-use Rattle.script_session.specs.Session.{AllAnswered, LinesAnswered, FrontAnswered, TookLimit, IsShort}
-use Rattle.farm_cli.specs.CommandLine.{IsCommand, config_of}
-use Rattle.farm_cli.specs.Config.{bad_contest_line}
-use Rattle.farm_cli.specs.Scripted.{IsLawful, begins, AllDone, LinesDone, FrontDone, BadTold, FrontTold}
+use Rattle.std.proofs.Common.{ℕ, ◌≡◌, List, Option, subst}
+use Rattle.std.specs.Prelude.{◌⊎◌}
+use Rattle.farm_laws.proofs.Reporting.{keeps_promise}
+use Rattle.farm_cli.specs.Scripted.{Streams, FrontDone, FrontTold}
 use Rattle.farm_cli.proofs.top.farm_main.Goals as goal
 
--- src/top.rt:72:9
 pub returns-then-not-is_script-clause-headline : goal.returns-then-not-is_script-clause-headline
-returns-then-not-is_script-clause-headline g c = ?
+returns-then-not-is_script-clause-headline g c = keeps_promise
 
--- src/top.rt:26:1
-pub returns-clause-front : goal.returns-clause-front
-returns-clause-front g c = ?
-
--- src/top.rt:26:1
 pub returns-clause-headline : goal.returns-clause-headline
-returns-clause-headline g c = ?
+returns-clause-headline g c = keeps_promise
+
+pub returns-clause-front : goal.returns-clause-front
+returns-clause-front g c told =
+    let files = g.T.Tree.files c.args.tree.now in
+    let old : Streams = record { left = g.S.Source.left c.args.input.now; held = g.K.Sink.held c.args.out.now } in
+    let new : Streams = record { left = g.S.Source.left c.script.new.input; held = g.K.Sink.held c.script.new.out } in
+    let IsFront : Option (List ℕ) → Type 0 = λ (config : Option (List ℕ)). FrontDone files config old new ⊎ FrontTold files config old.held new.held ⊎ (c.script.new.out ≡ c.args.out.now) in
+    subst IsFront c.config_of-config.ensures (c.script.ensures.front told)

@@ -1,15 +1,12 @@
-use Rattle.std.proofs.Common.{rules, ◌≡◌, ◌≢◌, ◌≤◌, ◌↔◌, ◌⊎◌, ℕ, List, map, option_map, string_bytes, take, ◌+◌, ◌-◌, ◌*◌, ◌<◌, length, ◌/◌, ◌%◌, Bool, true, false, nat_eq, nat_lt, [], ◌∷◌, ◌++◌, slice_index_or, slice_set, bit_and, bit_or, Fits, w8, w32, w64, Bor, MutBor}
-use Rattle.std.specs.Io.KnownBytes.{Appends}
-use Rattle.farm_kinds.specs.declared.events.Event.{Event}
-use Rattle.farm_io.specs.Streams.{Rose}
-use Rattle.farm_model.specs.State.{SettingsValue}
-use Rattle.farm_laws.specs.Laws.{KeepsPromise}
-use Rattle.script_session.specs.Session.{AllAnswered, LinesAnswered, FrontAnswered, TookLimit, IsShort}
-use Rattle.farm_cli.specs.CommandLine.{IsCommand, config_of}
-use Rattle.farm_cli.specs.Config.{bad_contest_line}
-use Rattle.farm_cli.specs.Scripted.{IsLawful, begins, AllDone, LinesDone, FrontDone, BadTold, FrontTold}
+use Rattle.std.proofs.Common.{ℕ, List, Option, Some, Err, ap, ◌∙◌, subst}
+use Rattle.std.specs.Option.{option_map}
+use Rattle.std.specs.Borrow.{Bor}
+use Rattle.farm_cli.specs.Scripted.{IsLawful}
+use Rattle.farm_cli.proofs.Lawful.{lawful_is_good}
 use Rattle.farm_cli.proofs.top.script.Goals as goal
 
--- src/top.rt:78:1
 pub returns-in-Err-Bad-clause-complete : goal.returns-in-Err-Bad-clause-complete
-returns-in-Err-Bad-clause-complete g c = ?
+returns-in-Err-Bad-clause-complete g c lawful short tree_well input_well out_well =
+    let files = g.T.Tree.files c.args.tree.now in
+    let named : IsLawful files (Some c.in-Some.path.now) = subst (λ (o : Option (Bor (List ℕ))). IsLawful files (option_map (λ path. path.now) o)) c.in-Some.is lawful in
+    absurd (lawful_is_good files c.in-Some.path.now c.in-Err-Bad.bad named (c.read_config.ensures.bad c.in-Err-Bad.bad (c.in-Err-Bad.is ∙ ap Err c.in-Err-Bad.field-0-is)))
