@@ -1,5 +1,7 @@
 use crate::{Exit, farm_main};
 use farm_io::{MemorySink, MemorySource, ReliableSink, ReliableSource};
+use farm_kinds::NoMemory;
+use farm_tree::{MemoryTree, ReliableTree};
 use std::alloc::{AllocError, Global};
 use std::test::Fail;
 
@@ -16,11 +18,38 @@ fn words(alloc: Global, given: &[&str]) -> Result<Vec<String>, AllocError> {
 
 /// What `farm script` writes for the input, where nothing fails, and how it ends.
 fn script(alloc: Global, input: &[u8]) -> Result<(Exit, ReliableSink), AllocError> {
+    run(
+        alloc,
+        &["farm", "script"],
+        &mut ReliableTree::new(alloc),
+        input,
+    )
+}
+
+/// What the words write for the input, and how they end.
+fn run(
+    alloc: Global,
+    words_given: &[&str],
+    tree: &mut ReliableTree,
+    input: &[u8],
+) -> Result<(Exit, ReliableSink), AllocError> {
     let mut source = ReliableSource::new(input.to_vec(alloc)?);
     let mut sink = ReliableSink::new(Vec::with_capacity(alloc, ROOM)?);
-    let words = words(alloc, &["farm", "script"])?;
-    let exit = farm_main(alloc, words.as_slice(), &mut source, &mut sink);
+    let words = words(alloc, words_given)?;
+    let exit = farm_main(alloc, words.as_slice(), tree, &mut source, &mut sink);
     Ok((exit, sink))
+}
+
+/// What `farm script` writes by the settings of a file, and how it ends.
+fn configured(
+    alloc: Global,
+    settings: &[u8],
+    input: &[u8],
+) -> Result<(Exit, ReliableSink), NoMemory> {
+    let mut tree = ReliableTree::new(alloc);
+    tree.add("farm.json", settings)?;
+    let words = ["farm", "script", "--config", "farm.json"];
+    Ok(run(alloc, &words, &mut tree, input)?)
 }
 
 const SMALLEST: &[u8] =
@@ -281,7 +310,8 @@ fn a_source_that_fails_in_mid_line(rt: HostRuntime) -> Result<(), Fail> {
     let mut source = MemorySource::new(b"problem A 2\nsub".to_vec(alloc)?, failing);
     let mut sink = ReliableSink::new(Vec::with_capacity(alloc, ROOM)?);
     let words = words(alloc, &["farm", "script"])?;
-    let exit = farm_main(alloc, words.as_slice(), &mut source, &mut sink);
+    let mut tree = ReliableTree::new(alloc);
+    let exit = farm_main(alloc, words.as_slice(), &mut tree, &mut source, &mut sink);
     assert_eq!(rt; exit, Exit::ReadFault);
     assert_eq!(rt; exit.status(), 4);
     assert_eq!(rt; sink.bytes(), b"problem A version 1\n".as_slice());
@@ -296,7 +326,8 @@ fn a_sink_whose_first_put_fails(rt: HostRuntime) -> Result<(), Fail> {
     let mut source = ReliableSource::new(SMALLEST.to_vec(alloc)?);
     let mut sink = MemorySink::new(Vec::with_capacity(alloc, ROOM)?, failing);
     let words = words(alloc, &["farm", "script"])?;
-    let exit = farm_main(alloc, words.as_slice(), &mut source, &mut sink);
+    let mut tree = ReliableTree::new(alloc);
+    let exit = farm_main(alloc, words.as_slice(), &mut tree, &mut source, &mut sink);
     assert_eq!(rt; exit, Exit::WriteFault);
     assert_eq!(rt; exit.status(), 5);
     assert_eq!(rt; sink.bytes(), b"".as_slice());
@@ -306,20 +337,239 @@ fn a_sink_whose_first_put_fails(rt: HostRuntime) -> Result<(), Fail> {
 #[test]
 fn other_words_are_no_command(rt: HostRuntime) -> Result<(), Fail> {
     let alloc = rt.alloc();
-    let lines: [&[&str]; 5] = [
+    let lines: [&[&str]; 16] = [
         &[],
         &["farm"],
-        &["farm", "serve"],
-        &["farm", "script", "more"],
         &["script"],
+        &["farm", "serve"],
+        &["farm", "Script"],
+        &["farm", "script", "more"],
+        &["farm", "script", ""],
+        &["farm", "script", "--config"],
+        &["farm", "script", "--config="],
+        &["farm", "script", "--config=-f"],
+        &["farm", "script", "--config", ""],
+        &["farm", "script", "--config", "-"],
+        &["farm", "script", "--Config", "f"],
+        &["farm", "script", "--config", "f", "more"],
+        &["farm", "--config", "f", "script"],
+        &["farm", "script", "--config=f", "--config=f"],
     ];
     for line in lines {
-        let mut source = ReliableSource::new(SMALLEST.to_vec(alloc)?);
-        let mut sink = ReliableSink::new(Vec::with_capacity(alloc, ROOM)?);
-        let words = words(alloc, line)?;
-        let exit = farm_main(alloc, words.as_slice(), &mut source, &mut sink);
+        let mut tree = ReliableTree::new(alloc);
+        let (exit, out) = run(alloc, line, &mut tree, SMALLEST)?;
         assert_eq!(rt; exit, Exit::Usage, "at {line:?}");
-        assert_eq!(rt; sink.bytes(), b"".as_slice(), "at {line:?}");
+        assert_eq!(rt; out.bytes(), b"".as_slice(), "at {line:?}");
     }
+    Ok(())
+}
+
+#[test]
+fn a_tie_with_an_earlier_rank(rt: HostRuntime) -> Result<(), Fail> {
+    let (out, want) = contest(
+        rt.alloc(),
+        b"record 1 2 run-error\nshow 1\nrecord 1 1 correct\nshow 1\nclaim h1\n",
+        b"counted\npending\ncounted\nfinal run-error\nnothing\n",
+    )?;
+    assert_eq!(rt; out.bytes(), want.as_slice());
+    Ok(())
+}
+
+/// What the contest's lines and then these write by the settings of a file, and what is wanted.
+fn contest_by(
+    alloc: Global,
+    settings: &[u8],
+    lines: &[u8],
+    replies: &[u8],
+) -> Result<(ReliableSink, Vec<u8>), NoMemory> {
+    let input = joined(alloc, CONTEST, lines)?;
+    let want = joined(alloc, CONTEST_REPLIES, replies)?;
+    let (_, out) = configured(alloc, settings, input.as_slice())?;
+    Ok((out, want))
+}
+
+#[test]
+fn a_unique_greatest_priority(rt: HostRuntime) -> Result<(), Fail> {
+    let (out, want) = contest_by(
+        rt.alloc(),
+        b"{\"results_prio\":{\"timelimit\":100}}",
+        b"record 1 2 timelimit\nshow 1\nclaim h1\n",
+        b"counted\nfinal timelimit\nnothing\n",
+    )?;
+    assert_eq!(rt; out.bytes(), want.as_slice());
+    Ok(())
+}
+
+#[test]
+fn one_possible_kind(rt: HostRuntime) -> Result<(), Fail> {
+    let (out, want) = contest_by(
+        rt.alloc(),
+        b"{\"results_remap\":{\"wrong-answer\":\"correct\",\"run-error\":\"correct\",\"timelimit\":\"correct\",\"no-output\":\"correct\",\"output-limit\":\"correct\",\"memory-limit\":\"correct\",\"judging-error\":\"correct\"}}",
+        b"show 1\nclaim h1\nrecord 1 1 run-error\nrecord 1 1 timelimit\n",
+        b"final correct\nnothing\ncounted\nrepeat correct\n",
+    )?;
+    assert_eq!(rt; out.bytes(), want.as_slice());
+    Ok(())
+}
+
+const EQUAL: &[u8] =
+    b"{\"results_prio\":{\"correct\":5,\"wrong-answer\":5,\"run-error\":5,\"timelimit\":5,\"no-output\":5,\"output-limit\":5,\"memory-limit\":5,\"judging-error\":5}}";
+
+#[test]
+fn all_priorities_equal(rt: HostRuntime) -> Result<(), Fail> {
+    let (out, want) = contest_by(
+        rt.alloc(),
+        EQUAL,
+        b"record 1 1 no-output\nshow 1\n",
+        b"counted\nfinal no-output\n",
+    )?;
+    assert_eq!(rt; out.bytes(), want.as_slice());
+    let (out, want) = contest_by(
+        rt.alloc(),
+        EQUAL,
+        b"record 1 2 no-output\nshow 1\nclaim h1\nclaim h1\n",
+        b"counted\npending\ntask 1 1 until 60\nnothing\n",
+    )?;
+    assert_eq!(rt; out.bytes(), want.as_slice());
+    Ok(())
+}
+
+#[test]
+fn classes_and_full_judging(rt: HostRuntime) -> Result<(), Fail> {
+    let full = b"{\"lazy_eval_results\":false}".as_slice();
+    let (_, out) = configured(
+        rt.alloc(),
+        full,
+        b"problem A 1\nhost h1\nsubmit A low\nsubmit A\nsubmit A high\nclaim h1\nclaim h1\nclaim h1\nclaim h1\n",
+    )?;
+    assert_eq!(rt;
+        out.bytes(),
+        b"problem A version 1\nhost h1\nsubmission 1 judging 1\nsubmission 2 judging 2\nsubmission 3 judging 3\ntask 3 1 until 60\ntask 2 1 until 60\ntask 1 1 until 60\nnothing\n".as_slice()
+    );
+    let (_, out) = configured(
+        rt.alloc(),
+        full,
+        b"problem A 2\nsubmit A\nrecord 1 1 run-error\nshow 1\nrecord 1 2 correct\nshow 1\n",
+    )?;
+    assert_eq!(rt;
+        out.bytes(),
+        b"problem A version 1\nsubmission 1 judging 1\ncounted\npending\ncounted\nfinal run-error\n".as_slice()
+    );
+    Ok(())
+}
+
+#[test]
+fn a_middle_priority_does_not_stop_full_judging(rt: HostRuntime) -> Result<(), Fail> {
+    let (out, want) = contest_by(
+        rt.alloc(),
+        b"{\"lazy_eval_results\":false,\"lease\":1}",
+        b"record 1 1 correct\nrecord 1 2 wrong-answer\nshow 1\nclaim h1\nrecord 1 3 correct\nshow 1\n",
+        b"counted\ncounted\npending\ntask 1 3 until 1\ncounted\nfinal wrong-answer\n",
+    )?;
+    assert_eq!(rt; out.bytes(), want.as_slice());
+    Ok(())
+}
+
+/// Each fault of a settings' file, and the line that tells it.
+const BAD_SETTINGS: [(&[u8], &[u8]); 12] = [
+    (b"", b"not json"),
+    (b"[]", b"not json"),
+    (b"\xef\xbb\xbf{}", b"not json"),
+    (b"{\"lease\":60", b"not json"),
+    (b"{\"leases\":60}", b"unknown key leases"),
+    (b"{\"a\\tb\x7f\":60}", b"unknown key a?b?"),
+    (b"{\"results_prio\":{\"fine\":1}}", b"unknown key fine"),
+    (b"{\"lease\":0}", b"bad value lease"),
+    (b"{\"lease\":60,\"lease\":null}", b"bad value lease"),
+    (b"{\"lazy_eval_results\":1}", b"bad value lazy_eval_results"),
+    (
+        b"{\"results_prio\":{\"correct\":1000}}",
+        b"bad value correct",
+    ),
+    (
+        b"{\"results_remap\":{\"correct\":\"fine\"}}",
+        b"bad value correct",
+    ),
+];
+
+#[test]
+fn bad_settings_are_named(rt: HostRuntime) -> Result<(), Fail> {
+    let alloc = rt.alloc();
+    for (settings, fault) in BAD_SETTINGS {
+        let (exit, out) = configured(alloc, settings, SMALLEST)?;
+        let mut want = b"bad contest: farm.json: ".to_vec(alloc)?;
+        want.extend_from_slice(fault)?;
+        want.push(b'\n')?;
+        assert_eq!(rt; exit, Exit::BadContest);
+        assert_eq!(rt; exit.status(), 3);
+        assert_eq!(rt; out.bytes(), want.as_slice());
+    }
+    Ok(())
+}
+
+#[test]
+fn the_last_of_two_settings_counts(rt: HostRuntime) -> Result<(), Fail> {
+    let (_, out) = configured(
+        rt.alloc(),
+        b"{\"lease\":0,\"lease\":7}",
+        b"problem A 1\nhost h\nsubmit A\nclaim h\n",
+    )?;
+    assert_eq!(rt;
+        out.bytes(),
+        b"problem A version 1\nhost h\nsubmission 1 judging 1\ntask 1 1 until 7\n".as_slice()
+    );
+    Ok(())
+}
+
+#[test]
+fn a_file_that_is_not_there_or_too_large(rt: HostRuntime) -> Result<(), Fail> {
+    let alloc = rt.alloc();
+    let words = ["farm", "script", "--config=a\nb.json"];
+    let (exit, out) = run(alloc, &words, &mut ReliableTree::new(alloc), SMALLEST)?;
+    assert_eq!(rt; exit, Exit::BadContest);
+    assert_eq!(rt; out.bytes(), b"bad contest: no config\n".as_slice());
+    let mut tree = ReliableTree::new(alloc);
+    let large = vec![in alloc; b' '; 16_777_217]?;
+    tree.add("a\nb.json", large.as_slice())?;
+    let (exit, out) = run(alloc, &words, &mut tree, SMALLEST)?;
+    assert_eq!(rt; exit, Exit::BadContest);
+    assert_eq!(rt;
+        out.bytes(),
+        b"bad contest: too large a?b.json\n".as_slice()
+    );
+    Ok(())
+}
+
+/// The first read of the tree fails.
+#[test]
+fn a_tree_that_fails(rt: HostRuntime) -> Result<(), Fail> {
+    let alloc = rt.alloc();
+    let mut failing = Vec::new(alloc);
+    failing.push(0)?;
+    let mut tree = MemoryTree::new(alloc, failing);
+    tree.add("farm.json", b"{}")?;
+    let mut source = ReliableSource::new(SMALLEST.to_vec(alloc)?);
+    let mut sink = ReliableSink::new(Vec::with_capacity(alloc, ROOM)?);
+    let words = words(alloc, &["farm", "script", "--config", "farm.json"])?;
+    let exit = farm_main(alloc, words.as_slice(), &mut tree, &mut source, &mut sink);
+    assert_eq!(rt; exit, Exit::TreeFault);
+    assert_eq!(rt; exit.status(), 7);
+    assert_eq!(rt; sink.bytes(), b"".as_slice());
+    Ok(())
+}
+
+/// The line of bad settings meets a sink that fails.
+#[test]
+fn bad_settings_and_a_sink_that_fails(rt: HostRuntime) -> Result<(), Fail> {
+    let alloc = rt.alloc();
+    let mut failing = Vec::new(alloc);
+    failing.push(0)?;
+    let mut tree = ReliableTree::new(alloc);
+    let mut source = ReliableSource::new(SMALLEST.to_vec(alloc)?);
+    let mut sink = MemorySink::new(Vec::with_capacity(alloc, ROOM)?, failing);
+    let words = words(alloc, &["farm", "script", "--config", "farm.json"])?;
+    let exit = farm_main(alloc, words.as_slice(), &mut tree, &mut source, &mut sink);
+    assert_eq!(rt; exit, Exit::WriteFault);
+    assert_eq!(rt; sink.bytes(), b"".as_slice());
     Ok(())
 }
