@@ -15,8 +15,8 @@ use Rattle.farm_kinds.specs.RuleValue.{RuleValue}
 use Rattle.farm_kinds.specs.Rules.{remap_of}
 use Rattle.farm_model.specs.declared.records.Lease.{Lease}
 use Rattle.farm_model.specs.Refusing.{when, unless, first_of, refused_or}
-use Rattle.farm_model.specs.Leases.{is_held_by, held_count, with_lease, without_task, without_host, renewed, ended_at, left_after}
-use Rattle.farm_model.specs.Judgings.{Judging, empty_judging, task_of, answer_in, is_judging, has_test, entry_refusal, result_refusal, with_result, with_handed}
+use Rattle.farm_model.specs.Leases.{is_held_by, held_count, with_lease, without_task, without_host, without_judging, renewed, ended_at, left_after}
+use Rattle.farm_model.specs.Judgings.{Judging, empty_judging, task_of, answer_in, is_judging, has_test, entry_refusal, result_refusal, with_result, with_handed, with_dropped}
 use Rattle.farm_model.specs.Open.{open_tasks}
 
 -- judgings are numbered from 1
@@ -119,3 +119,7 @@ judge_tick s moment = at_moment s (later_moment s.now moment)
 -- the host's leases go, and are counted
 abbrev pub judge_down : JudgeState → ℕ → JudgeState × ℕ
 judge_down s host = (record s { leases = without_host s.leases host }, held_count s.leases host)
+
+-- the judging is dropped, and the leases on its tasks go
+abbrev pub drop_judging : JudgeState → ℕ → JudgeState
+drop_judging s j = record s { judgings = with_dropped s.judgings j; leases = without_judging s.leases j }

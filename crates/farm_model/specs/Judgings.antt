@@ -91,3 +91,10 @@ mark_handed test judging = record judging { handed = slice_set judging.handed (t
 -- the task was handed out
 abbrev pub with_handed : List Judging → Task → List Judging
 with_handed judgings task = with_change judgings task.judging (mark_handed task.test)
+
+abbrev pub mark_dropped : Judging → Judging
+mark_dropped judging = record judging { dropped = true }
+
+-- the judging takes no more results; its cells stay
+abbrev pub with_dropped : List Judging → ℕ → List Judging
+with_dropped judgings j = with_change judgings j mark_dropped

@@ -34,6 +34,14 @@ without_task leases task = filter (λ lease. not (same_task lease.task task)) le
 abbrev pub without_host : List Lease → ℕ → List Lease
 without_host leases host = filter (λ lease. not (holds host lease)) leases
 
+-- the leases without those on the judging's tasks
+abbrev pub without_judging : List Lease → ℕ → List Lease
+without_judging leases judging = filter (λ lease. not (lease.task.judging == judging)) leases
+
+-- how many leases are held on the judging's tasks
+abbrev pub judging_count : List Lease → ℕ → ℕ
+judging_count leases judging = count_by (λ lease. lease.task.judging == judging) leases
+
 abbrev pub renew_in : List Lease → Task → ℕ → Option Lease → List Lease
 renew_in leases task until None = leases
 renew_in leases task until (Some lease) = with_lease (without_task leases task) lease.host task until

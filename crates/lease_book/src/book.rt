@@ -1,6 +1,6 @@
 ghost use Rattle.std.specs.Prelude.{◌≡◌, ◌+◌, ◌-◌, ◌<◌, ◌≤◌, ◌^◌, length, is_some, None, OnOk, OnErr, IfNone, OnSome, if◌then◌else◌, vec_len, vec_capacity, ◌==◌};
-ghost use Rattle.farm_model.specs.Leases.{lease_on, held_count, with_lease, without_task, without_host, renewed, first_due};
-ghost use Rattle.lease_book.specs.Book.{empty_book, room, IsSinglyLeased, without_lease, without_judging, judging_count, NoneEnds, OneEnds};
+ghost use Rattle.farm_model.specs.Leases.{lease_on, held_count, with_lease, without_task, without_host, without_judging, judging_count, renewed, first_due};
+ghost use Rattle.lease_book.specs.Book.{empty_book, room, IsSinglyLeased, without_lease, NoneEnds, OneEnds};
 
 use crate::lookup::{first_due, held_count, is_same_task, lease_on};
 use farm_kinds::{NoMemory, Task};
