@@ -1,14 +1,15 @@
 ghost use Rattle.std.specs.Prelude.{◌≡◌, ◌+◌, ◌≤◌, ◌<◌, length, IfOk, IfNone, OnErr};
 ghost use Rattle.farm_kinds.specs.Rules.{remap_of};
 ghost use Rattle.farm_model.specs.Leases.{left_after, ended_at, is_held_by};
-ghost use Rattle.farm_model.specs.Judge.{add_judging, answer_of_judging, judge_claim, judge_enter, judge_result, judge_renew, judge_tick, judge_down, renew_refusal};
+ghost use Rattle.farm_model.specs.Judge.{add_judging, answer_of_judging, judge_claim, judge_enter, judge_result, judge_renew, judge_tick, judge_down, drop_judging, renew_refusal};
 ghost use Rattle.lazy_stop.specs.Matters.{IsPossible};
 ghost use Rattle.lease_book.specs.Book.{room};
+ghost use Rattle.farm_model.specs.Judgings.{is_dropped};
 ghost use Rattle.judging_core.specs.JudgeValue.{first_judge, in_state};
 
 use crate::judgings::{
-    KeptJudging, answer_of, cell_at, empty_judging, entry_refusal, fill, judging_at, mark_handed,
-    result_refusal,
+    KeptJudging, answer_of, cell_at, empty_judging, entry_refusal, fill, judging_at, mark_dropped,
+    mark_handed, result_refusal,
 };
 use crate::open::first_open;
 use farm_kinds::{Answer, Claim, Class, Count, Kind, Mode, NoMemory, Renewed, Rule, Task};
@@ -216,6 +217,25 @@ impl Judge {
         ensures count { result ≡ (judge_down self.old.state host).1 }
     {
         self.leases.end_host(host)
+    }
+
+    /// Drops a judging: it takes no more results, and the leases on its tasks end. Its cells stay.
+    pub fn drop_judging(&mut self, judging: u32)
+        requires numbered { 1 ≤ judging }
+        requires known { judging ≤ length self.old.state.judgings }
+        ensures { self.new ≡ in_state self.old (drop_judging self.old.state judging) }
+    {
+        mark_dropped(&mut self.judgings, judging);
+        self.leases.end_judging(judging);
+    }
+
+    /// Whether a judging was dropped.
+    pub fn dropped(&self, judging: u32) -> bool
+        requires numbered { 1 ≤ judging }
+        requires known { judging ≤ length self.now.state.judgings }
+        ensures { result ≡ is_dropped self.now.state.judgings judging }
+    {
+        self.judgings[judging as usize - 1].dropped
     }
 
     /// What is reported of a judging: lazily final once no other result can change its verdict, in full

@@ -2,7 +2,7 @@ ghost use Rattle.std.specs.Prelude.{◌≡◌, ◌≤◌, ◌-◌, length, repli
 ghost use Rattle.farm_kinds.specs.RuleValue.{RuleValue};
 ghost use Rattle.farm_model.specs.Rows.{answer_of};
 ghost use Rattle.farm_model.specs.Numbered.{item_of};
-ghost use Rattle.farm_model.specs.Judgings.{kept_count, cell_of, entry_refusal, result_refusal, with_result, with_handed, empty_judging};
+ghost use Rattle.farm_model.specs.Judgings.{kept_count, cell_of, entry_refusal, result_refusal, with_result, with_handed, with_dropped, empty_judging};
 ghost use Rattle.lazy_stop.specs.Matters.{IsPossible};
 ghost use Rattle.judging_core.specs.Refusals.{cell_refusal, is_never_handed};
 ghost use Rattle.judging_core.specs.JudgeShape.{judging_value, judging_values, IsShort, AreShort, IsRuledBy, AreRuledBy, CanAllHold};
@@ -200,6 +200,19 @@ pub fn mark_handed(judgings: &mut Vec<KeptJudging>, task: Task)
 {
     let kept = &mut judgings[task.judging as usize - 1];
     kept.handed[task.test as usize - 1] = true;
+}
+
+/// Marks the judging as dropped: it takes no more results.
+pub fn mark_dropped(judgings: &mut Vec<KeptJudging>, judging: u32)
+    requires numbered { 1 ≤ judging }
+    requires known { judging ≤ length judgings.old.items }
+    ensures value { judging_values judgings.new.items ≡ with_dropped (judging_values judgings.old.items) judging }
+    ensures short { AreShort judgings.old.items → AreShort judgings.new.items }
+    ensures ruled { (rule : RuleValue) → AreRuledBy rule judgings.old.items → AreRuledBy rule judgings.new.items }
+    ensures count { length judgings.new.items ≡ length judgings.old.items }
+{
+    let kept = &mut judgings[judging as usize - 1];
+    kept.dropped = true;
 }
 
 /// What is reported of a judging. One of no tests is of a broken submission.

@@ -225,3 +225,30 @@ fn time_stops_at_its_last_moment(rt: HostRuntime) -> Result<(), Fail> {
     assert_eq!(rt; judge.claim(2), handed(2, until));
     Ok(())
 }
+
+/// A judging that is dropped takes no more results, keeps its cells, and holds no lease.
+#[test]
+fn dropped_judging(rt: HostRuntime) -> Result<(), Fail> {
+    let mut judge = judge_of(&rt, Mode::Lazy, 2)?;
+    assert_eq!(rt; judge.claim(1), handed(1, 60));
+    assert_eq!(rt; judge.claim(2), handed(2, 60));
+    assert_eq!(rt; judge.result(1, 2, Kind::Correct), Count::Counted);
+    if judge.judgings() == 0 {
+        return Ok(());
+    }
+    assert!(rt; !judge.dropped(1));
+    judge.drop_judging(1);
+    assert!(rt; judge.dropped(1));
+    assert_eq!(rt; judge.result(1, 1, Kind::Correct), Count::Dropped);
+    assert_eq!(rt; judge.enter(1, 1, Kind::Correct), Count::Dropped);
+    assert_eq!(rt;
+        judge.enter(1, 2, Kind::Correct),
+        Count::Repeat {
+            kept: Kind::Correct
+        }
+    );
+    assert_eq!(rt; judge.claim(1), Claim::Nothing);
+    assert_eq!(rt; judge.tick(60), 0);
+    assert_eq!(rt; judge.answer(1), Some(Answer::Pending));
+    Ok(())
+}
