@@ -1,13 +1,14 @@
 """Scripts of a contest with hosts, with the replies that an independent model gives to them.
 
-Hosts claim tasks, answer, renew their leases, let them end, die and come back, while submissions come in.
+Hosts claim tasks, answer, renew their leases, let them end, die and come back, while submissions and results from
+outside come in.
 The model keeps what is open in a heap and leases in a dictionary, which is not how the program does it.
 """
 
 import heapq
 import random
 
-from script_model import KINDS, verdict
+from rule_model import KINDS, Rule
 
 HOSTS = 1_000
 PROBLEMS = 10
@@ -27,6 +28,7 @@ class Contest:
         self.size = 0
         self.replied = 0
         self.reply_size = 0
+        self.rule = Rule()
         self.random = random.Random(5)
         self.now = 0
         self.rows = []
@@ -70,13 +72,15 @@ class Contest:
         problem = self.random.randrange(PROBLEMS)
         self.put(f"submit p{problem}{word}", f"submission {judging} judging {judging}")
 
-    def is_empty(self, judging, test):
-        return self.rows[judging - 1][test - 1] is None
+    def is_wanted(self, judging, test):
+        """Whether the cell is empty and matters. Where it does not, it never does later."""
+        return self.rule.matters(self.rows[judging - 1], test - 1)
 
     def first_open(self):
+        """The least open task. What is not wanted leaves the heap for good, and what is held comes back."""
         while self.open:
             _, judging, test = self.open[0]
-            if self.is_empty(judging, test) and (judging, test) not in self.leases:
+            if (judging, test) not in self.leases and self.is_wanted(judging, test):
                 return judging, test
             heapq.heappop(self.open)
         return None
@@ -90,7 +94,7 @@ class Contest:
         host, _ = self.leases.pop(task)
         self.tasks_of[host].discard(task)
         judging, test = task
-        if self.is_empty(judging, test):
+        if self.is_wanted(judging, test):
             heapq.heappush(self.open, (self.classes[judging - 1], judging, test))
 
     def claim(self):
@@ -118,7 +122,16 @@ class Contest:
         line = f"result {host} {judging} {test} {kind}"
         if host in self.down_hosts:
             self.put(line, f"no-host {host}")
-            return
+        else:
+            self.enter(line, judging, test, kind)
+
+    def record(self):
+        """A result from outside of a task that waits: some judgings are final before they are claimed."""
+        _, judging, test = self.random.choice(self.open)
+        kind = self.random.choice(KINDS)
+        self.enter(f"record {judging} {test} {kind}", judging, test, kind)
+
+    def enter(self, line, judging, test, kind):
         kept = self.rows[judging - 1][test - 1]
         if kept is not None:
             self.put(line, f"repeat {kept}" if kept == kind else f"differs {kept} {kind}")
@@ -166,8 +179,7 @@ class Contest:
 
     def show(self):
         judging = self.random.randrange(len(self.rows)) + 1
-        row = self.rows[judging - 1]
-        self.put(f"show {judging}", "pending" if None in row else f"final {verdict(row)}")
+        self.put(f"show {judging}", self.rule.report(self.rows[judging - 1]))
 
 
 def write_contest(lines, replies, submissions):
@@ -186,9 +198,12 @@ def write_contest(lines, replies, submissions):
         elif part < 900:
             if contest.handed:
                 contest.result()
-        elif part < 960:
+        elif part < 930:
             if contest.handed:
                 contest.renew()
+        elif part < 960:
+            if contest.open:
+                contest.record()
         elif part < 968:
             contest.tick()
         elif part < 971:

@@ -7,31 +7,12 @@ about any of them.
 
 import random
 
-KINDS = [
-    "correct",
-    "wrong-answer",
-    "run-error",
-    "timelimit",
-    "no-output",
-    "output-limit",
-    "memory-limit",
-    "judging-error",
-]
-PRIORITIES = dict(zip(KINDS, [1, 30, 99, 99, 10, 99, 99, 99]))
+from rule_model import KINDS, Rule
 
 PROBLEMS = 1_000
 TESTS = 5
 # The most submissions that a farm accepts.
 SUBMISSIONS = 100_000
-
-
-def verdict(row):
-    """The kind of the greatest priority, the earliest on a tie."""
-    best = row[0]
-    for kind in row:
-        if PRIORITIES[kind] > PRIORITIES[best]:
-            best = kind
-    return best
 
 
 class Script:
@@ -48,6 +29,7 @@ class Script:
         self.reply_size = 0
         self.rows = []
         self.waiting = []
+        self.rule = Rule()
         self.random = random.Random(20)
 
     def put(self, line, reply):
@@ -84,9 +66,7 @@ class Script:
 
     def show(self):
         judging = self.random.randrange(len(self.rows)) + 1
-        row = self.rows[judging - 1]
-        reply = "pending" if None in row else f"final {verdict(row)}"
-        self.put(f"show {judging}", reply)
+        self.put(f"show {judging}", self.rule.report(self.rows[judging - 1]))
 
 
 def write_script(lines, replies, count=None, size=None, comment=0):

@@ -1,0 +1,24 @@
+#!/bin/sh
+# Runs each example, with the settings beside it where there are some, and compares what is written with its replies.
+#
+#     examples/check.sh [PROGRAM]
+#
+# PROGRAM is the built program, crates/farm/out/farm of this repository if none is given. A line is printed for each
+# example, and the status is 1 where one differs.
+here=$(cd "$(dirname "$0")" && pwd)
+program=${1:-$here/../crates/farm/out/farm}
+[ -x "$program" ] || { echo "$program is not there: build it by 'rt run' in crates/farm, or name another one"; exit 1; }
+
+status=0
+for lines in "$here"/*.txt; do
+    example=${lines%.txt}
+    set -- script
+    [ ! -e "$example.json" ] || set -- script --config "$example.json"
+    if "$program" "$@" <"$lines" | cmp -s - "$example.replies"; then
+        echo "ok      $(basename "$example")"
+    else
+        echo "differs $(basename "$example")"
+        status=1
+    fi
+done
+exit $status
