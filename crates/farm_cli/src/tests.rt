@@ -471,7 +471,7 @@ fn a_middle_priority_does_not_stop_full_judging(rt: HostRuntime) -> Result<(), F
 }
 
 /// Each fault of a settings' file, and the line that tells it.
-const BAD_SETTINGS: [(&[u8], &[u8]); 12] = [
+const BAD_SETTINGS: [(&[u8], &[u8]); 18] = [
     (b"", b"not json"),
     (b"[]", b"not json"),
     (b"\xef\xbb\xbf{}", b"not json"),
@@ -481,6 +481,21 @@ const BAD_SETTINGS: [(&[u8], &[u8]); 12] = [
     (b"{\"results_prio\":{\"fine\":1}}", b"unknown key fine"),
     (b"{\"lease\":0}", b"bad value lease"),
     (b"{\"lease\":60,\"lease\":null}", b"bad value lease"),
+    (
+        b"{\"instructions_per_second\":999}",
+        b"bad value instructions_per_second",
+    ),
+    (
+        b"{\"verification_required\":\"yes\"}",
+        b"bad value verification_required",
+    ),
+    (b"{\"results_prio\":[]}", b"bad value results_prio"),
+    (b"{\"results_remap\":1}", b"bad value results_remap"),
+    (
+        b"{\"results_remap\":{\"fine\":\"correct\"}}",
+        b"unknown key fine",
+    ),
+    (b"{\"lease\":-0}", b"bad value lease"),
     (b"{\"lazy_eval_results\":1}", b"bad value lazy_eval_results"),
     (
         b"{\"results_prio\":{\"correct\":1000}}",
@@ -503,6 +518,28 @@ fn bad_settings_are_named(rt: HostRuntime) -> Result<(), Fail> {
         assert_eq!(rt; exit, Exit::BadContest);
         assert_eq!(rt; exit.status(), 3);
         assert_eq!(rt; out.bytes(), want.as_slice());
+    }
+    Ok(())
+}
+
+/// A text nested 127 levels deep is JSON, and one level more is none.
+#[test]
+fn nesting_of_127_and_128_levels(rt: HostRuntime) -> Result<(), Fail> {
+    let alloc = rt.alloc();
+    for (levels, fault) in [(126, b"bad value lease".as_slice()), (127, b"not json")] {
+        let mut settings = b"{\"lease\":".to_vec(alloc)?;
+        for _ in 0..levels {
+            settings.push(b'[')?;
+        }
+        for _ in 0..levels {
+            settings.push(b']')?;
+        }
+        settings.push(b'}')?;
+        let (_, out) = configured(alloc, settings.as_slice(), SMALLEST)?;
+        let mut want = b"bad contest: farm.json: ".to_vec(alloc)?;
+        want.extend_from_slice(fault)?;
+        want.push(b'\n')?;
+        assert_eq!(rt; out.bytes(), want.as_slice(), "at {levels}");
     }
     Ok(())
 }

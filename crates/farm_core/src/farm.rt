@@ -1,11 +1,13 @@
 ghost use Rattle.std.specs.Prelude.{◌≡◌, ◌+◌, ◌++◌, ◌∷◌, [], ◌<◌, ◌≤◌, ◌&&◌, ℕ, List, length, position, vec_capacity, IfOk, IfSome, OnErr, None, true};
 ghost use Rattle.std.specs.Str.{bytes_eq};
+ghost use Rattle.farm_kinds.specs.declared.events.Event.{Event};
 ghost use Rattle.farm_kinds.specs.declared.events.Event.TheVariants as event;
 ghost use Rattle.farm_model.specs.Numbered.{number_or_0};
-ghost use Rattle.farm_model.specs.State.{start, problem_number, up_number};
+ghost use Rattle.farm_model.specs.State.{SettingsValue, start, problem_number, up_number};
 ghost use Rattle.farm_model.specs.Refusals.{claim_reply, count_reply, renewed_reply};
 ghost use Rattle.farm_model.specs.Changes.{submitted, cells_for, host_as};
 ghost use Rattle.farm_model.specs.Farm.{Stepped};
+ghost use Rattle.farm_laws.specs.Laws.{KeepsPromise};
 ghost use Rattle.farm_core.specs.FarmShape.{AreShort};
 
 use farm_kinds::{Claim, Class, Count, Event, Kind, Name, NoMemory, Renewed, Reply};
@@ -67,7 +69,17 @@ impl Farm {
     }
 
     /// Answers one event. One that is refused, and one that wants memory, changes nothing.
+    ///
+    /// `promise` is the law of all runs of these steps from an empty farm.
     pub fn step(&mut self, event: &Event) -> Reply
+        ensures stepped { Stepped self.old event.now self.new result }
+        ensures promise { (settings : SettingsValue) (es : List Event) → KeepsPromise settings es }
+    {
+        self.answer(event)
+    }
+
+    /// Answers one event.
+    fn answer(&mut self, event: &Event) -> Reply
         ensures { Stepped self.old event.now self.new result }
     {
         match event {
