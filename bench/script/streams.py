@@ -1,5 +1,5 @@
 #!/usr/bin/env python3
-"""Looks at `farm script` on real streams: files, a pipe, a terminal, a pipe that is closed.
+"""Looks at `farm script` on real streams and files: files, a pipe, a terminal, a pipe that is closed, settings.
 
     bench/script/streams.py [PROGRAM]
 
@@ -129,6 +129,52 @@ def usage(program):
     return None
 
 
+# A settings' file, or None where there is none; then how the program ends, and what it writes.
+SETTINGS = [
+    ("no file", None, 3, b"bad contest: no config\n"),
+    ("good settings", b'{"lease": 7}', 0, REPLIES),
+    ("an empty file", b"", 3, b"bad contest: farm.json: not json\n"),
+    ("an unknown key", b'{"leases": 7}', 3, b"bad contest: farm.json: unknown key leases\n"),
+    ("a bad value", b'{"lease": 0}', 3, b"bad contest: farm.json: bad value lease\n"),
+    ("a file of 16 MiB", b" " * (1 << 24), 3, b"bad contest: farm.json: not json\n"),
+]
+
+
+def configured(program, path):
+    words = [program, "script", "--config", path]
+    done = subprocess.run(words, input=LINES, capture_output=True, timeout=60)
+    return done.returncode, done.stdout
+
+
+def by_settings(program, text, status, want):
+    """What is written by the settings of a file of this text."""
+    with tempfile.TemporaryDirectory() as folder:
+        path = os.path.join(folder, "farm.json")
+        if text is not None:
+            with open(path, "wb") as settings:
+                settings.write(text)
+        got = configured(program, path)
+    return None if got == (status, want) else f"status {got[0]}, wrote {got[1][:200]!r}"
+
+
+def by_other_files(program):
+    """A folder, a file that is too large, and a name that the system refuses."""
+    with tempfile.TemporaryDirectory() as folder:
+        large = os.path.join(folder, "large")
+        with open(large, "wb") as settings:
+            settings.truncate((1 << 24) + 1)
+        cases = [
+            (folder, (3, b"bad contest: no config\n")),
+            (large, (3, b"bad contest: too large " + large.encode() + b"\n")),
+            ("a" * 5000, (7, b"")),
+        ]
+        for path, want in cases:
+            got = configured(program, path)
+            if got != want:
+                return f"status {got[0]}, wrote {got[1][:200]!r} for {path[:60]}"
+    return None
+
+
 def compared(done, want):
     if done.returncode != 0:
         return f"status {done.returncode}"
@@ -149,6 +195,9 @@ def main():
     looks.append(("closed pipe: status 5, no storm", to_closed_pipe(program)))
     looks.append(("input that cannot be read: status 4", from_folder(program)))
     looks.append(("wrong words: usage and status 2", usage(program)))
+    for name, text, status, want in SETTINGS:
+        looks.append((f"settings: {name}", by_settings(program, text, status, want)))
+    looks.append(("settings: a folder, a large file, a refused name", by_other_files(program)))
     for name, fault in looks:
         print(f"{'ok  ' if fault is None else 'NOT '} {name}{'' if fault is None else ': ' + fault}")
     return 1 if any(fault for _, fault in looks) else 0
