@@ -6,7 +6,7 @@ use std::alloc::{AllocError, Global};
 use std::test::Fail;
 
 /// How many bytes a sink of these tests holds.
-const ROOM: usize = 65_536;
+const ROOM: usize = 4_194_304;
 
 fn words(alloc: Global, given: &[&str]) -> Result<Vec<String>, AllocError> {
     let mut words = Vec::new(alloc);
@@ -257,6 +257,38 @@ fn a_thousand_hosts_and_the_next(rt: HostRuntime) -> Result<(), Fail> {
     want.extend_from_slice(b"full 1000\nknown h7\nended 0\nfull 1000\nhost h7\n")?;
     let (_, out) = script(alloc, input.as_slice())?;
     assert_eq!(rt; out.bytes(), want.as_slice());
+    Ok(())
+}
+
+#[test]
+fn a_thousand_problems_and_the_next(rt: HostRuntime) -> Result<(), Fail> {
+    let alloc = rt.alloc();
+    let mut input = Vec::new(alloc);
+    let mut want = Vec::new(alloc);
+    for problem in 1..1_001 {
+        input.extend_from_slice(format!(in alloc; "problem p{problem} 1\n")?.as_bytes())?;
+        want.extend_from_slice(format!(in alloc; "problem p{problem} version 1\n")?.as_bytes())?;
+    }
+    input.extend_from_slice(b"problem p1001 1\nproblem p7 1\n")?;
+    want.extend_from_slice(b"full 1000\nknown p7\n")?;
+    let (_, out) = script(alloc, input.as_slice())?;
+    assert_eq!(rt; out.bytes(), want.as_slice());
+    Ok(())
+}
+
+#[test]
+fn a_hundred_thousand_submissions_and_the_next(rt: HostRuntime) -> Result<(), Fail> {
+    let alloc = rt.alloc();
+    let mut input = b"problem A 1\n".to_vec(alloc)?;
+    for _ in 0..100_001 {
+        input.extend_from_slice(b"submit A\n")?;
+    }
+    let (exit, out) = script(alloc, input.as_slice())?;
+    assert_eq!(rt; exit, Exit::Done);
+    assert!(rt;
+        out.bytes()
+            .ends_with(b"submission 100000 judging 100000\nfull 100000\n")
+    );
     Ok(())
 }
 
