@@ -6,7 +6,7 @@ use Rattle.std.proofs.lemmas.Bool.Decides.{nat_tests}
 use Rattle.farm_kinds.specs.declared.outcomes.Class.{Class}
 use Rattle.farm_model.specs.Judgings.{Judging, empty_judging}
 use Rattle.judging_core.specs.JudgeValue.{starts_with, left_reserved}
-use Rattle.judging_core.specs.JudgeShape.{judging_value, IsShort, tests_of, reserved_of, IsPrepared}
+use Rattle.judging_core.specs.JudgeShape.{judging_value, tests_of, reserved_of, IsPrepared}
 use Rattle.judging_core.specs.declared.judgings.KeptJudging.{KeptJudging}
 
 -- the one that is pushed is the next one

@@ -1,5 +1,5 @@
 -- What is popped has the number of tests that was asked for, and its class is set.
-use Rattle.std.proofs.Common.{◌≡◌, Some, true, arith}
+use Rattle.std.proofs.Common.{◌≡◌, Some, true}
 use Rattle.std.proofs.lemmas.List.Elements.{All-pop}
 use Rattle.judging_core.specs.JudgeValue.{starts_with}
 use Rattle.judging_core.specs.JudgeShape.{reserved_of, IsPrepared}

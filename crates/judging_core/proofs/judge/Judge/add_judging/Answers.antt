@@ -1,4 +1,4 @@
-use Rattle.std.proofs.Common.{ℕ, ◌≡◌, ◌∙◌, ◌≤◌, ◌<◌, rules, refl, sym, ap, arith, List, ◌++◌, ◌∷◌, [], Bool, true, false, if◌then◌else◌, is_ok, length}
+use Rattle.std.proofs.Common.{ℕ, ◌≡◌, ◌∙◌, ◌≤◌, ◌<◌, rules, sym, ap, arith, List, ◌++◌, ◌∷◌, [], Bool, true, false, if◌then◌else◌, is_ok, length}
 use Rattle.std.specs.List.{All}
 use Rattle.std.proofs.lemmas.List.{length_push, length-map, map-append}
 use Rattle.std.proofs.lemmas.List.Elements.{All-push}
