@@ -1,9 +1,9 @@
 -- How a judge lies in memory.
-use Rattle.std.specs.Prelude.{◌≤◌, ◌<◌, ◌*◌, ◌^◌, length}
+use Rattle.std.specs.Prelude.{◌≤◌, ◌<◌, ◌+◌, ◌*◌, ◌^◌, length, vec_len, vec_capacity}
 use Rattle.farm_model.specs.Judge.{JudgeState}
 use Rattle.lease_book.specs.Book.{room}
 use Rattle.judging_core.specs.JudgeValue.{JudgeValue}
-use Rattle.judging_core.specs.JudgeShape.{judging_values, AreShort, AreRuledBy}
+use Rattle.judging_core.specs.JudgeShape.{judging_values, AreShort, AreRuledBy, reserved_of, ArePrepared}
 use Rattle.judging_core.specs.Holding.{IsHeldWell}
 use Rattle.judging_core.specs.declared.judge.Judge.TheInside.{Inside}
 
@@ -11,7 +11,7 @@ abbrev pub judge_state : Inside → JudgeState
 judge_state a = record { rule = a.rule; mode = a.mode; lease = a.lease; now = a.moment; judgings = judging_values a.judgings.items; leases = a.leases.leases }
 
 abbrev pub judge_value : Inside → JudgeValue
-judge_value a = record { state = judge_state a; hosts = a.hosts }
+judge_value a = record { state = judge_state a; hosts = a.hosts; reserved = reserved_of a.prepared.items }
 
 pub record IsJudgeLayout (a : Inside) : Type 0 where
   pub some : 1 ≤ a.lease
@@ -25,3 +25,8 @@ pub record IsJudgeLayout (a : Inside) : Type 0 where
   pub held : IsHeldWell a.hosts a.leases.leases
   -- 64 leases for each host
   pub roomy : 64 * a.hosts ≤ room a.leases
+  -- what is made ahead
+  pub prepared : ArePrepared a.prepared.items
+  pub prepared_ruled : AreRuledBy a.rule a.prepared.items
+  -- room for all that is made ahead
+  pub spare : vec_len a.judgings + vec_len a.prepared ≤ vec_capacity a.judgings

@@ -1,8 +1,8 @@
 -- How judgings lie in memory.
-use Rattle.std.specs.Prelude.{◌≡◌, ◌≤◌, List, map, length, All}
+use Rattle.std.specs.Prelude.{◌≡◌, ℕ, ◌≤◌, List, map, reverse, length, All}
 use Rattle.farm_kinds.specs.declared.kinds.Kind.{Kind}
 use Rattle.farm_kinds.specs.RuleValue.{RuleValue}
-use Rattle.farm_model.specs.Judgings.{Judging}
+use Rattle.farm_model.specs.Judgings.{Judging, empty_judging}
 use Rattle.lazy_stop.specs.Matters.{IsPossible}
 use Rattle.judging_core.specs.declared.judgings.KeptJudging.{KeptJudging}
 
@@ -33,3 +33,20 @@ CanHold kind kept = IsPossible kept.row.rule kind
 
 abbrev pub CanAllHold : Kind → List KeptJudging → Type 0
 CanAllHold kind judgings = All (CanHold kind) judgings
+
+-- Judgings that are made ahead, the next one last
+
+abbrev pub tests_of : KeptJudging → ℕ
+tests_of kept = length kept.row.cells
+
+-- their numbers of tests, the next one first
+abbrev pub reserved_of : List KeptJudging → List ℕ
+reserved_of prepared = reverse (map tests_of prepared)
+
+-- nothing of it was handed out or judged
+pub record IsPrepared (kept : KeptJudging) : Type 0 where
+  pub empty : judging_value kept ≡ empty_judging kept.class (tests_of kept)
+  pub short : IsShort kept
+
+abbrev pub ArePrepared : List KeptJudging → Type 0
+ArePrepared prepared = All IsPrepared prepared

@@ -1,18 +1,19 @@
-ghost use Rattle.std.specs.Prelude.{◌≡◌, ◌+◌, ◌≤◌, ◌<◌, length, IfOk, IfNone, OnErr};
+ghost use Rattle.std.specs.Prelude.{◌≡◌, ◌+◌, ◌≤◌, ◌<◌, length, All, IfOk, IfNone, OnOk, OnErr, IsOk, IsTrue};
 ghost use Rattle.farm_kinds.specs.Rules.{remap_of};
 ghost use Rattle.farm_model.specs.Leases.{left_after, ended_at, is_held_by};
-ghost use Rattle.farm_model.specs.Judge.{add_judging, answer_of_judging, judge_claim, judge_enter, judge_result, judge_renew, judge_tick, judge_down, drop_judging, renew_refusal};
+ghost use Rattle.farm_model.specs.Judge.{answer_of_judging, judge_claim, judge_enter, judge_result, judge_renew, judge_tick, judge_down, drop_judging, renew_refusal};
 ghost use Rattle.lazy_stop.specs.Matters.{IsPossible};
 ghost use Rattle.lease_book.specs.Book.{room};
 ghost use Rattle.farm_model.specs.Judgings.{is_dropped};
-ghost use Rattle.judging_core.specs.JudgeValue.{first_judge, in_state};
+ghost use Rattle.judging_core.specs.JudgeValue.{first_judge, in_state, with_judging, starts_with};
 
 use crate::judgings::{
     KeptJudging, answer_of, cell_at, empty_judging, entry_refusal, fill, judging_at, mark_dropped,
     mark_handed, result_refusal,
 };
 use crate::open::first_open;
-use farm_kinds::{Answer, Claim, Class, Count, Kind, Mode, NoMemory, Renewed, Rule, Task};
+use crate::prepared::{prepared_judgings, take_prepared};
+use farm_kinds::{Answer, Claim, Class, Count, Kind, Mode, NoMemory, Numbers, Renewed, Rule, Task};
 use lazy_stop::remapped_is_possible;
 use lease_book::LeaseBook;
 use std::alloc::Global;
@@ -33,6 +34,7 @@ pub struct Judge {
     lease: u64,
     moment: u64,
     judgings: Vec<KeptJudging>,
+    prepared: Vec<KeptJudging>,
     hosts: u32,
     leases: LeaseBook,
 }
@@ -64,6 +66,7 @@ impl Judge {
             lease,
             moment: 0,
             judgings: Vec::new(alloc),
+            prepared: Vec::new(alloc),
             hosts: 0,
             leases: LeaseBook::new(alloc),
         }
@@ -76,16 +79,36 @@ impl Judge {
         self.judgings.len()
     }
 
-    /// Adds a judging of this many tests, none for a broken submission, and answers its number.
+    /// Makes room ahead for judgings of these numbers of tests. The next calls of `add_judging`, the i-th of
+    /// them with the i-th number, take no memory then. The new room replaces what was reserved before.
+    pub fn reserve(&mut self, tests: &Numbers) -> Result<(), NoMemory>
+        requires { All (λ n. n ≤ 1000) tests.now }
+        ensures ok { OnOk result (self.new ≡ record self.old { reserved = tests.now }) }
+        ensures err { OnErr result (self.new ≡ self.old) }
+    {
+        let prepared = prepared_judgings(self.alloc, self.rule, tests.as_slice())?;
+        self.judgings.reserve(prepared.len()).map_err(|_| NoMemory)?;
+        self.prepared = prepared;
+        Ok(())
+    }
+
+    /// Adds a judging of this many tests, none for a broken submission, and answers its number. Where the
+    /// next judging for which there is room has another number of tests, no room is left after it.
     pub fn add_judging(&mut self, class: Class, tests: u16) -> Result<u32, NoMemory>
         requires few { length self.old.state.judgings < 400000 }
         requires short { tests ≤ 1000 }
         ensures number { IfOk result (λ j. j ≡ length self.old.state.judgings + 1) }
-        ensures added { IfOk result (λ j. self.new ≡ in_state self.old (add_judging self.old.state class tests)) }
+        ensures added { IfOk result (λ j. self.new ≡ with_judging self.old class tests) }
+        ensures kept { IsTrue (starts_with self.old.reserved tests) → IsOk result }
         ensures unchanged { OnErr result (self.new ≡ self.old) }
     {
+        if let Some(judging) = take_prepared(&mut self.prepared, class, tests) {
+            self.judgings.push_reserved(judging);
+            return Ok(self.judgings.len() as u32);
+        }
         let judging = empty_judging(self.alloc, self.rule, class, tests)?;
         self.judgings.push(judging).map_err(|_| NoMemory)?;
+        self.prepared = Vec::new(self.alloc);
         Ok(self.judgings.len() as u32)
     }
 

@@ -1,4 +1,4 @@
-ghost use Rattle.std.specs.Prelude.{◌≡◌, ◌≤◌, ◌-◌, length, replicate, slice_get, slice_set, false, IfOk, IfNone, IfSome, OnSome, None, Some, IsSome};
+ghost use Rattle.std.specs.Prelude.{◌≡◌, ◌≤◌, ◌-◌, length, replicate, slice_get, slice_set, vec_len, vec_capacity, false, IfOk, IfNone, IfSome, OnSome, None, Some, IsSome};
 ghost use Rattle.farm_kinds.specs.RuleValue.{RuleValue};
 ghost use Rattle.farm_model.specs.Rows.{answer_of};
 ghost use Rattle.farm_model.specs.Numbered.{item_of};
@@ -172,6 +172,8 @@ pub fn fill(judgings: &mut Vec<KeptJudging>, judging: u32, test: u32, given: Kin
     ensures short { AreShort judgings.new.items }
     ensures ruled { (rule : RuleValue) → AreRuledBy rule judgings.old.items → AreRuledBy rule judgings.new.items }
     ensures count { length judgings.new.items ≡ length judgings.old.items }
+    ensures len { vec_len judgings.new ≡ vec_len judgings.old }
+    ensures capacity { vec_capacity judgings.new ≡ vec_capacity judgings.old }
 {
     let kept = &mut judgings[judging as usize - 1];
     put(&mut kept.row, test as u16, given);
@@ -197,6 +199,8 @@ pub fn mark_handed(judgings: &mut Vec<KeptJudging>, task: Task)
     ensures short { AreShort judgings.new.items }
     ensures ruled { (rule : RuleValue) → AreRuledBy rule judgings.old.items → AreRuledBy rule judgings.new.items }
     ensures count { length judgings.new.items ≡ length judgings.old.items }
+    ensures len { vec_len judgings.new ≡ vec_len judgings.old }
+    ensures capacity { vec_capacity judgings.new ≡ vec_capacity judgings.old }
 {
     let kept = &mut judgings[task.judging as usize - 1];
     kept.handed[task.test as usize - 1] = true;
@@ -210,6 +214,8 @@ pub fn mark_dropped(judgings: &mut Vec<KeptJudging>, judging: u32)
     ensures short { AreShort judgings.old.items → AreShort judgings.new.items }
     ensures ruled { (rule : RuleValue) → AreRuledBy rule judgings.old.items → AreRuledBy rule judgings.new.items }
     ensures count { length judgings.new.items ≡ length judgings.old.items }
+    ensures len { vec_len judgings.new ≡ vec_len judgings.old }
+    ensures capacity { vec_capacity judgings.new ≡ vec_capacity judgings.old }
 {
     let kept = &mut judgings[judging as usize - 1];
     kept.dropped = true;

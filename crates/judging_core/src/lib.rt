@@ -9,6 +9,7 @@
 mod judge;
 mod judgings;
 mod open;
+mod prepared;
 #[cfg(test)]
 mod tests;
 

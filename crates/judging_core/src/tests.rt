@@ -1,7 +1,9 @@
-ghost use Rattle.std.specs.Prelude.{◌≡◌, ◌≤◌, IfOk};
+ghost use Rattle.std.specs.Prelude.{◌≡◌, ◌∷◌, [], ◌≤◌, ◌<◌, length, true, IfOk, OnOk, OnErr};
 
 use crate::Judge;
-use farm_kinds::{Answer, Claim, Class, Count, Kind, Mode, NoMemory, Renewed, Rule, Task, Verdict};
+use farm_kinds::{
+    Answer, Claim, Class, Count, Kind, Mode, NoMemory, Numbers, Renewed, Rule, Task, Verdict,
+};
 use std::test::Fail;
 
 const FINAL_RUN_ERROR: Option<Answer> = Some(Answer::Final(Verdict::Tests(Kind::RunError)));
@@ -26,11 +28,76 @@ fn judge_of(rt: &HostRuntime, mode: Mode, tests: u16) -> Result<Judge, NoMemory>
     judge_by(rt, Rule::standard(), mode, tests)
 }
 
+/// Makes room ahead for judgings of these three numbers of tests.
+fn reserve(
+    rt: &HostRuntime,
+    judge: &mut Judge,
+    first: u16,
+    second: u16,
+    third: u16,
+) -> Result<(), NoMemory>
+    requires first { first ≤ 1000 }
+    requires second { second ≤ 1000 }
+    requires third { third ≤ 1000 }
+    ensures ok { OnOk result (judge.new ≡ record judge.old { reserved = first ∷ second ∷ third ∷ [] }) }
+    ensures err { OnErr result (judge.new ≡ judge.old) }
+{
+    let mut tests = Numbers::new(rt.alloc());
+    tests.push(u32::from(first))?;
+    tests.push(u32::from(second))?;
+    tests.push(u32::from(third))?;
+    judge.reserve(&tests)
+}
+
+/// Makes room ahead for three judgings, and adds them. It answers whether none of the three wanted memory,
+/// and is proved to answer true.
+fn add_reserved(
+    rt: &HostRuntime,
+    judge: &mut Judge,
+    first: u16,
+    second: u16,
+    third: u16,
+) -> Result<bool, NoMemory>
+    requires few { length judge.old.state.judgings < 1000 }
+    requires first { first ≤ 1000 }
+    requires second { second ≤ 1000 }
+    requires third { third ≤ 1000 }
+    ensures added { IfOk result (λ added. added ≡ true) }
+    ensures hosts { judge.new.hosts ≡ judge.old.hosts }
+{
+    reserve(rt, judge, first, second, third)?;
+    if judge.add_judging(Class::Low, first).is_err() {
+        return Ok(false);
+    }
+    if judge.add_judging(Class::High, second).is_err() {
+        return Ok(false);
+    }
+    Ok(judge.add_judging(Class::Normal, third).is_ok())
+}
+
+/// Adds a judging where there are not too many.
+fn add(judge: &mut Judge, class: Class, tests: u16) -> Result<u32, NoMemory>
+    requires { tests ≤ 1000 }
+{
+    if judge.judgings() >= 1000 {
+        return Err(NoMemory);
+    }
+    judge.add_judging(class, tests)
+}
+
 /// What a host is answered that is given a test of the first judging until that moment.
 fn handed(test: u16, until: u64) -> Claim {
     Claim::Handed {
         task: Task { judging: 1, test },
         until,
+    }
+}
+
+/// What a host is answered that is given a task until a lease from moment 0 ends.
+fn handed_in(judging: u32, test: u16) -> Claim {
+    Claim::Handed {
+        task: Task { judging, test },
+        until: 60,
     }
 }
 
@@ -250,5 +317,69 @@ fn dropped_judging(rt: HostRuntime) -> Result<(), Fail> {
     assert_eq!(rt; judge.claim(1), Claim::Nothing);
     assert_eq!(rt; judge.tick(60), 0);
     assert_eq!(rt; judge.answer(1), Some(Answer::Pending));
+    Ok(())
+}
+
+/// Room that is made ahead is taken in order, and a judging that is made ahead is like another.
+#[test]
+fn reserved_judgings_come_in_order(rt: HostRuntime) -> Result<(), Fail> {
+    let mut judge = Judge::new(rt.alloc(), Rule::standard(), Mode::Lazy, 60);
+    let host = judge.add_host()?;
+    assert_eq!(rt; add_reserved(&rt, &mut judge, 2, 0, 3), Ok(true));
+    assert_eq!(rt; (judge.judgings(), host), (3, 1));
+    assert_eq!(rt; judge.answer(1), Some(Answer::Pending));
+    assert_eq!(rt;
+        judge.answer(2),
+        Some(Answer::Final(Verdict::CompilerError))
+    );
+    // the third is of the class normal, and the first of the class low
+    assert_eq!(rt; judge.claim(1), handed_in(3, 1));
+    assert_eq!(rt; judge.claim(1), handed_in(3, 2));
+    assert_eq!(rt; judge.claim(1), handed_in(3, 3));
+    assert_eq!(rt; judge.claim(1), handed_in(1, 1));
+    assert_eq!(rt; judge.claim(1), handed_in(1, 2));
+    assert_eq!(rt; judge.claim(1), Claim::Nothing);
+    assert_eq!(rt; judge.result(3, 3, Kind::RunError), Count::Counted);
+    assert_eq!(rt; judge.result(3, 4, Kind::RunError), Count::NoTest);
+    assert_eq!(rt; judge.enter(1, 3, Kind::RunError), Count::NoTest);
+    Ok(())
+}
+
+/// A judging with another number of tests ends what was reserved, and is as it was asked for.
+#[test]
+fn another_number_ends_the_reservation(rt: HostRuntime) -> Result<(), Fail> {
+    let mut judge = Judge::new(rt.alloc(), Rule::standard(), Mode::Full, 60);
+    assert_eq!(rt; reserve(&rt, &mut judge, 2, 0, 3), Ok(()));
+    assert_eq!(rt; add(&mut judge, Class::Normal, 2), Ok(1));
+    assert_eq!(rt; add(&mut judge, Class::Normal, 1), Ok(2));
+    assert_eq!(rt; add(&mut judge, Class::Normal, 0), Ok(3));
+    assert_eq!(rt; judge.enter(2, 1, Kind::Correct), Count::Counted);
+    assert_eq!(rt;
+        judge.answer(2),
+        Some(Answer::Final(Verdict::Tests(Kind::Correct)))
+    );
+    assert_eq!(rt;
+        judge.answer(3),
+        Some(Answer::Final(Verdict::CompilerError))
+    );
+    Ok(())
+}
+
+/// What is reserved again replaces what was reserved before.
+#[test]
+fn reserving_again_replaces(rt: HostRuntime) -> Result<(), Fail> {
+    let mut judge = Judge::new(rt.alloc(), Rule::standard(), Mode::Lazy, 60);
+    assert_eq!(rt; reserve(&rt, &mut judge, 2, 0, 3), Ok(()));
+    assert_eq!(rt; add_reserved(&rt, &mut judge, 0, 1, 1), Ok(true));
+    assert_eq!(rt; judge.judgings(), 3);
+    assert_eq!(rt;
+        judge.answer(1),
+        Some(Answer::Final(Verdict::CompilerError))
+    );
+    assert_eq!(rt; judge.answer(2), Some(Answer::Pending));
+    assert_eq!(rt; judge.enter(2, 2, Kind::Correct), Count::NoTest);
+    assert_eq!(rt; judge.enter(2, 1, Kind::Correct), Count::Counted);
+    assert_eq!(rt; judge.enter(3, 1, Kind::RunError), Count::Counted);
+    assert_eq!(rt; add(&mut judge, Class::Normal, 2), Ok(4));
     Ok(())
 }
