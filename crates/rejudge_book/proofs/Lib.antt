@@ -1,3 +1,4 @@
 pub mod Places
+pub mod Closing
 pub mod Marking
 pub mod Twice

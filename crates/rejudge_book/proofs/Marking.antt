@@ -3,7 +3,7 @@ use Rattle.std.proofs.Common.{ℕ, suc, zero, ◌≡◌, ◌≢◌, ◌+◌, ◌
 use Rattle.std.specs.List.{list_any, slice_get, All}
 use Rattle.std.specs.Option.{option_map, option_map_or}
 use Rattle.std.proofs.lemmas.Bool.{eqb-true, eq-eqb, eqb-false, ne_eqb, or_cases, or_left, or_right, cases_Bool, cases_eq, cases_lt, false_from_ne_true, and_parts, and_from}
-use Rattle.std.proofs.lemmas.List.{get_or-set_same, get_or-set_other, length-set, get_or_past}
+use Rattle.std.proofs.lemmas.List.{get_or-set_same, get_or-set_other, length-set, length-map, get_or-map, get_or_past}
 use Rattle.farm_kinds.specs.declared.outcomes.How.{How}
 use Rattle.farm_kinds.specs.declared.outcomes.How.TheVariants as how
 use Rattle.farm_model.specs.declared.records.Member.{Member}
@@ -58,6 +58,10 @@ faults_are rs marks n (s ∷ list) h known =
 pub refusal_is : (rs : List Rejudging) (marks : List ℕ) (n : ℕ) (list : List ℕ) → AreMarks rs marks → AreKnown n list → marked_refusal marks list ≡ busy_refusal rs list
 refusal_is rs marks n list h known = ap first_of (faults_are rs marks n list h known)
 
+pub last_of : (o : Option BookFault) → first_of (None ∷ o ∷ []) ≡ o
+last_of None = refl
+last_of (Some f) = refl
+
 -- where there is no such one, no submission of the list has a mark
 pub unmarked : (marks list : List ℕ) (s : ℕ) → marked_refusal marks list ≡ None → has list s ≡ true → mark_of marks s ≡ 0
 unmarked marks [] s e t = cc
@@ -104,14 +108,25 @@ mark_made marks list number s known some t =
     let at : has list (s - 1 + 1) ≡ true = rw is t in
     marks_at marks list number (s - 1) known ∙ ap (λ b. cond b number (mark_of marks s)) at
 
-has_members : (s first : ℕ) (list olds : List ℕ) → length list ≡ length olds → has_member s (members_from first list olds) ≡ has list s
+pub has_members : (s first : ℕ) (list olds : List ℕ) → length list ≡ length olds → has_member s (members_from first list olds) ≡ has list s
 has_members s first [] olds e = refl
 has_members s first (m ∷ list) [] e = absurd (omega arith)
 has_members s first (m ∷ list) (o ∷ olds) e = ap (λ b. eqb m s || b) (has_members s (first + 1) list olds (omega arith))
 
-has_submissions : (s : ℕ) (members : List Member) → has_member s members ≡ has (submissions_of members) s
+pub has_submissions : (s : ℕ) (members : List Member) → has_member s members ≡ has (submissions_of members) s
 has_submissions s [] = refl
 has_submissions s (m ∷ members) = ap (λ b. eqb m.submission s || b) (has_submissions s members)
+
+pub submissions_from : (first : ℕ) (list olds : List ℕ) → length list ≡ length olds → submissions_of (members_from first list olds) ≡ list
+submissions_from first [] olds e = refl
+submissions_from first (m ∷ list) [] e = absurd (omega arith)
+submissions_from first (m ∷ list) (o ∷ olds) e = ap (λ ms. m ∷ ms) (submissions_from (first + 1) list olds (omega arith))
+
+-- members are known where their submissions are
+pub members_are : (n : ℕ) (members : List Member) → AreKnown n (submissions_of members) → All (λ m. IsKnown n m.submission) members
+members_are n members known = λ k d l.
+    let len : k < length (submissions_of members) = omega (arith, length-map members (λ (m : Member). m.submission)) in
+    subst (λ (s : ℕ). IsKnown n s) (get_or-map (λ (m : Member). m.submission) members k d 0 l) (known k 0 len)
 
 -- a submission of a list of known ones is known
 known_of : (n s : ℕ) (list : List ℕ) → AreKnown n list → has list s ≡ true → IsKnown n s
