@@ -1,5 +1,5 @@
 -- The rejudging of a number, which is open, and what closing it makes.
-use Rattle.std.proofs.Common.{ℕ, ◌≡◌, ◌-◌, List, [], ◌∷◌, Option, Some, None, Bool, true, false, cond, refl, ap, ◌∙◌, set, map, nat_lt}
+use Rattle.std.proofs.Common.{ℕ, ◌≡◌, ◌-◌, List, [], ◌∷◌, Option, Some, None, true, false, cond, refl, ap, ◌∙◌, set, nat_lt}
 use Rattle.std.specs.List.{slice_get}
 use Rattle.std.specs.Option.{option_map, option_and_then, is_some}
 use Rattle.farm_kinds.specs.declared.outcomes.How.{How}
@@ -8,10 +8,8 @@ use Rattle.farm_model.specs.declared.records.RejudgeState.{RejudgeState}
 use Rattle.farm_model.specs.declared.records.RejudgeState.TheVariants as state
 use Rattle.farm_model.specs.Numbered.{item_of, change_item}
 use Rattle.farm_model.specs.Refusing.{first_of, unless}
-use Rattle.std.proofs.lemmas.List.{map-set}
 use Rattle.std.proofs.lemmas.Option.{slice_get-map}
 use Rattle.rejudge_book.specs.declared.book.Kept.{Kept}
-use Rattle.rejudge_book.specs.declared.faults.CloseFault.{CloseFault}
 use Rattle.rejudge_book.specs.declared.faults.CloseFault.TheVariants as close
 use Rattle.rejudge_book.specs.Rejudgings.{how_closed, close_as, closed}
 use Rattle.rejudge_book.specs.Refusals.{close_refusal}

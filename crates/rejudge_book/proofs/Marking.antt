@@ -1,19 +1,18 @@
 -- What the marks of submissions say of rejudgings, and keep saying where one is prepared or closed.
-use Rattle.std.proofs.Common.{ℕ, suc, zero, ◌≡◌, ◌≢◌, ◌+◌, ◌-◌, ◌<◌, ◌≤◌, List, [], ◌∷◌, ◌++◌, Option, Some, None, Bool, true, false, cond, refl, sym, ap, ◌∙◌, subst, arith, length, map, get_or, set, eqb, inl, inr, ◌&&◌, ◌||◌}
-use Rattle.std.specs.List.{list_any, slice_get, All}
+use Rattle.std.proofs.Common.{ℕ, suc, zero, ◌≡◌, ◌≢◌, ◌+◌, ◌-◌, ◌<◌, ◌≤◌, List, [], ◌∷◌, ◌++◌, Option, Some, None, true, false, cond, refl, sym, ap, ◌∙◌, subst, arith, length, map, get_or, set, eqb, inl, inr, ◌&&◌, ◌||◌}
+use Rattle.std.specs.List.{slice_get, All}
 use Rattle.std.specs.Option.{option_map, option_map_or}
-use Rattle.std.proofs.lemmas.Bool.{eqb-true, eq-eqb, eqb-false, ne_eqb, or_cases, or_left, or_right, cases_Bool, cases_eq, cases_lt, false_from_ne_true, and_parts, and_from}
+use Rattle.std.proofs.lemmas.Bool.{eqb-true, eq-eqb, ne_eqb, or_cases, or_left, or_right, cases_Bool, cases_eq, cases_lt, false_from_ne_true, and_parts}
 use Rattle.std.proofs.lemmas.List.{get_or-set_same, get_or-set_other, length-set, length-map, get_or-map, get_or_past}
 use Rattle.farm_kinds.specs.declared.outcomes.How.{How}
 use Rattle.farm_kinds.specs.declared.outcomes.How.TheVariants as how
 use Rattle.farm_model.specs.declared.records.Member.{Member}
 use Rattle.farm_model.specs.declared.records.Rejudging.{Rejudging}
-use Rattle.farm_model.specs.declared.records.RejudgeState.{RejudgeState}
 use Rattle.farm_model.specs.declared.records.RejudgeState.TheVariants as state
 use Rattle.farm_model.specs.Refusing.{first_of}
 use Rattle.rejudge_book.specs.declared.faults.BookFault.{BookFault}
 use Rattle.rejudge_book.specs.declared.faults.BookFault.TheVariants as fault
-use Rattle.rejudge_book.specs.Rejudgings.{is_pending, has_member, holds_open, busy_with, members_from, close_as, state_when}
+use Rattle.rejudge_book.specs.Rejudgings.{is_pending, has_member, holds_open, busy_with, members_from, close_as}
 use Rattle.rejudge_book.specs.Refusals.{IsKnown, AreKnown, busy_fault, busy_refusal}
 use Rattle.rejudge_book.specs.Marks.{mark_of, with_marks, submissions_of, marked, marked_fault, marked_refusal, IsIn, AreMarks}
 use Rattle.rejudge_book.proofs.Places.{passes, passes_before, passes_still, passes_last, passes_set_same, passes_set_other, none_passes, one_passes}
@@ -31,13 +30,13 @@ marked_is m some = ap (λ b. cond b None (Some m)) (ne_eqb m 0 (λ e. absurd (om
 busy_at : (rs : List Rejudging) (marks : List ℕ) (s m : ℕ) → AreMarks rs marks → 1 ≤ s → mark_of marks s ≡ m → busy_with rs s ≡ marked m
 busy_at rs marks s zero h some e =
     ap (option_map (λ i. i + 1)) (none_passes (holds_open s) rs (λ i t.
-      let f = h.filed i s (record { holds = t }) in
-      omega (arith, f, e)))
+    let f = h.filed i s (record { holds = t }) in
+    omega (arith, f, e)))
 busy_at rs marks s (suc j) h some e =
     let own = mark_at rs marks s j h some (omega (arith, e)) in
     let first = one_passes (holds_open s) rs j own.holds (λ i t.
-      let f = h.filed i s (record { holds = t }) in
-      omega (arith, f, e)) in
+    let f = h.filed i s (record { holds = t }) in
+    omega (arith, f, e)) in
     ap (option_map (λ i. i + 1)) first ∙ (ap Some (omega arith) ∙ sym (marked_is (suc j) (omega arith)))
 
 -- the rejudging that a submission is in is its mark
@@ -86,13 +85,13 @@ marks_at marks (s ∷ list) number k known =
     let ih = marks_at (set marks (s - 1) number) list number k rest in
     elim (cases_eq s (k + 1)) [
       | inl e ↦
-        let here : get_or (set marks (s - 1) number) k 0 ≡ number = rw (let same : s - 1 ≡ k = omega arith in same) (get_or-set_same marks k number 0 (omega (arith, own.numbered, own.within))) in
-        let t : has (s ∷ list) (k + 1) ≡ true = or_left (eqb s (k + 1)) (has list (k + 1)) (eq-eqb s (k + 1) e) in
-        ih ∙ (ap (λ v. cond (has list (k + 1)) number v) here ∙ (elim (has list (k + 1)) as (λ b. cond b number number ≡ number) [ true ↦ refl | false ↦ refl ] ∙ sym (ap (λ b. cond b number (get_or marks k 0)) t)))
+          let here : get_or (set marks (s - 1) number) k 0 ≡ number = rw (let same : s - 1 ≡ k = omega arith in same) (get_or-set_same marks k number 0 (omega (arith, own.numbered, own.within))) in
+          let t : has (s ∷ list) (k + 1) ≡ true = or_left (eqb s (k + 1)) (has list (k + 1)) (eq-eqb s (k + 1) e) in
+          ih ∙ (ap (λ v. cond (has list (k + 1)) number v) here ∙ (elim (has list (k + 1)) as (λ b. cond b number number ≡ number) [ true ↦ refl | false ↦ refl ] ∙ sym (ap (λ b. cond b number (get_or marks k 0)) t)))
       | inr ne ↦
-        let there : get_or (set marks (s - 1) number) k 0 ≡ get_or marks k 0 = get_or-set_other marks (s - 1) k number 0 (λ x. ne (omega (arith, own.numbered, x))) in
-        let f : eqb s (k + 1) ≡ false = ne_eqb s (k + 1) ne in
-        ih ∙ (ap (λ v. cond (has list (k + 1)) number v) there ∙ sym (ap (λ b. cond (b || has list (k + 1)) number (get_or marks k 0)) f))
+          let there : get_or (set marks (s - 1) number) k 0 ≡ get_or marks k 0 = get_or-set_other marks (s - 1) k number 0 (λ x. ne (omega (arith, own.numbered, x))) in
+          let f : eqb s (k + 1) ≡ false = ne_eqb s (k + 1) ne in
+          ih ∙ (ap (λ v. cond (has list (k + 1)) number v) there ∙ sym (ap (λ b. cond (b || has list (k + 1)) number (get_or marks k 0)) f))
     ]
 
 -- the mark of a submission that was not marked, or was
@@ -155,25 +154,25 @@ opened rs r marks list h known free is_open of_list =
       ];
       filed = λ i s t. elim (cases_eq i (length rs)) [
         | inl e ↦
-          let own : has list s ≡ true = sym (holds_is s) ∙ (sym (passes_last (holds_open s) rs r) ∙ subst (λ (x : ℕ). passes (holds_open s) (rs ++ r ∷ []) x ≡ true) e t.holds) in
-          let made = mark_made marks list (length rs + 1) s known (known_of (length marks) s list known own).numbered own in
-          omega (arith, made, e)
+            let own : has list s ≡ true = sym (holds_is s) ∙ (sym (passes_last (holds_open s) rs r) ∙ subst (λ (x : ℕ). passes (holds_open s) (rs ++ r ∷ []) x ≡ true) e t.holds) in
+            let made = mark_made marks list (length rs + 1) s known (known_of (length marks) s list known own).numbered own in
+            omega (arith, made, e)
         | inr ne ↦
-          let before : IsIn rs i s = record { holds = sym (passes_before (holds_open s) rs r i ne) ∙ t.holds } in
-          let was = h.filed i s before in
-          let none : has list s ≡ false = false_from_ne_true (has list s) (λ own. let zero_mark = unmarked marks list s free own in omega (arith, was, zero_mark)) in
-          mark_kept marks list (length rs + 1) s known (h.numbered i s before) none ∙ was
+            let before : IsIn rs i s = record { holds = sym (passes_before (holds_open s) rs r i ne) ∙ t.holds } in
+            let was = h.filed i s before in
+            let none : has list s ≡ false = false_from_ne_true (has list s) (λ own. let zero_mark = unmarked marks list s free own in omega (arith, was, zero_mark)) in
+            mark_kept marks list (length rs + 1) s known (h.numbered i s before) none ∙ was
       ];
       true_marks = λ i k e.
           let at = marks_at marks list (length rs + 1) k known in
           elim (cases_Bool (has list (k + 1))) [
             | inl own ↦
-              let is : length rs + 1 ≡ i + 1 = sym (ap (λ b. cond b (length rs + 1) (get_or marks k 0)) own) ∙ (sym at ∙ e) in
-              let last : i ≡ length rs = omega (arith, is) in
-              record { holds = subst (λ (x : ℕ). passes (holds_open (k + 1)) (rs ++ r ∷ []) x ≡ true) (sym last) (passes_last (holds_open (k + 1)) rs r ∙ (holds_is (k + 1) ∙ own)) }
+                let is : length rs + 1 ≡ i + 1 = sym (ap (λ b. cond b (length rs + 1) (get_or marks k 0)) own) ∙ (sym at ∙ e) in
+                let last : i ≡ length rs = omega (arith, is) in
+                record { holds = subst (λ (x : ℕ). passes (holds_open (k + 1)) (rs ++ r ∷ []) x ≡ true) (sym last) (passes_last (holds_open (k + 1)) rs r ∙ (holds_is (k + 1) ∙ own)) }
             | inr none ↦
-              let is : get_or marks k 0 ≡ i + 1 = sym (ap (λ b. cond b (length rs + 1) (get_or marks k 0)) none) ∙ (sym at ∙ e) in
-              record { holds = passes_still (holds_open (k + 1)) rs r i (h.true_marks i k is).holds }
+                let is : get_or marks k 0 ≡ i + 1 = sym (ap (λ b. cond b (length rs + 1) (get_or marks k 0)) none) ∙ (sym at ∙ e) in
+                record { holds = passes_still (holds_open (k + 1)) rs r i (h.true_marks i k is).holds }
           ];
     }
 
@@ -207,9 +206,9 @@ marks_closed rs marks i r w h at is_open =
     let list = submissions_of r.members in
     let other : (j s : ℕ) → IsIn (set rs i (close_as w r)) j s → j ≢ i
     = λ j s t e.
-      let same = passes_set_same (holds_open s) rs i r (close_as w r) at ∙ not_pending w s r in
-      let t' : passes (holds_open s) (set rs i (close_as w r)) i ≡ true = subst (λ (x : ℕ). passes (holds_open s) (set rs i (close_as w r)) x ≡ true) e t.holds in
-      cc in
+    let same = passes_set_same (holds_open s) rs i r (close_as w r) at ∙ not_pending w s r in
+    let t' : passes (holds_open s) (set rs i (close_as w r)) i ≡ true = subst (λ (x : ℕ). passes (holds_open s) (set rs i (close_as w r)) x ≡ true) e t.holds in
+    cc in
     let before : (j s : ℕ) → IsIn (set rs i (close_as w r)) j s → IsIn rs j s
     = λ j s t. record { holds = sym (passes_set_other (holds_open s) rs i j (close_as w r) (other j s t)) ∙ t.holds } in
     record {
@@ -217,24 +216,24 @@ marks_closed rs marks i r w h at is_open =
       filed = λ j s t.
           let was = h.filed j s (before j s t) in
           let none : has list s ≡ false = false_from_ne_true (has list s) (λ own.
-            let mark = h.filed i s (in_it rs i s r at is_open (has_submissions s r.members ∙ own)) in
-            other j s t (omega (arith, was, mark))) in
+          let mark = h.filed i s (in_it rs i s r at is_open (has_submissions s r.members ∙ own)) in
+          other j s t (omega (arith, was, mark))) in
           mark_kept marks list 0 s known (h.numbered j s (before j s t)) none ∙ was;
       true_marks = λ j k e.
           let marked_at = marks_at marks list 0 k known in
           elim (cases_Bool (has list (k + 1))) [
             | inl own ↦
-              let is : 0 ≡ j + 1 = sym (ap (λ b. cond b 0 (get_or marks k 0)) own) ∙ (sym marked_at ∙ e) in
-              absurd (omega (arith, is))
+                let is : 0 ≡ j + 1 = sym (ap (λ b. cond b 0 (get_or marks k 0)) own) ∙ (sym marked_at ∙ e) in
+                absurd (omega (arith, is))
             | inr none ↦
-              let is : get_or marks k 0 ≡ j + 1 = sym (ap (λ b. cond b 0 (get_or marks k 0)) none) ∙ (sym marked_at ∙ e) in
-              let was = h.true_marks j k is in
-              let apart : j ≢ i
-              = λ same.
+                let is : get_or marks k 0 ≡ j + 1 = sym (ap (λ b. cond b 0 (get_or marks k 0)) none) ∙ (sym marked_at ∙ e) in
+                let was = h.true_marks j k is in
+                let apart : j ≢ i
+                = λ same.
                 let there : passes (holds_open (k + 1)) rs i ≡ true = subst (λ (x : ℕ). passes (holds_open (k + 1)) rs x ≡ true) same was.holds in
                 let own : has_member (k + 1) r.members ≡ true = (and_parts (is_pending r.state) (has_member (k + 1) r.members) (sym (ap (λ o. option_map_or (holds_open (k + 1)) o false) at) ∙ there)).1 in
                 let listed = sym (has_submissions (k + 1) r.members) ∙ own in
                 cc in
-              record { holds = passes_set_other (holds_open (k + 1)) rs i j (close_as w r) apart ∙ was.holds }
+                record { holds = passes_set_other (holds_open (k + 1)) rs i j (close_as w r) apart ∙ was.holds }
           ];
     }

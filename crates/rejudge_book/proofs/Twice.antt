@@ -1,9 +1,9 @@
 -- How the first submission that stood earlier in a list is found, without a look at all that stand before it.
-use Rattle.std.proofs.Common.{ℕ, ◌≡◌, ◌≢◌, ◌+◌, ◌-◌, ◌<◌, ◌≤◌, List, [], ◌∷◌, Option, Some, None, Bool, true, false, cond, refl, sym, ap, ◌∙◌, subst, arith, length, drop, get_or, set, eqb, inl, inr}
+use Rattle.std.proofs.Common.{ℕ, ◌≡◌, ◌≢◌, ◌+◌, ◌-◌, ◌<◌, List, [], ◌∷◌, Some, Bool, true, false, cond, refl, sym, ap, ◌∙◌, subst, arith, length, drop, get_or, set, eqb, inl, inr}
 use Rattle.std.specs.List.{list_any}
 use Rattle.std.proofs.lemmas.Bool.{eqb-true, eq-eqb, or_cases, or_left, or_right, cases_order, false_from_ne_true}
 use Rattle.std.proofs.lemmas.List.{at_drop_more, get_or-set_same, get_or-set_other}
-use Rattle.rejudge_book.specs.Refusals.{first_twice_after, first_twice, IsKnown, AreKnown}
+use Rattle.rejudge_book.specs.Refusals.{first_twice_after, first_twice, AreKnown}
 
 -- the list has the submission
 abbrev pub has : List ℕ → ℕ → Bool
@@ -44,9 +44,9 @@ IsNew list places at = get_or places (get_or list at 0 - 1) 0 < at → get_or li
 new : (list places : List ℕ) (at : ℕ) (h : IsSeen list places at) → IsNew list places at → has h.earlier (get_or list at 0) ≡ false
 new list places at h fresh =
     false_from_ne_true (has h.earlier (get_or list at 0)) (λ t.
-      let k = h.among (get_or list at 0) t in
-      let is : get_or places (get_or list at 0 - 1) 0 ≡ k.0 = sym (ap (λ (m : ℕ). get_or places (m - 1) 0) k.2) ∙ h.written k.0 k.1 in
-      fresh (omega (arith, is, k.1)) (ap (λ (p : ℕ). get_or list p 0) is ∙ k.2))
+    let k = h.among (get_or list at 0) t in
+    let is : get_or places (get_or list at 0 - 1) 0 ≡ k.0 = sym (ap (λ (m : ℕ). get_or places (m - 1) 0) k.2) ∙ h.written k.0 k.1 in
+    fresh (omega (arith, is, k.1)) (ap (λ (p : ℕ). get_or list p 0) is ∙ k.2))
 
 pub seen_more : (list places : List ℕ) (at : ℕ) → IsSeen list places at → at < length list → AreKnown (length places) list → IsNew list places at → IsSeen list (set places (get_or list at 0 - 1) at) (at + 1)
 seen_more list places at h l known fresh =
@@ -57,10 +57,10 @@ seen_more list places at h l known fresh =
     let same : has (m ∷ h.earlier) m ≡ true = or_left (eqb m m) (has h.earlier m) (eq-eqb m m refl) in
     let apart : (k : ℕ) → k < at → get_or list k 0 - 1 ≢ m - 1
     = λ k b e.
-      let other = known k 0 (omega arith) in
-      let is : get_or list k 0 ≡ m = omega (arith, e, other.numbered, own.numbered) in
-      let t : has h.earlier m ≡ true = subst (λ (x : ℕ). has h.earlier x ≡ true) is (h.there k b) in
-      cc in
+    let other = known k 0 (omega arith) in
+    let is : get_or list k 0 ≡ m = omega (arith, e, other.numbered, own.numbered) in
+    let t : has h.earlier m ≡ true = subst (λ (x : ℕ). has h.earlier x ≡ true) is (h.there k b) in
+    cc in
     record {
       earlier = m ∷ h.earlier;
       rest = sym (ap (λ t. cond t (Some m) (first_twice_after (m ∷ h.earlier) (drop (at + 1) list))) none) ∙ (sym (step list h.earlier at l) ∙ h.rest);

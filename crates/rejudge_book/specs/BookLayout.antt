@@ -1,5 +1,5 @@
 -- How a book lies in memory.
-use Rattle.std.specs.Prelude.{◌≡◌, ℕ, ◌-◌, List, [], length, map, min, vec_len, vec_capacity, nat_lt, if◌then◌else◌}
+use Rattle.std.specs.Prelude.{◌≡◌, ℕ, ◌-◌, List, [], map, min, vec_len, vec_capacity, nat_lt, if◌then◌else◌}
 use Rattle.farm_model.specs.declared.records.Rejudging.{Rejudging}
 use Rattle.rejudge_book.specs.declared.book.Kept.{Kept}
 use Rattle.rejudge_book.specs.declared.book.RejudgeBook.TheInside.{Inside}

@@ -3,3 +3,4 @@ pub mod Refusals
 pub mod Marks
 pub mod Book
 pub mod BookLayout
+pub mod Matrix

@@ -1,8 +1,7 @@
-use Rattle.std.proofs.Common.{◌≡◌, ◌+◌, ◌-◌, ◌<◌, ℕ, List, [], ◌∷◌, Option, Some, None, refl, sym, ap, ◌∙◌, subst, arith, rules, length, map, set, get_or, vec_len, vec_capacity, min}
-use Rattle.std.specs.List.{slice_get}
-use Rattle.std.specs.Option.{option_map, option_copied}
+use Rattle.std.proofs.Common.{◌≡◌, ◌-◌, ℕ, List, Some, sym, ap, ◌∙◌, arith, length, set, vec_len, vec_capacity, min}
+use Rattle.std.specs.Option.{option_copied}
 use Rattle.std.proofs.lemmas.List.{map-set}
-use Rattle.std.proofs.lemmas.Option.{slice_get-map, slice_get_within, get_or_from_slice_get}
+use Rattle.std.proofs.lemmas.Option.{slice_get_within, get_or_from_slice_get}
 use Rattle.farm_model.specs.declared.records.Member.{Member}
 use Rattle.farm_model.specs.declared.records.Rejudging.{Rejudging}
 use Rattle.farm_model.specs.declared.records.RejudgeState.{RejudgeState}
@@ -10,7 +9,7 @@ use Rattle.farm_model.specs.declared.records.RejudgeState.TheVariants as state
 use Rattle.farm_model.specs.Numbered.{item_of}
 use Rattle.rejudge_book.specs.declared.book.Kept.{Kept}
 use Rattle.rejudge_book.specs.Rejudgings.{close_as, closed}
-use Rattle.rejudge_book.specs.Refusals.{AreKnown, close_refusal}
+use Rattle.rejudge_book.specs.Refusals.{close_refusal}
 use Rattle.rejudge_book.specs.Marks.{submissions_of, with_marks}
 use Rattle.rejudge_book.specs.Book.{Book, with_closed}
 use Rattle.rejudge_book.specs.BookLayout.{rejudging_of, rejudgings_of, book_value}

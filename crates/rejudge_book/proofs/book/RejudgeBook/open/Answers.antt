@@ -1,4 +1,4 @@
-use Rattle.std.proofs.Common.{◌≡◌, ◌+◌, ℕ, List, [], ◌∷◌, ◌++◌, Option, None, refl, sym, ap, ◌∙◌, subst, arith, rules, length, map, vec_len}
+use Rattle.std.proofs.Common.{◌≡◌, ◌+◌, ℕ, List, [], ◌∷◌, ◌++◌, None, refl, sym, ap, ◌∙◌, subst, arith, rules, length, vec_len}
 use Rattle.std.proofs.lemmas.List.{map_push, length-map}
 use Rattle.farm_model.specs.declared.records.Member.{Member}
 use Rattle.farm_model.specs.declared.records.Rejudging.{Rejudging}
@@ -6,7 +6,7 @@ use Rattle.farm_model.specs.declared.records.RejudgeState.TheVariants as state
 use Rattle.rejudge_book.specs.declared.book.Kept.{Kept}
 use Rattle.rejudge_book.specs.Rejudgings.{members_from}
 use Rattle.rejudge_book.specs.Refusals.{AreKnown, busy_refusal}
-use Rattle.rejudge_book.specs.Marks.{AreMarks, marked_refusal, submissions_of, with_marks}
+use Rattle.rejudge_book.specs.Marks.{marked_refusal, submissions_of, with_marks}
 use Rattle.rejudge_book.specs.Book.{Book}
 use Rattle.rejudge_book.specs.BookLayout.{rejudging_of, rejudgings_of}
 use Rattle.rejudge_book.proofs.Marking.{has_members, members_are, opened, refusal_is, submissions_from}

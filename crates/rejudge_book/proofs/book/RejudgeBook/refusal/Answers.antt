@@ -1,7 +1,6 @@
-use Rattle.std.proofs.Common.{◌≡◌, ℕ, List, [], ◌∷◌, Option, None, sym, ap, ◌∙◌, rules}
+use Rattle.std.proofs.Common.{◌≡◌, [], ◌∷◌, None, sym, ap, ◌∙◌, rules}
 use Rattle.farm_model.specs.Refusing.{first_of}
-use Rattle.rejudge_book.specs.declared.faults.BookFault.{BookFault}
-use Rattle.rejudge_book.specs.Refusals.{twice_refusal, busy_refusal, reserve_refusal}
+use Rattle.rejudge_book.specs.Refusals.{twice_refusal, busy_refusal}
 use Rattle.rejudge_book.specs.Marks.{marked_refusal}
 use Rattle.rejudge_book.specs.Book.{Book}
 use Rattle.rejudge_book.specs.BookLayout.{rejudgings_of}
