@@ -1,0 +1,12 @@
+//! The audit log: who did what, in entries that are chained by their digests. Each digest, a SHA-256 of
+//! FIPS 180-4, covers all that stands before it.
+#![tactic(auto)]
+
+mod chain;
+mod checking;
+mod log;
+#[cfg(test)]
+mod tests;
+
+pub use checking::check;
+pub use log::{Audit, Entry};

@@ -1,0 +1,6 @@
+pub mod Rejudgings
+pub mod Refusals
+pub mod Marks
+pub mod Book
+pub mod BookLayout
+pub mod Matrix

@@ -1,0 +1,61 @@
+-- Rejudgings, numbered from 1: their members, their states, and which of them a submission is in.
+use Rattle.std.specs.Prelude.{ℕ, ◌+◌, List, [], ◌∷◌, ◌++◌, Option, Some, None, Bool, true, false, ◌&&◌, ◌==◌}
+use Rattle.std.specs.List.{list_any}
+use Rattle.std.specs.Option.{option_map, option_and_then}
+use Rattle.farm_kinds.specs.declared.outcomes.How.{How}
+use Rattle.farm_kinds.specs.declared.outcomes.How.TheVariants as how
+use Rattle.farm_model.specs.declared.records.Member.{Member}
+use Rattle.farm_model.specs.declared.records.Rejudging.{Rejudging}
+use Rattle.farm_model.specs.declared.records.RejudgeState.{RejudgeState}
+use Rattle.farm_model.specs.declared.records.RejudgeState.TheVariants as state
+use Rattle.farm_model.specs.Numbered.{item_of, with_change, number_where}
+
+abbrev pub is_pending : RejudgeState → Bool
+is_pending state.Open = true
+is_pending state.Applied = false
+is_pending state.Cancelled = false
+
+abbrev pub has_member : ℕ → List Member → Bool
+has_member submission members = list_any (λ member. member.submission == submission) members
+
+-- the rejudging is neither applied nor cancelled, and the submission is in it
+abbrev pub holds_open : ℕ → Rejudging → Bool
+holds_open submission rejudging = is_pending rejudging.state && has_member submission rejudging.members
+
+-- the number of the rejudging, neither applied nor cancelled, that the submission is in
+abbrev pub busy_with : List Rejudging → ℕ → Option ℕ
+busy_with rejudgings submission = number_where (holds_open submission) rejudgings
+
+-- the members, whose new judgings are numbered from first
+abbrev pub members_from : ℕ → List ℕ → List ℕ → List Member
+members_from first (submission ∷ list) (old ∷ olds) = record { submission = submission; old = old; new = first } ∷ members_from (first + 1) list olds
+members_from first list olds = []
+
+-- one more rejudging, which is open
+abbrev pub prepared : List Rejudging → List ℕ → List ℕ → ℕ → List Rejudging
+prepared rejudgings list olds first = rejudgings ++ (record { members = members_from first list olds; state = state.Open }) ∷ []
+
+abbrev pub members_of : List Rejudging → ℕ → Option (List Member)
+members_of rejudgings number = option_map (λ r. r.members) (item_of rejudgings number)
+
+abbrev pub state_of : List Rejudging → ℕ → Option RejudgeState
+state_of rejudgings number = option_map (λ r. r.state) (item_of rejudgings number)
+
+abbrev pub how_closed : RejudgeState → Option How
+how_closed state.Open = None
+how_closed state.Applied = Some how.Applied
+how_closed state.Cancelled = Some how.Cancelled
+
+abbrev pub state_when : How → RejudgeState
+state_when how.Applied = state.Applied
+state_when how.Cancelled = state.Cancelled
+
+abbrev pub closed_how : List Rejudging → ℕ → Option How
+closed_how rejudgings number = option_and_then how_closed (state_of rejudgings number)
+
+abbrev pub close_as : How → Rejudging → Rejudging
+close_as h rejudging = record rejudging { state = state_when h }
+
+-- the rejudging of this number is closed
+abbrev pub closed : List Rejudging → ℕ → How → List Rejudging
+closed rejudgings number h = with_change rejudgings number (close_as h)

@@ -1,0 +1,23 @@
+use farm_kinds::How;
+
+/// Why a rejudging is not prepared, or why no room is made for it.
+#[derive(Clone, Copy, Debug, PartialEq, Eq)]
+pub enum BookFault {
+    /// The list is empty.
+    EmptySet,
+    /// The submission stood earlier in the list. It is the first such one of the list.
+    Twice { submission: u32 },
+    /// The submission is in a rejudging that is open. It is the first such one of the list.
+    Busy { submission: u32, rejudging: u32 },
+    /// No memory was left.
+    NoMemory,
+}
+
+/// Why a rejudging is not closed.
+#[derive(Clone, Copy, Debug, PartialEq, Eq)]
+pub enum CloseFault {
+    /// No rejudging has the number.
+    NoRejudging,
+    /// The rejudging is closed, in this way.
+    Closed { how: How },
+}

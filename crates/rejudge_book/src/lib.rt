@@ -1,0 +1,17 @@
+//! The rejudge book: which submissions are judged anew out of sight, in which rejudging, and how each
+//! rejudging was closed.
+#![tactic(auto)]
+
+mod book;
+mod faults;
+mod lists;
+mod matrices;
+mod members;
+#[cfg(test)]
+mod tests;
+
+pub use book::RejudgeBook;
+pub use farm_model::{Member, RejudgeState};
+pub use faults::{BookFault, CloseFault};
+pub use matrices::matrix;
+pub use members::Members;
