@@ -24,7 +24,9 @@ pub struct Entry {
 pub struct Audit {
     alloc: Global,
     entries: Vec<Entry>,
+    /// The last digest.
     head: [u8; 32],
+    /// The room for the text of the next entry.
     ready: Vec<u8>,
 }
 

@@ -23,13 +23,16 @@ struct Kept {
 /// The rejudgings and the submissions, both numbered from 1. A submission is in at most one rejudging that
 /// is open.
 ///
-/// For each submission a mark is kept, the number of the open rejudging that it is in, or 0.
+/// Contracts see the rejudgings, the number of submissions, and how much room there is for more of both.
 #[derive(Drop)]
 pub struct RejudgeBook {
     alloc: Global,
     rejudgings: Vec<Kept>,
+    /// For each submission the number of the open rejudging that it is in, or 0.
     marks: Vec<u32>,
+    /// For each submission a place of its own, where it is written at which index of a list it stood.
     places: Vec<usize>,
+    /// The room for the members of the next rejudging.
     ready: Vec<Member>,
 }
 
