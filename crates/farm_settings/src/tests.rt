@@ -1,6 +1,6 @@
 use crate::worked::{worked_faults, worked_texts, worked_values};
 use crate::{Setting, Settings, SettingsFault, read_settings};
-use farm_kinds::{Kind, Mode, Rule};
+use farm_kinds::{Kind, Mode, NoMemory, Rule};
 use std::alloc::{AllocError, Global};
 use std::test::Fail;
 
@@ -145,11 +145,8 @@ fn nests_to_127(rt: HostRuntime) -> Result<(), Fail> {
 }
 
 /// The settings of a text that has no fault.
-fn settings(alloc: Global, text: &[u8]) -> Result<Settings, Fail> {
-    match read_settings(alloc, text) {
-        Ok(settings) => Ok(settings),
-        Err(_) => Err(Fail::from(AllocError)),
-    }
+fn settings(alloc: Global, text: &[u8]) -> Result<Settings, NoMemory> {
+    read_settings(alloc, text).map_err(|_| NoMemory)
 }
 
 #[test]
@@ -172,7 +169,7 @@ fn says_all(rt: HostRuntime) -> Result<(), Fail> {
         b"{\"verification_required\": true, \"results_remap\": {\"no-output\": \"wrong-answer\"},
         \"results_prio\": {\"timelimit\": 100, \"correct\": 0}, \"lease\": 5,
         \"lazy_eval_results\": false, \"instructions_per_second\": 2000}";
-    let settings = settings(rt.alloc(), text)?;
+    let settings = settings(rt.alloc(), text)?.copy()?;
     assert_eq!(rt; settings.mode(), Mode::Full);
     assert_eq!(rt; settings.lease(), 5);
     assert_eq!(rt; settings.verification(), true);
