@@ -23,7 +23,7 @@ from itertools import product
 sys.dont_write_bytecode = True
 
 from rule_model import KINDS, Rule  # noqa: E402
-from run import OUT, TOP  # noqa: E402
+from run import OUT, program_and_numbers  # noqa: E402
 
 JUDGINGS_PER_SETTINGS = 10
 TESTS = [2, 3, 4]
@@ -190,13 +190,9 @@ def compare(program, count):
 
 
 def main():
-    words = sys.argv[1:]
-    program = os.path.join(TOP, "crates", "farm", "out", "farm")
-    if words and not words[0].isdigit():
-        program = words.pop(0)
-    os.makedirs(OUT, exist_ok=True)
+    program, numbers = program_and_numbers(sys.argv[1:])
     start = time.perf_counter()
-    counts, fault = compare(os.path.abspath(program), int(words[0]) if words else 5_000)
+    counts, fault = compare(program, numbers[0] if numbers else 5_000)
     seconds = time.perf_counter() - start
     print(f"{counts['rows']:,} rows of {counts['judgings']:,} judgings under {counts['settings']:,} settings: {seconds:.1f} s")
     print(f"  {counts['early']:,} rows are final with empty cells")

@@ -10,13 +10,12 @@ and whether the replies are those of an independent model, byte for byte.
 """
 
 import filecmp
-import os
 import sys
 
 sys.dont_write_bytecode = True
 
 from hosts_model import write_contest  # noqa: E402
-from run import OUT, TOP, most_memory, path, run  # noqa: E402
+from run import most_memory, path, program_and_numbers, run  # noqa: E402
 
 SIZES = [1_000, 10_000, 100_000]
 
@@ -37,13 +36,8 @@ def measure(program, submissions):
 
 
 def main():
-    words = sys.argv[1:]
-    program = os.path.join(TOP, "crates", "farm", "out", "farm")
-    if words and not words[0].isdigit():
-        program = words.pop(0)
-    os.makedirs(OUT, exist_ok=True)
-    sizes = [int(word) for word in words] or SIZES
-    return 0 if all([measure(os.path.abspath(program), size) for size in sizes]) else 1
+    program, sizes = program_and_numbers(sys.argv[1:])
+    return 0 if all([measure(program, size) for size in sizes or SIZES]) else 1
 
 
 if __name__ == "__main__":

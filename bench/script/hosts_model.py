@@ -8,6 +8,7 @@ The model keeps what is open in a heap and leases in a dictionary, which is not 
 import heapq
 import random
 
+from line_writer import LineWriter
 from rule_model import KINDS, Rule
 
 HOSTS = 1_000
@@ -18,16 +19,11 @@ HELD = 64
 CLASSES = ["high", "normal", "low"]
 
 
-class Contest:
-    """Writes lines and the replies to them. Each line has exactly one reply."""
+class Contest(LineWriter):
+    """A contest whose results come from hosts and from outside."""
 
     def __init__(self, lines, replies):
-        self.lines = lines
-        self.replies = replies
-        self.count = 0
-        self.size = 0
-        self.replied = 0
-        self.reply_size = 0
+        super().__init__(lines, replies)
         self.rule = Rule()
         self.random = random.Random(5)
         self.now = 0
@@ -43,14 +39,6 @@ class Contest:
         self.down_hosts = []
         # Tasks that were handed out and have no result yet, with the host that had each last.
         self.handed = []
-
-    def put(self, line, reply):
-        self.lines.write(line + "\n")
-        self.replies.write(reply + "\n")
-        self.count += 1
-        self.size += len(line) + 1
-        self.replied += 1
-        self.reply_size += len(reply) + 1
 
     def start(self):
         for number in range(PROBLEMS):

@@ -39,6 +39,15 @@ SCRIPTS = [
 ]
 
 
+def program_and_numbers(words):
+    """The program that the first word names, or else the built one, and the numbers behind it."""
+    program = os.path.join(TOP, "crates", "farm", "out", "farm")
+    if words and not words[0].isdigit():
+        program, words = words[0], words[1:]
+    os.makedirs(OUT, exist_ok=True)
+    return os.path.abspath(program), [int(word) for word in words]
+
+
 def path(name, ending):
     return os.path.join(OUT, re.sub(r"\W+", "_", name) + ending)
 

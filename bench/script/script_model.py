@@ -7,6 +7,7 @@ about any of them.
 
 import random
 
+from line_writer import LineWriter
 from rule_model import KINDS, Rule
 
 PROBLEMS = 1_000
@@ -15,34 +16,15 @@ TESTS = 5
 SUBMISSIONS = 100_000
 
 
-class Script:
-    """Writes lines and the replies to them. Each line but the comments has exactly one reply."""
+class Script(LineWriter):
+    """A contest whose results all come from outside."""
 
     def __init__(self, lines, replies, comment=0):
-        self.lines = lines
-        self.replies = replies
-        # How long the comment behind each line is, or 0 for none.
-        self.comment = comment
-        self.count = 0
-        self.size = 0
-        self.replied = 0
-        self.reply_size = 0
+        super().__init__(lines, replies, comment)
         self.rows = []
         self.waiting = []
         self.rule = Rule()
         self.random = random.Random(20)
-
-    def put(self, line, reply):
-        self.lines.write(line + "\n")
-        self.replies.write(reply + "\n")
-        self.count += 1
-        self.size += len(line) + 1
-        self.replied += 1
-        self.reply_size += len(reply) + 1
-        if self.comment:
-            self.lines.write("#" * self.comment + "\n")
-            self.count += 1
-            self.size += self.comment + 1
 
     def problem(self, number):
         self.put(f"problem p{number} {TESTS}", f"problem p{number} version 1")
