@@ -3,7 +3,7 @@ use Rattle.std.proofs.Common.{ℕ, ◌≡◌, ◌+◌, List, [], ◌∷◌, ◌+
 use Rattle.std.specs.List.{zip, position_from}
 use Rattle.std.proofs.lemmas.List.{map_push}
 use Rattle.std.proofs.lemmas.Slice.Eq.{bytes_eq-Decides}
-use Rattle.audit_log.specs.Chain.{first_digest, digest_after, digests_from, chain_digests, head_from, chain_head}
+use Rattle.farm_model.specs.Chain.{first_digest, digest_after, digests_from, chain_digests, head_from, chain_head}
 use Rattle.audit_log.specs.Entries.{texts_of, kept_digests, is_broken, first_broken}
 use Rattle.audit_log.specs.declared.log.Entry.{Entry}
 

@@ -2,7 +2,7 @@
 use Rattle.std.specs.Prelude.{ℕ, List, map, Option, Bool, not}
 use Rattle.std.specs.List.{zip, position_from}
 use Rattle.std.specs.Str.{bytes_eq}
-use Rattle.audit_log.specs.Chain.{first_digest, digests_from}
+use Rattle.farm_model.specs.Chain.{first_digest, digests_from}
 use Rattle.audit_log.specs.declared.log.Entry.{Entry}
 
 abbrev pub texts_of : List Entry → List (List ℕ)

@@ -1,6 +1,6 @@
 -- How an audit log lies in memory.
 use Rattle.std.specs.Prelude.{◌≡◌, ℕ, [], vec_len, vec_capacity, nat_lt, if◌then◌else◌}
-use Rattle.audit_log.specs.Chain.{chain_digests, chain_head}
+use Rattle.farm_model.specs.Chain.{chain_digests, chain_head}
 use Rattle.audit_log.specs.Entries.{texts_of, kept_digests}
 use Rattle.audit_log.specs.Log.{Log}
 use Rattle.audit_log.specs.declared.log.Audit.TheInside.{Inside}

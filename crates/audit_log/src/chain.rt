@@ -1,5 +1,5 @@
 ghost use Rattle.std.specs.Prelude.{◌≡◌};
-ghost use Rattle.audit_log.specs.Chain.{first_digest, digest_after};
+ghost use Rattle.farm_model.specs.Chain.{first_digest, digest_after};
 
 use sha2::{Digest, Sha256};
 

@@ -1,5 +1,5 @@
 ghost use Rattle.std.specs.Prelude.{◌≡◌, ◌<◌, ◌≤◌, [], length, OnOk, OnErr, None, vec_capacity};
-ghost use Rattle.audit_log.specs.Chain.{chain_digests, chain_head, audit_text};
+ghost use Rattle.farm_model.specs.Chain.{chain_digests, chain_head, audit_text};
 ghost use Rattle.audit_log.specs.Entries.{texts_of, kept_digests, first_broken};
 ghost use Rattle.audit_log.specs.Log.{empty_log, with_text};
 

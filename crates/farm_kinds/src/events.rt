@@ -1,9 +1,10 @@
 use crate::kinds::Kind;
+use crate::lists::{Answers, MatrixRows, Numbers};
 use crate::names::Name;
-use crate::outcomes::{Answer, Class, Task};
+use crate::outcomes::{Answer, Class, How, Task};
 
 /// What a line, a host or a request asks of the farm.
-#[derive(Clone, Copy, Debug)]
+#[derive(Debug, Drop)]
 pub enum Event {
     /// Someone adds a problem with this many tests.
     Problem {
@@ -63,10 +64,38 @@ pub enum Event {
     Show {
         judging: u32,
     },
+    /// What the public sees of each submission.
+    Board,
+    /// Someone has submissions judged anew, out of the public's sight.
+    Rejudge {
+        who: Name,
+        list: Numbers,
+    },
+    /// How the verdicts of a rejudging differ from the old ones.
+    Matrix {
+        rejudging: u32,
+    },
+    /// Someone makes all judgings of a rejudging the current ones.
+    Apply {
+        who: Name,
+        rejudging: u32,
+    },
+    /// Someone gives a rejudging up.
+    Cancel {
+        who: Name,
+        rejudging: u32,
+    },
+    /// Someone lets the public see a judging.
+    Verify {
+        who: Name,
+        judging: u32,
+    },
+    /// How many entries the audit log has, and its last digest.
+    Audit,
 }
 
 /// What an event is answered.
-#[derive(Clone, Copy, Debug, PartialEq, Eq)]
+#[derive(Debug, Drop)]
 pub enum Reply {
     /// The problem is known, in this version.
     Problem { name: Name, version: u32 },
@@ -92,6 +121,20 @@ pub enum Reply {
     Ended { count: u32 },
     /// What is reported of the judging.
     Shown(Answer),
+    /// What the public sees of each submission, from the first on.
+    Board { rows: Answers },
+    /// The rejudging has this number, and its judgings are numbered from `first` to `last`.
+    Rejudging { number: u32, first: u32, last: u32 },
+    /// How often an old answer became a new one, and how many members the rejudging has.
+    Matrix { rows: MatrixRows, members: u32 },
+    /// The judgings of so many members are the current ones now.
+    Applied { members: u32 },
+    /// The judgings of so many members were dropped.
+    Cancelled { members: u32 },
+    /// The judging is verified.
+    Verified { judging: u32 },
+    /// The audit log has so many entries, and this is its last digest.
+    Audit { count: u32, head: [u8; 32] },
     /// A problem has from 1 to 1,000 tests.
     BadTests { tests: u32 },
     /// The problem's name is known, or the host is up already.
@@ -112,6 +155,24 @@ pub enum Reply {
     NotHanded,
     /// The host holds no lease on the task.
     NoLease,
+    /// A rejudging has at least one submission.
+    EmptySet,
+    /// No submission has the number.
+    NoSubmission { submission: u32 },
+    /// The submission stands in the list more than once.
+    Twice { submission: u32 },
+    /// The current judging of the submission of this number is not final, or the judging of this number.
+    NotFinal { number: u32 },
+    /// The submission is in this rejudging, which is open.
+    Busy { submission: u32, rejudging: u32 },
+    /// No rejudging has the number.
+    NoRejudging { rejudging: u32 },
+    /// The rejudging is closed, in this way.
+    Closed { how: How },
+    /// This judging of the rejudging is not final.
+    Unfinished { judging: u32 },
+    /// The judging is verified already.
+    Already { judging: u32 },
     /// No memory was left, and the event changed nothing.
     NoMemory,
 }
@@ -121,4 +182,6 @@ pub enum Reply {
 pub enum LineFault {
     /// The line is none of the grammar's.
     BadLine,
+    /// No memory was left for what the line says.
+    NoMemory,
 }

@@ -126,6 +126,13 @@ impl Answers {
         }
     }
 
+    /// The answers of a vector, without taking memory.
+    pub fn from_vec(answers: Vec<Answer>) -> Answers
+        ensures { result ≡ answers.items }
+    {
+        Answers { answers }
+    }
+
     /// Adds an answer at the end. At `NoMemory` nothing changes.
     pub fn push(&mut self, answer: Answer) -> Result<(), NoMemory>
         ensures ok { OnOk result (self.new ≡ self.old ++ answer ∷ []) }

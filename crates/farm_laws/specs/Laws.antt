@@ -1,5 +1,5 @@
 -- The laws of runs: each over every list of events from the empty farm.
-use Rattle.std.specs.Prelude.{◌≡◌, ◌≢◌, ◌↔◌, ℕ, ◌≤◌, List, [], ◌++◌, length, Some, None, IsSome, IsTrue, unwrap_or}
+use Rattle.std.specs.Prelude.{◌≡◌, ◌≢◌, ◌↔◌, ℕ, ◌≤◌, List, [], ◌++◌, map, length, Option, Some, None, IsSome, IsTrue, unwrap_or, Contains, All, ⊥}
 use Rattle.std.specs.Option.{option_map}
 use Rattle.farm_kinds.specs.declared.outcomes.Verdict.{Verdict}
 use Rattle.farm_kinds.specs.declared.outcomes.Answer.{Answer}
@@ -11,6 +11,7 @@ use Rattle.farm_kinds.specs.declared.events.Reply.TheVariants as reply
 use Rattle.farm_model.specs.Numbered.{item_of}
 use Rattle.farm_model.specs.Rows.{Row, answer_of}
 use Rattle.farm_model.specs.Open.{is_wanted}
+use Rattle.farm_model.specs.Rejudgings.{members_in}
 use Rattle.farm_model.specs.State.{State, SettingsValue, start}
 use Rattle.farm_model.specs.Farm.{farm_step}
 use Rattle.farm_model.specs.Replay.{state_after, reply_to, counted_in, counted_row, times_counted, Truth, IsHonest, KnowsAll, one_thread_verdict}
@@ -83,9 +84,47 @@ OnlyCountedFills settings es = (e : Event) → reply_to (reached settings es) e 
 abbrev pub RowIsReplayed : SettingsValue → List Event → Type 0
 RowIsReplayed settings es = (j : ℕ) → IsJudging (reached settings es) j → row_in (reached settings es) j ≡ replayed_row settings es j
 
+-- Rejudgings
+
+-- the current judging of the submission of this number, where there is one
+abbrev pub current_in : State → ℕ → Option ℕ
+current_in s submission = option_map (λ x. x.current) (item_of s.submissions submission)
+
+-- the submission is in the rejudging of this number
+abbrev pub IsMember : State → ℕ → ℕ → Type 0
+IsMember s r submission = Contains (map (λ member. member.submission) (members_in s.rejudgings r)) submission
+
+-- An apply that is accepted makes the new judging of every member the current one, at this one event, and
+-- changes no other submission's.
+abbrev pub AppliesToAll : SettingsValue → List Event → Type 0
+AppliesToAll settings es = (who : List ℕ) (r n : ℕ) →
+    let s = reached settings es in
+    let t = (farm_step s (event.Apply who r)).0 in
+    reply_to s (event.Apply who r) ≡ reply.Applied n →
+    All (λ member. current_in t member.submission ≡ Some member.new) (members_in s.rejudgings r)
+    × ((submission : ℕ) → (IsMember s r submission → ⊥) → current_in t submission ≡ current_in s submission)
+
+-- A cancel changes no current judging, and so nothing of the board.
+abbrev pub CancelChangesNone : SettingsValue → List Event → Type 0
+CancelChangesNone settings es = (who : List ℕ) (r : ℕ) →
+    let s = reached settings es in
+    let t = (farm_step s (event.Cancel who r)).0 in
+    ((submission : ℕ) → current_in t submission ≡ current_in s submission) × (reply_to t event.Board ≡ reply_to s event.Board)
+
+-- the event is no apply that is accepted
+abbrev pub AppliesNone : State → Event → Type 0
+AppliesNone s e = (who : List ℕ) (r n : ℕ) → e ≡ event.Apply who r → reply_to s e ≢ reply.Applied n
+
+-- No event but an apply that is accepted changes the current judging of a submission that is there.
+abbrev pub OnlyApplyMoves : SettingsValue → List Event → Type 0
+OnlyApplyMoves settings es = (e : Event) → AppliesNone (reached settings es) e →
+    (submission : ℕ) → IsSome (item_of (reached settings es).submissions submission) →
+    current_in (farm_step (reached settings es) e).0 submission ≡ current_in (reached settings es) submission
+
 -- Whatever the events, lazily or in full: a judging is reported final exactly where its verdict is known
 -- from the results that were counted, that verdict stays and is what one thread gives, each result counts
--- once, rows hold what was counted, and only tasks that are still to be judged are handed out.
+-- once, rows hold what was counted, only tasks that are still to be judged are handed out, and a rejudging
+-- changes all its submissions' current judgings when it is applied, and none when it is cancelled.
 pub record KeepsPromise (settings : SettingsValue) (es : List Event) : Type 0 where
   pub final_is_exact : FinalIsExact settings es
   pub pending_is_exact : PendingIsExact settings es
@@ -95,3 +134,6 @@ pub record KeepsPromise (settings : SettingsValue) (es : List Event) : Type 0 wh
   pub only_counted_fills : OnlyCountedFills settings es
   pub row_is_replayed : RowIsReplayed settings es
   pub hands_out_wanted : HandsOutWanted settings es
+  pub applies_to_all : AppliesToAll settings es
+  pub cancel_changes_none : CancelChangesNone settings es
+  pub only_apply_moves : OnlyApplyMoves settings es

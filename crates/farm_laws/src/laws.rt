@@ -5,8 +5,9 @@ ghost use Rattle.farm_laws.specs.Laws.{KeepsPromise};
 
 /// Whatever the events, lazily or in full: a judging is reported final exactly where its verdict is
 /// known from the results that were counted, that verdict stays and is what one thread gives, each
-/// result counts once, rows hold what was counted, and only tasks that are still to be judged are
-/// handed out.
+/// result counts once, rows hold what was counted, only tasks that are still to be judged are handed
+/// out, and a rejudging changes all its submissions' current judgings when it is applied, and none
+/// when it is cancelled.
 pub fn keeps_promise()
     ensures { (settings : SettingsValue) (es : List Event) → KeepsPromise settings es }
 {}

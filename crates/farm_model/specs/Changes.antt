@@ -1,7 +1,10 @@
 -- What each accepted event changes, and its reply.
-use Rattle.std.specs.Prelude.{ℕ, ◌+◌, List, [], ◌∷◌, ◌++◌, length, Option, Some, None, Bool, true, false, if◌then◌else◌}
+use Rattle.std.specs.Prelude.{ℕ, ◌+◌, List, [], ◌∷◌, ◌++◌, map, length, fold, Option, Some, None, Bool, true, false, if◌then◌else◌}
 use Rattle.std.specs.Option.{option_map}
+use Rattle.farm_kinds.specs.declared.outcomes.Answer.{Answer}
 use Rattle.farm_kinds.specs.declared.outcomes.Class.{Class}
+use Rattle.farm_kinds.specs.declared.outcomes.Class.TheVariants.{Low}
+use Rattle.farm_kinds.specs.declared.outcomes.How.TheVariants as how
 use Rattle.farm_kinds.specs.declared.events.Event.{Event}
 use Rattle.farm_kinds.specs.declared.events.Event.TheVariants as event
 use Rattle.farm_kinds.specs.declared.events.Reply.{Reply}
@@ -9,10 +12,20 @@ use Rattle.farm_kinds.specs.declared.events.Reply.TheVariants as reply
 use Rattle.farm_model.specs.declared.records.Filing.{Filing}
 use Rattle.farm_model.specs.declared.records.Problem.{Problem}
 use Rattle.farm_model.specs.declared.records.Host.{Host}
+use Rattle.farm_model.specs.declared.records.Submission.{Submission}
+use Rattle.farm_model.specs.declared.records.Member.{Member}
 use Rattle.farm_model.specs.Numbered.{item_of, with_item, with_change, number_or_0}
-use Rattle.farm_model.specs.Judge.{JudgeState, add_judging, judge_claim, judge_result, judge_enter, judge_renew, judge_tick, judge_down}
-use Rattle.farm_model.specs.State.{State, problem_number, host_number, up_number, answer_at}
+use Rattle.farm_model.specs.Judge.{JudgeState, add_judging, add_judgings, drop_judging, judge_claim, judge_result, judge_enter, judge_renew, judge_tick, judge_down}
+use Rattle.farm_model.specs.Rejudgings.{prepared, closed, members_in, new_judgings}
+use Rattle.farm_model.specs.Matrix.{matrix_of}
+use Rattle.farm_model.specs.Chain.{chain_head}
+use Rattle.farm_model.specs.Texts.{logged_text}
+use Rattle.farm_model.specs.State.{State, problem_number, host_number, up_number, answer_at, current_of, public_answers}
 use Rattle.farm_model.specs.Refusals.{version_of, claim_reply, count_reply, renewed_reply}
+
+-- an accepted event of the jury is entered in the audit log
+abbrev pub logged : State → Event → State
+logged s e = record s { texts = s.texts ++ logged_text e ∷ [] }
 
 -- a problem of version 1
 abbrev pub with_problem : State → List ℕ → ℕ → State
@@ -24,9 +37,6 @@ next_version tests problem = record problem { version = problem.version + 1; tes
 -- the next version of the problem of this number
 abbrev pub with_version : State → ℕ → ℕ → State
 with_version s n tests = record s { problems = with_change s.problems n (next_version tests) }
-
-abbrev pub replaced : State → List ℕ → ℕ → ℕ → State × Reply
-replaced s name n tests = (with_version s n tests, reply.Problem name (version_of s.problems n + 1))
 
 abbrev pub host_as : List ℕ → Bool → Host
 host_as name up = record { name = name; up = up }
@@ -69,14 +79,72 @@ abbrev pub submitted : State → ℕ → Class → Bool → State
 submitted s problem class broken =
     with_new_judging (with_submission s problem broken) class (cells_for s.problems problem broken) (filing_of (length s.submissions + 1) None)
 
+-- Rejudgings
+
+abbrev pub cells_of_item : List Problem → Option Submission → ℕ
+cells_of_item problems None = 0
+cells_of_item problems (Some submission) = cells_for problems submission.problem submission.broken
+
+-- how many cells a new judging of the submission of this number has
+abbrev pub cells_of : State → ℕ → ℕ
+cells_of s submission = cells_of_item s.problems (item_of s.submissions submission)
+
+-- the filings of judgings that belong to the rejudging of this number
+abbrev pub filings_for : ℕ → List ℕ → List Filing
+filings_for r list = map (λ submission. filing_of submission (Some r)) list
+
+-- a judging of each submission of the list, which the public does not see, and a rejudging of them
+abbrev pub rejudged : State → List ℕ → State
+rejudged s list = record s {
+  judge = add_judgings s.judge Low (map (cells_of s) list);
+  filings = s.filings ++ filings_for (length s.rejudgings + 1) list;
+  rejudgings = prepared s.rejudgings list (map (current_of s.submissions) list) (length s.judge.judgings + 1);
+}
+
+abbrev pub rejudging_reply : State → List ℕ → Reply
+rejudging_reply s list =
+    reply.Rejudging (length s.rejudgings + 1) (length s.judge.judgings + 1) (length s.judge.judgings + length list)
+
+abbrev pub make_current : ℕ → Submission → Submission
+make_current j submission = record submission { current = j }
+
+-- the member's new judging is the current one of its submission
+abbrev pub with_current : List Submission → Member → List Submission
+with_current submissions member = with_change submissions member.submission (make_current member.new)
+
+-- the new judging of every member is current, and the rejudging is applied
+abbrev pub applied : State → ℕ → State
+applied s r = record s {
+  submissions = fold with_current s.submissions (members_in s.rejudgings r);
+  rejudgings = closed s.rejudgings r how.Applied;
+}
+
+-- the new judging of every member is dropped, and the rejudging is cancelled
+abbrev pub cancelled : State → ℕ → State
+cancelled s r = record s {
+  judge = fold drop_judging s.judge (new_judgings (members_in s.rejudgings r));
+  rejudgings = closed s.rejudgings r how.Cancelled;
+}
+
+-- what the jury sees of the old and of the new judging of each member
+abbrev pub answer_pairs : State → ℕ → List (Answer × Answer)
+answer_pairs s r = map (λ member. (answer_at s member.old, answer_at s member.new)) (members_in s.rejudgings r)
+
+abbrev pub mark_verified : Filing → Filing
+mark_verified filing = record filing { verified = true }
+
+abbrev pub verified : State → ℕ → State
+verified s j = record s { filings = with_change s.filings j mark_verified }
+
 -- the judge did this, and nothing else changed
 abbrev pub by_judge : {R : Type 0} → State → (R → Reply) → JudgeState × R → State × Reply
 by_judge s replied r = (record s { judge = r.0 }, replied r.1)
 
 -- what an accepted event does, and its reply
 abbrev pub accepted : State → Event → State × Reply
-accepted s (event.Problem who name tests) = (with_problem s name tests, reply.Problem name 1)
-accepted s (event.Replace who name tests) = replaced s name (number_or_0 (problem_number s.problems name)) tests
+accepted s (event.Problem who name tests) = (logged (with_problem s name tests) (event.Problem who name tests), reply.Problem name 1)
+accepted s (event.Replace who name tests) = let n = number_or_0 (problem_number s.problems name) in
+    (logged (with_version s n tests) (event.Replace who name tests), reply.Problem name (version_of s.problems n + 1))
 accepted s (event.Host name) = (with_host s name, reply.Host name)
 accepted s (event.Submit problem class broken) =
     (submitted s (number_or_0 (problem_number s.problems problem)) class broken, reply.Submitted (length s.submissions + 1) (length s.judge.judgings + 1))
@@ -88,3 +156,10 @@ accepted s (event.Tick moment) = by_judge s reply.Ended (judge_tick s.judge mome
 accepted s (event.Down host) = let n = number_or_0 (up_number s.hosts host) in
     by_judge (without_host s host n) reply.Ended (judge_down s.judge n)
 accepted s (event.Show j) = (s, reply.Shown (answer_at s j))
+accepted s event.Board = (s, reply.Board (public_answers s))
+accepted s (event.Rejudge who list) = (logged (rejudged s list) (event.Rejudge who list), rejudging_reply s list)
+accepted s (event.Matrix r) = (s, reply.Matrix (matrix_of (answer_pairs s r)) (length (members_in s.rejudgings r)))
+accepted s (event.Apply who r) = (logged (applied s r) (event.Apply who r), reply.Applied (length (members_in s.rejudgings r)))
+accepted s (event.Cancel who r) = (logged (cancelled s r) (event.Cancel who r), reply.Cancelled (length (members_in s.rejudgings r)))
+accepted s (event.Verify who j) = (logged (verified s j) (event.Verify who j), reply.Verified j)
+accepted s event.Audit = (s, reply.Audit (length s.texts) (chain_head s.texts))

@@ -16,7 +16,7 @@ farm_step s e = refused_or s (refusal_of s e) (accepted s e)
 -- the events that take memory where they are accepted; a host does where its name is new
 abbrev pub takes_memory : State → Event → Bool
 takes_memory s (event.Problem who name tests) = true
-takes_memory s (event.Replace who name tests) = false
+takes_memory s (event.Replace who name tests) = true
 takes_memory s (event.Host name) = is_none (host_number s.hosts name)
 takes_memory s (event.Submit problem class broken) = true
 takes_memory s (event.Claim host) = false
@@ -26,6 +26,13 @@ takes_memory s (event.Renew host j test) = false
 takes_memory s (event.Tick moment) = false
 takes_memory s (event.Down host) = false
 takes_memory s (event.Show j) = false
+takes_memory s event.Board = true
+takes_memory s (event.Rejudge who list) = true
+takes_memory s (event.Matrix r) = true
+takes_memory s (event.Apply who r) = true
+takes_memory s (event.Cancel who r) = true
+takes_memory s (event.Verify who j) = true
+takes_memory s event.Audit = false
 
 -- memory may be wanting: the event takes it, and is not refused
 pub record MayWant (s : State) (e : Event) : Type 0 where

@@ -1,5 +1,6 @@
 -- The lines that are events.
 use Rattle.std.specs.Prelude.{ℕ, List, [], ◌∷◌, Option, Some, None, Result, Ok, Err, Bool, true, false, ◌==◌, if◌then◌else◌, codes}
+use Rattle.std.specs.Option.{option_or}
 use Rattle.std.specs.Str.{bytes_eq}
 use Rattle.farm_kinds.specs.declared.events.Event.{Event}
 use Rattle.farm_kinds.specs.declared.events.Event.TheVariants as event
@@ -10,7 +11,7 @@ use Rattle.farm_kinds.specs.declared.outcomes.Class.TheVariants.{High, Normal, L
 use Rattle.farm_kinds.specs.Names.{name_read, jury}
 use Rattle.farm_kinds.specs.Kinds.{kind_named}
 use Rattle.farm_model.specs.Words.{words}
-use Rattle.farm_model.specs.Numbers.{number_of, moment_of}
+use Rattle.farm_model.specs.Numbers.{number_of, moment_of, list_of}
 
 infixl 10 ◌>>=◌
 abbrev pub ◌>>=◌ : {A B : Type 0} → Option A → (A → Option B) → Option B
@@ -18,20 +19,46 @@ None >>= f = None
 (Some x) >>= f = f x
 
 -- `problem NAME N`
-abbrev pub problem_line : List (List ℕ) → Option Event
-problem_line (name ∷ tests ∷ []) = do
+abbrev pub problem_line : List ℕ → List (List ℕ) → Option Event
+problem_line who (name ∷ tests ∷ []) = do
   n ← name_read name
   t ← number_of tests
-  Some (event.Problem jury n t)
-problem_line ws = None
+  Some (event.Problem who n t)
+problem_line who ws = None
 
 -- `replace NAME N`
-abbrev pub replace_line : List (List ℕ) → Option Event
-replace_line (name ∷ tests ∷ []) = do
+abbrev pub replace_line : List ℕ → List (List ℕ) → Option Event
+replace_line who (name ∷ tests ∷ []) = do
   n ← name_read name
   t ← number_of tests
-  Some (event.Replace jury n t)
-replace_line ws = None
+  Some (event.Replace who n t)
+replace_line who ws = None
+
+-- `rejudge [LIST]`
+abbrev pub rejudge_line : List ℕ → List (List ℕ) → Option Event
+rejudge_line who [] = Some (event.Rejudge who [])
+rejudge_line who (list ∷ []) = do
+  ns ← list_of list
+  Some (event.Rejudge who ns)
+rejudge_line who ws = None
+
+-- a line of one number
+abbrev pub number_line : (ℕ → Event) → List (List ℕ) → Option Event
+number_line e (number ∷ []) = do
+  n ← number_of number
+  Some (e n)
+number_line e ws = None
+
+-- the event of a line of the jury that begins with this word
+abbrev pub jury_event_of : List ℕ → List ℕ → List (List ℕ) → Option Event
+jury_event_of who word ws =
+    if bytes_eq word (codes "problem") then problem_line who ws
+    else if bytes_eq word (codes "replace") then replace_line who ws
+    else if bytes_eq word (codes "rejudge") then rejudge_line who ws
+    else if bytes_eq word (codes "apply") then number_line (event.Apply who) ws
+    else if bytes_eq word (codes "cancel") then number_line (event.Cancel who) ws
+    else if bytes_eq word (codes "verify") then number_line (event.Verify who) ws
+    else None
 
 -- a line of one name
 abbrev pub name_line : (List ℕ → Event) → List (List ℕ) → Option Event
@@ -110,12 +137,10 @@ tick_line (moment ∷ []) = do
   Some (event.Tick m)
 tick_line ws = None
 
--- `show J`
-abbrev pub show_line : List (List ℕ) → Option Event
-show_line (judging ∷ []) = do
-  j ← number_of judging
-  Some (event.Show j)
-show_line ws = None
+-- a line of one word
+abbrev pub bare_line : Event → List (List ℕ) → Option Event
+bare_line e [] = Some e
+bare_line e ws = None
 
 -- the event of a host's line that begins with this word
 abbrev pub host_event_of : List ℕ → List (List ℕ) → Option Event
@@ -127,16 +152,33 @@ host_event_of word ws =
     else if bytes_eq word (codes "down") then name_line event.Down ws
     else None
 
+-- the event of a line that begins with this word, and is no host's and none of the jury's
+abbrev pub other_event_of : List ℕ → List (List ℕ) → Option Event
+other_event_of word ws =
+    if bytes_eq word (codes "submit") then submit_line ws
+    else if bytes_eq word (codes "record") then record_line ws
+    else if bytes_eq word (codes "tick") then tick_line ws
+    else if bytes_eq word (codes "show") then number_line event.Show ws
+    else if bytes_eq word (codes "board") then bare_line event.Board ws
+    else if bytes_eq word (codes "matrix") then number_line event.Matrix ws
+    else if bytes_eq word (codes "audit") then bare_line event.Audit ws
+    else None
+
+-- the event of a line without `@NAME` that begins with this word; where it is the jury's, `jury` acts
+abbrev pub unnamed_event_of : List ℕ → List (List ℕ) → Option Event
+unnamed_event_of word ws = option_or (jury_event_of jury word ws) (option_or (host_event_of word ws) (other_event_of word ws))
+
+-- the event of a line of the jury behind the name of who acts
+abbrev pub named_event_of : List ℕ → List (List ℕ) → Option Event
+named_event_of name [] = None
+named_event_of name (word ∷ ws) = do
+  who ← name_read name
+  jury_event_of who word ws
+
 -- the event of a line that begins with this word
 abbrev pub event_of : List ℕ → List (List ℕ) → Option Event
-event_of word ws =
-    if bytes_eq word (codes "problem") then problem_line ws
-    else if bytes_eq word (codes "replace") then replace_line ws
-    else if bytes_eq word (codes "submit") then submit_line ws
-    else if bytes_eq word (codes "record") then record_line ws
-    else if bytes_eq word (codes "show") then show_line ws
-    else if bytes_eq word (codes "tick") then tick_line ws
-    else host_event_of word ws
+event_of [] ws = None
+event_of (b ∷ bs) ws = if b == 64 then named_event_of bs ws else unnamed_event_of (b ∷ bs) ws
 
 -- a line whose first word begins with `#`
 abbrev pub is_comment : List ℕ → Bool

@@ -1,5 +1,5 @@
 -- What the judge keeps, and what each of its calls does.
-use Rattle.std.specs.Prelude.{ℕ, ◌+◌, ◌-◌, ◌^◌, min, max, List, [], ◌∷◌, ◌++◌, length, slice_get, Option, Some, None, nat_le}
+use Rattle.std.specs.Prelude.{ℕ, ◌+◌, ◌-◌, ◌^◌, min, max, List, [], ◌∷◌, ◌++◌, map, length, slice_get, Option, Some, None, nat_le}
 use Rattle.farm_kinds.specs.declared.kinds.Kind.{Kind}
 use Rattle.farm_kinds.specs.declared.outcomes.Answer.{Answer}
 use Rattle.farm_kinds.specs.declared.outcomes.Class.{Class}
@@ -36,6 +36,10 @@ first_state rule mode lease = record { rule = rule; mode = mode; lease = lease; 
 
 abbrev pub add_judging : JudgeState → Class → ℕ → JudgeState
 add_judging s class tests = record s { judgings = s.judgings ++ empty_judging class tests ∷ [] }
+
+-- a judging of the class for each number of tests
+abbrev pub add_judgings : JudgeState → Class → List ℕ → JudgeState
+add_judgings s class tests = record s { judgings = s.judgings ++ map (empty_judging class) tests }
 
 -- what is reported of the judging of this number, where there is one
 abbrev pub answer_of_judging : JudgeState → ℕ → Option Answer

@@ -33,3 +33,30 @@ number_of word = option_and_then (at_most 4294967295) (whole_of word)
 -- a moment of a line: at most 18 digits
 abbrev pub moment_of : List ℕ → Option ℕ
 moment_of word = option_and_then (at_most (10 ^ 18 - 1)) (whole_of word)
+
+-- Lists
+
+-- the byte goes onto the first part
+abbrev pub onto_first_part : ℕ → List (List ℕ) → List (List ℕ)
+onto_first_part b [] = (b ∷ []) ∷ []
+onto_first_part b (part ∷ parts) = (b ∷ part) ∷ parts
+
+-- what stands between the commas
+abbrev pub comma_parts : List ℕ → List (List ℕ)
+comma_parts [] = [] ∷ []
+comma_parts (b ∷ bs) = if b == 44 then [] ∷ comma_parts bs else onto_first_part b (comma_parts bs)
+
+-- a number before a list of them, where both are there
+abbrev pub before_all : Option ℕ → Option (List ℕ) → Option (List ℕ)
+before_all None ns = None
+before_all (Some n) None = None
+before_all (Some n) (Some ns) = Some (n ∷ ns)
+
+-- the numbers, where each part is one
+abbrev pub all_numbers : List (List ℕ) → Option (List ℕ)
+all_numbers [] = Some []
+all_numbers (part ∷ parts) = before_all (number_of part) (all_numbers parts)
+
+-- numbers joined by single commas
+abbrev pub list_of : List ℕ → Option (List ℕ)
+list_of word = all_numbers (comma_parts word)

@@ -1,5 +1,5 @@
 -- The refusals of each event, in their order.
-use Rattle.std.specs.Prelude.{ℕ, List, [], ◌∷◌, length, Option, None, is_some, is_none, Bool, ◌&&◌, nat_le}
+use Rattle.std.specs.Prelude.{ℕ, ◌+◌, List, [], ◌∷◌, map, length, find, Option, None, is_some, is_none, Bool, ◌&&◌, ◌==◌, not, nat_le, nat_lt}
 use Rattle.std.specs.Option.{option_map}
 use Rattle.farm_kinds.specs.declared.outcomes.Claim.{Claim}
 use Rattle.farm_kinds.specs.declared.outcomes.Claim.TheVariants as claim
@@ -14,11 +14,13 @@ use Rattle.farm_kinds.specs.declared.events.Reply.TheVariants as reply
 use Rattle.farm_kinds.specs.Rules.{remap_of}
 use Rattle.farm_model.specs.declared.records.Problem.{Problem}
 use Rattle.farm_model.specs.declared.records.Host.{Host}
+use Rattle.farm_model.specs.declared.records.Rejudging.{Rejudging}
 use Rattle.farm_model.specs.Numbered.{item_of, number_or_0}
 use Rattle.farm_model.specs.Refusing.{when, unless, first_of}
-use Rattle.farm_model.specs.Judgings.{entry_refusal, result_refusal, is_judging}
+use Rattle.farm_model.specs.Judgings.{entry_refusal, result_refusal, is_judging, is_dropped}
 use Rattle.farm_model.specs.Judge.{claim_refusal, renew_refusal}
-use Rattle.farm_model.specs.State.{State, problem_number, host_number, up_number}
+use Rattle.farm_model.specs.Rejudgings.{first_twice, busy_with, closed_how, members_in, new_judgings}
+use Rattle.farm_model.specs.State.{State, problem_number, host_number, up_number, answer_at, is_final, current_of, is_verified}
 
 -- as many as the limit are there
 abbrev pub is_full : {X : Type 0} → List X → ℕ → Bool
@@ -87,6 +89,54 @@ renewed_reply j test lease.NoTest = reply.NoTest test
 renewed_reply j test lease.NoLease = reply.NoLease
 renewed_reply j test (lease.Until until) = reply.Until until
 
+-- Rejudgings
+
+-- a refusal that names the first number of the list that fails the test
+abbrev pub refuse_first : (ℕ → Bool) → (ℕ → Reply) → List ℕ → Option Reply
+refuse_first passes refusal list = option_map refusal (find (λ n. not (passes n)) list)
+
+abbrev pub is_submission : State → ℕ → Bool
+is_submission s n = is_some (item_of s.submissions n)
+
+-- the current judging of the submission is final
+abbrev pub has_final : State → ℕ → Bool
+has_final s submission = is_final (answer_at s (current_of s.submissions submission))
+
+abbrev pub busy_reply : List Rejudging → ℕ → Option Reply
+busy_reply rejudgings submission = option_map (reply.Busy submission) (busy_with rejudgings submission)
+
+-- each is looked for over the whole list, and names its first member
+abbrev pub rejudge_refusal : State → List ℕ → Option Reply
+rejudge_refusal s list = first_of (
+    when (length list == 0) reply.EmptySet
+    ∷ refuse_first (is_submission s) reply.NoSubmission list
+    ∷ refuse_first (has_final s) reply.NotFinal list
+    ∷ when (is_full s.rejudgings 10000) (reply.Full 10000)
+    ∷ when (nat_lt 400000 (length s.judge.judgings + length list)) (reply.Full 400000)
+    ∷ option_map reply.Twice (first_twice list)
+    ∷ first_of (map (busy_reply s.rejudgings) list) ∷ [])
+
+abbrev pub no_rejudging : List Rejudging → ℕ → Option Reply
+no_rejudging rejudgings r = unless (is_some (item_of rejudgings r)) (reply.NoRejudging r)
+
+-- there is no such rejudging, or it is closed
+abbrev pub close_refusal : List Rejudging → ℕ → Option Reply
+close_refusal rejudgings r = first_of (
+    no_rejudging rejudgings r
+    ∷ option_map reply.Closed (closed_how rejudgings r) ∷ [])
+
+abbrev pub apply_refusal : State → ℕ → Option Reply
+apply_refusal s r = first_of (
+    close_refusal s.rejudgings r
+    ∷ refuse_first (λ j. is_final (answer_at s j)) reply.Unfinished (new_judgings (members_in s.rejudgings r)) ∷ [])
+
+abbrev pub verify_refusal : State → ℕ → Option Reply
+verify_refusal s j = first_of (
+    unless (is_judging s.judge.judgings j) (reply.NoJudging j)
+    ∷ when (is_dropped s.judge.judgings j) reply.Dropped
+    ∷ unless (is_final (answer_at s j)) (reply.NotFinal j)
+    ∷ when (is_verified s.filings j) (reply.Already j) ∷ [])
+
 -- the refusal of an event, where it is refused
 abbrev pub refusal_of : State → Event → Option Reply
 refusal_of s (event.Problem who name tests) = problem_refusal s.problems name tests
@@ -106,3 +156,10 @@ refusal_of s (event.Renew host j test) = first_of (
 refusal_of s (event.Tick moment) = None
 refusal_of s (event.Down host) = no_host s.hosts host
 refusal_of s (event.Show j) = unless (is_judging s.judge.judgings j) (reply.NoJudging j)
+refusal_of s event.Board = None
+refusal_of s (event.Rejudge who list) = rejudge_refusal s list
+refusal_of s (event.Matrix r) = no_rejudging s.rejudgings r
+refusal_of s (event.Apply who r) = apply_refusal s r
+refusal_of s (event.Cancel who r) = close_refusal s.rejudgings r
+refusal_of s (event.Verify who j) = verify_refusal s j
+refusal_of s event.Audit = None

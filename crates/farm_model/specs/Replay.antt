@@ -46,6 +46,13 @@ given_by (event.Renew host j test) = None
 given_by (event.Tick moment) = None
 given_by (event.Down host) = None
 given_by (event.Show j) = None
+given_by event.Board = None
+given_by (event.Rejudge who list) = None
+given_by (event.Matrix r) = None
+given_by (event.Apply who r) = None
+given_by (event.Cancel who r) = None
+given_by (event.Verify who j) = None
+given_by event.Audit = None
 
 abbrev pub if_counted : Reply → Option (Task × Kind) → Option (Task × Kind)
 if_counted reply.Counted given = given

@@ -1,6 +1,5 @@
 -- The script: from the bytes that are read to the bytes that are written.
 use Rattle.std.specs.Prelude.{ℕ, List, [], ◌∷◌, ◌++◌, flat_map, Option, Some, None, Result, Ok, Err}
-use Rattle.std.specs.List.{join_with_byte}
 use Rattle.farm_kinds.specs.declared.events.Event.{Event}
 use Rattle.farm_kinds.specs.declared.events.LineFault.{LineFault}
 use Rattle.farm_kinds.specs.declared.events.LineFault.TheVariants as fault
@@ -8,17 +7,14 @@ use Rattle.farm_io.specs.Lines.{Cut, Whole, Long, lines_of}
 use Rattle.farm_model.specs.State.{State, SettingsValue, start}
 use Rattle.farm_model.specs.Farm.{farm_step}
 use Rattle.farm_model.specs.Grammar.{line_read}
-use Rattle.farm_model.specs.Texts.{bad_line_words, too_long_words, reply_words}
-
--- the words joined by single spaces, and a line feed
-abbrev pub line_of : List (List ℕ) → List ℕ
-line_of words = join_with_byte 32 words ++ 10 ∷ []
+use Rattle.farm_model.specs.Texts.{line_of, bad_line_words, too_long_words, reply_text}
 
 -- the state after what a line was read as, and the text that is written for it
 abbrev pub after_read : State → Result (Option Event) LineFault → State × List ℕ
 after_read s (Ok None) = (s, [])
-after_read s (Ok (Some e)) = let r = farm_step s e in (r.0, line_of (reply_words r.1))
+after_read s (Ok (Some e)) = let r = farm_step s e in (r.0, reply_text r.1)
 after_read s (Err fault.BadLine) = (s, line_of bad_line_words)
+after_read s (Err fault.NoMemory) = (s, [])
 
 abbrev pub after_line : State → Cut → State × List ℕ
 after_line s (Whole text) = after_read s (line_read text)
@@ -38,6 +34,7 @@ abbrev pub event_in : Result (Option Event) LineFault → List Event
 event_in (Ok None) = []
 event_in (Ok (Some e)) = e ∷ []
 event_in (Err fault.BadLine) = []
+event_in (Err fault.NoMemory) = []
 
 abbrev pub events_of_line : Cut → List Event
 events_of_line (Whole text) = event_in (line_read text)

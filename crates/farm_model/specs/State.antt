@@ -1,8 +1,9 @@
 -- What the farm keeps.
-use Rattle.std.specs.Prelude.{ℕ, List, [], ◌&&◌, Option, Bool, false, unwrap_or}
+use Rattle.std.specs.Prelude.{ℕ, List, [], map, ◌&&◌, Option, Bool, true, false, not, if◌then◌else◌, unwrap_or}
+use Rattle.std.specs.Option.{option_map}
 use Rattle.std.specs.Str.{bytes_eq}
 use Rattle.farm_kinds.specs.declared.outcomes.Answer.{Answer}
-use Rattle.farm_kinds.specs.declared.outcomes.Answer.TheVariants.{Pending}
+use Rattle.farm_kinds.specs.declared.outcomes.Answer.TheVariants.{Final, Pending}
 use Rattle.farm_kinds.specs.declared.outcomes.Mode.{Mode}
 use Rattle.farm_kinds.specs.declared.outcomes.Mode.TheVariants.{Lazy}
 use Rattle.farm_kinds.specs.RuleValue.{RuleValue}
@@ -12,7 +13,7 @@ use Rattle.farm_model.specs.declared.records.Host.{Host}
 use Rattle.farm_model.specs.declared.records.Submission.{Submission}
 use Rattle.farm_model.specs.declared.records.Filing.{Filing}
 use Rattle.farm_model.specs.declared.records.Rejudging.{Rejudging}
-use Rattle.farm_model.specs.Numbered.{number_where}
+use Rattle.farm_model.specs.Numbered.{item_of, number_where, number_or_0}
 use Rattle.farm_model.specs.Judge.{JudgeState, first_state, answer_of_judging}
 
 -- what a contest sets
@@ -70,3 +71,30 @@ up_number hosts name = number_where (λ host. bytes_eq host.name name && host.up
 -- what the jury sees of a judging; pending where there is none
 abbrev pub answer_at : State → ℕ → Answer
 answer_at s j = unwrap_or (answer_of_judging s.judge j) Pending
+
+abbrev pub is_final : Answer → Bool
+is_final (Final verdict) = true
+is_final Pending = false
+
+-- the current judging of the submission of this number
+abbrev pub current_of : List Submission → ℕ → ℕ
+current_of submissions n = number_or_0 (option_map (λ submission. submission.current) (item_of submissions n))
+
+abbrev pub is_verified : List Filing → ℕ → Bool
+is_verified filings j = unwrap_or (option_map (λ filing. filing.verified) (item_of filings j)) false
+
+-- the judging waits to be verified
+abbrev pub is_withheld : State → ℕ → Bool
+is_withheld s j = s.verification && not (is_verified s.filings j)
+
+-- what the public sees of a current judging: pending while it waits to be verified
+abbrev pub public_answer : State → ℕ → Answer
+public_answer s j = if is_withheld s j then Pending else answer_at s j
+
+-- what the public sees of each submission
+abbrev pub public_answers : State → List Answer
+public_answers s = map (λ submission. public_answer s submission.current) s.submissions
+
+-- what the public sees of the submission of this number, where there is one
+abbrev pub public_of : State → ℕ → Option Answer
+public_of s n = option_map (λ submission. public_answer s submission.current) (item_of s.submissions n)

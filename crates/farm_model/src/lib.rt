@@ -8,11 +8,18 @@
 mod leases;
 mod members;
 mod records;
+mod rejudgings;
 mod worked;
 
 pub use leases::worked_leases;
 pub use members::Members;
 pub use records::{Filing, Host, Lease, Member, Problem, RejudgeState, Rejudging, Submission};
+pub use rejudgings::{
+    apply_is_one_change, audit_chain, audit_texts, cancel_changes_nothing, empty_audit,
+    lines_of_the_jury, refusals_of_rejudgings, rejudging_of_a_broken_image,
+    rejudging_of_a_new_version, rows_of_a_matrix, twice_and_busy, verification,
+    verification_of_a_rejudging,
+};
 pub use worked::{
     answers_to_rows, broken_image, cells_that_matter, classes, death_and_return, empty_input,
     equal_priorities, equal_priorities_later, event_lines, full_judging, greatest_priority_decides,

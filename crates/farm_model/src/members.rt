@@ -1,8 +1,6 @@
-ghost use Rattle.std.specs.Prelude.{◌≡◌, ◌++◌, ◌∷◌, [], List, OnOk, OnErr};
+ghost use Rattle.std.specs.Prelude.{◌≡◌};
 
 use crate::records::Member;
-use farm_kinds::NoMemory;
-use std::alloc::Global;
 use std::marker::Model;
 
 /// The members of a rejudging, in the order of its list. Contracts see a list.
@@ -21,21 +19,11 @@ impl Model for Members {
 }
 
 impl Members {
-    /// No members.
-    pub fn new(alloc: Global) -> Members
-        ensures { result ≡ [] }
+    /// The members of a vector, without taking memory.
+    pub fn from_vec(members: Vec<Member>) -> Members
+        ensures { result ≡ members.items }
     {
-        Members {
-            members: Vec::new(alloc),
-        }
-    }
-
-    /// Adds a member at the end. At `NoMemory` nothing changes.
-    pub fn push(&mut self, member: Member) -> Result<(), NoMemory>
-        ensures ok { OnOk result (self.new ≡ self.old ++ member ∷ []) }
-        ensures err { OnErr result (self.new ≡ self.old) }
-    {
-        self.members.push(member).map_err(|_| NoMemory)
+        Members { members }
     }
 
     /// The members in order.

@@ -7,7 +7,7 @@ ghost use Rattle.farm_kinds.specs.declared.outcomes.Class.TheVariants.{Normal, L
 ghost use Rattle.farm_kinds.specs.declared.events.Event.TheVariants as event;
 ghost use Rattle.farm_kinds.specs.Names.{jury};
 ghost use Rattle.farm_kinds.specs.Rules.{standard};
-ghost use Rattle.farm_model.specs.Numbers.{number_of};
+ghost use Rattle.farm_model.specs.Numbers.{number_of, list_of};
 ghost use Rattle.farm_model.specs.Rows.{answer_of, matters};
 ghost use Rattle.farm_model.specs.Texts.{event_text};
 ghost use Rattle.farm_model.specs.Words.{words};
@@ -22,6 +22,9 @@ pub fn words_and_numbers()
     ensures too_wide { number_of (codes "4294967296") ≡ None }
     ensures leading_zero { number_of (codes "01") ≡ None }
     ensures sign { number_of (codes "+1") ≡ None }
+    ensures list { list_of (codes "3,1,3") ≡ Some (3 ∷ 1 ∷ 3 ∷ []) }
+    ensures open_list { list_of (codes "3,") ≡ None }
+    ensures spaced_list { list_of (codes "3,,1") ≡ None }
 {}
 
 /// What is reported of rows, with and without lazy evaluation.
@@ -149,8 +152,8 @@ pub fn lines_and_comments()
 
 /// Which lines of hosts and submissions are events.
 pub fn lines_of_hosts()
-    ensures { script_output standard_settings (codes "tick 999999999999999999\ntick 1000000000000000000\ntick 01\ntick\nhost\nhost h h\nclaim h h\nresult h 1 1\nrenew h 1\ndown\nsubmit A low broken\nsubmit A broken low\nsubmit A normal\nsubmit A high high\n@ann problem A 1\nboard\naudit\n")
-        ≡ codes "ended 0\nbad-line\nbad-line\nbad-line\nbad-line\nbad-line\nbad-line\nbad-line\nbad-line\nbad-line\nno-problem A\nbad-line\nno-problem A\nbad-line\nbad-line\nbad-line\nbad-line\n" }
+    ensures { script_output standard_settings (codes "tick 999999999999999999\ntick 1000000000000000000\ntick 01\ntick\nhost\nhost h h\nclaim h h\nresult h 1 1\nrenew h 1\ndown\nsubmit A low broken\nsubmit A broken low\nsubmit A normal\nsubmit A high high\n")
+        ≡ codes "ended 0\nbad-line\nbad-line\nbad-line\nbad-line\nbad-line\nbad-line\nbad-line\nbad-line\nbad-line\nno-problem A\nbad-line\nno-problem A\nbad-line\n" }
 {}
 
 /// Events as lines: `normal` is not written, and who acts is where it is not the jury.
@@ -161,6 +164,8 @@ pub fn event_lines()
     ensures normal { event_text (event.Submit (codes "A") Normal false) ≡ codes "submit A" }
     ensures result { event_text (event.Result (codes "h1") 1 2 RunError) ≡ codes "result h1 1 2 run-error" }
     ensures moment { event_text (event.Tick 60) ≡ codes "tick 60" }
+    ensures list { event_text (event.Rejudge jury (3 ∷ 1 ∷ [])) ≡ codes "rejudge 3,1" }
+    ensures empty { event_text (event.Rejudge (codes "ann") []) ≡ codes "@ann rejudge" }
 {}
 
 /// Cells that matter: one that can still decide the verdict.

@@ -11,7 +11,7 @@ use Rattle.farm_model.specs.Refusing.{first_of, unless}
 use Rattle.std.proofs.lemmas.Option.{slice_get-map}
 use Rattle.rejudge_book.specs.declared.book.Kept.{Kept}
 use Rattle.rejudge_book.specs.declared.faults.CloseFault.TheVariants as close
-use Rattle.rejudge_book.specs.Rejudgings.{how_closed, close_as, closed}
+use Rattle.farm_model.specs.Rejudgings.{how_closed, close_as, closed}
 use Rattle.rejudge_book.specs.Refusals.{close_refusal}
 use Rattle.rejudge_book.specs.BookLayout.{rejudging_of, rejudgings_of}
 

@@ -11,7 +11,8 @@ use Rattle.farm_kinds.specs.declared.outcomes.Answer.{Answer}
 use Rattle.farm_kinds.specs.declared.outcomes.Answer.TheVariants.{Final, Pending}
 use Rattle.farm_kinds.specs.declared.outcomes.MatrixRow.{MatrixRow}
 use Rattle.farm_kinds.specs.Rules.{place_of}
-use Rattle.rejudge_book.specs.Matrix.{AreCounts, answer_place, counted_row, counted_rows, every_answer, is_counted, matrix_of, matrix_row, pair_count, pair_place, same_answer}
+use Rattle.farm_model.specs.Matrix.{answer_place, every_answer, is_counted, matrix_of, matrix_row, pair_count, same_answer}
+use Rattle.rejudge_book.specs.Counts.{AreCounts, counted_row, counted_rows, pair_place}
 
 kind_small : (k : Kind) → place_of k < 10
 kind_small Correct = omega arith

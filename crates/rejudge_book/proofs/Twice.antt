@@ -3,7 +3,8 @@ use Rattle.std.proofs.Common.{ℕ, ◌≡◌, ◌≢◌, ◌+◌, ◌-◌, ◌<�
 use Rattle.std.specs.List.{list_any}
 use Rattle.std.proofs.lemmas.Bool.{eqb-true, eq-eqb, or_cases, or_left, or_right, cases_order, false_from_ne_true}
 use Rattle.std.proofs.lemmas.List.{at_drop_more, get_or-set_same, get_or-set_other}
-use Rattle.rejudge_book.specs.Refusals.{first_twice_after, first_twice, AreKnown}
+use Rattle.farm_model.specs.Rejudgings.{first_twice_after, first_twice}
+use Rattle.rejudge_book.specs.Refusals.{AreKnown}
 
 -- the list has the submission
 abbrev pub has : List ℕ → ℕ → Bool

@@ -1,7 +1,7 @@
 -- A book of rejudgings: what is known of them, of how many submissions, and room for more.
 use Rattle.std.specs.Prelude.{ℕ, List, []}
 use Rattle.farm_model.specs.declared.records.Rejudging.{Rejudging}
-use Rattle.rejudge_book.specs.Rejudgings.{prepared, closed}
+use Rattle.farm_model.specs.Rejudgings.{prepared, closed}
 use Rattle.farm_kinds.specs.declared.outcomes.How.{How}
 
 pub record Book : Type 0 where

@@ -1,6 +1,5 @@
-pub mod Rejudgings
 pub mod Refusals
 pub mod Marks
 pub mod Book
 pub mod BookLayout
-pub mod Matrix
+pub mod Counts

@@ -7,7 +7,7 @@ use Rattle.farm_model.specs.declared.records.Rejudging.{Rejudging}
 use Rattle.farm_model.specs.Refusing.{first_of}
 use Rattle.rejudge_book.specs.declared.faults.BookFault.{BookFault}
 use Rattle.rejudge_book.specs.declared.faults.BookFault.TheVariants as fault
-use Rattle.rejudge_book.specs.Rejudgings.{holds_open}
+use Rattle.farm_model.specs.Rejudgings.{holds_open}
 
 -- the submission's mark
 abbrev pub mark_of : List ℕ → ℕ → ℕ

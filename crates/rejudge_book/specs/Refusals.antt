@@ -1,6 +1,6 @@
 -- Why a rejudging is not prepared, or not closed.
-use Rattle.std.specs.Prelude.{◌≡◌, ℕ, ◌≤◌, List, [], ◌∷◌, map, Option, Some, None, is_some, ◌==◌, if◌then◌else◌}
-use Rattle.std.specs.List.{list_any, All}
+use Rattle.std.specs.Prelude.{◌≡◌, ℕ, ◌≤◌, List, [], ◌∷◌, map, Option, Some, None, is_some}
+use Rattle.std.specs.List.{All}
 use Rattle.std.specs.Option.{option_map}
 use Rattle.farm_model.specs.declared.records.Rejudging.{Rejudging}
 use Rattle.farm_model.specs.Numbered.{item_of}
@@ -9,7 +9,7 @@ use Rattle.rejudge_book.specs.declared.faults.BookFault.{BookFault}
 use Rattle.rejudge_book.specs.declared.faults.BookFault.TheVariants as fault
 use Rattle.rejudge_book.specs.declared.faults.CloseFault.{CloseFault}
 use Rattle.rejudge_book.specs.declared.faults.CloseFault.TheVariants as close
-use Rattle.rejudge_book.specs.Rejudgings.{busy_with, closed_how}
+use Rattle.farm_model.specs.Rejudgings.{first_twice, busy_with, closed_how}
 
 -- it is the number of one of so many submissions
 pub record IsKnown (submissions : ℕ) (submission : ℕ) : Type 0 where
@@ -19,14 +19,6 @@ pub record IsKnown (submissions : ℕ) (submission : ℕ) : Type 0 where
 -- each submission of the list is one of so many
 abbrev pub AreKnown : ℕ → List ℕ → Type 0
 AreKnown submissions list = All (IsKnown submissions) list
-
--- the first member that stood earlier in the list, after those before it
-abbrev pub first_twice_after : List ℕ → List ℕ → Option ℕ
-first_twice_after earlier [] = None
-first_twice_after earlier (m ∷ list) = if list_any (λ n. n == m) earlier then Some m else first_twice_after (m ∷ earlier) list
-
-abbrev pub first_twice : List ℕ → Option ℕ
-first_twice list = first_twice_after [] list
 
 abbrev pub empty_refusal : List ℕ → Option BookFault
 empty_refusal [] = Some fault.EmptySet

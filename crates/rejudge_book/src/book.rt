@@ -1,6 +1,6 @@
 ghost use Rattle.std.specs.Prelude.{◌≡◌, ◌+◌, ◌-◌, ◌<◌, ◌≤◌, ◌^◌, length, IfOk, IfErr, OnOk, OnErr, None, Some, option_copied};
 ghost use Rattle.farm_model.specs.Numbered.{item_of};
-ghost use Rattle.rejudge_book.specs.Rejudgings.{how_closed, members_of, state_of, state_when};
+ghost use Rattle.farm_model.specs.Rejudgings.{how_closed, members_of, state_of, state_when};
 ghost use Rattle.rejudge_book.specs.Refusals.{AreKnown, IsFault, busy_refusal, close_refusal, prepare_refusal, reserve_refusal};
 ghost use Rattle.rejudge_book.specs.Book.{empty_book, with_closed, with_prepared};
 

@@ -1,7 +1,8 @@
 ghost use Rattle.std.specs.Prelude.{◌≡◌, ◌++◌, ◌<◌, ◌^◌, length, IfOk, OnOk};
 ghost use Rattle.std.specs.List.{flat_map};
 ghost use Rattle.farm_kinds.specs.Rules.{place_of};
-ghost use Rattle.rejudge_book.specs.Matrix.{AreCounts, answer_place, counted_rows, matrix_of, pair_place};
+ghost use Rattle.farm_model.specs.Matrix.{answer_place, matrix_of};
+ghost use Rattle.rejudge_book.specs.Counts.{AreCounts, counted_rows, pair_place};
 
 use farm_kinds::{Answer, Kind, MatrixRow, MatrixRows, NoMemory, Verdict};
 use std::alloc::Global;

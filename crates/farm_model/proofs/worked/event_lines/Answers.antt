@@ -25,3 +25,7 @@ returns-clause-result c = refl
 pub returns-clause-moment : goal.returns-clause-moment
 unfolding digits
 returns-clause-moment c = refl
+
+pub returns-clause-list : goal.returns-clause-list
+unfolding digits
+returns-clause-list c = refl

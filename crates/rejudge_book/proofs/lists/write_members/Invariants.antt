@@ -1,5 +1,5 @@
 use Rattle.std.proofs.Common.{◌≡◌, ◌+◌, ◌++◌, drop, vec_len, vec_capacity}
-use Rattle.rejudge_book.specs.Rejudgings.{members_from}
+use Rattle.farm_model.specs.Rejudgings.{members_from}
 use Rattle.rejudge_book.proofs.lists.write_members.Given as goal
 
 abbrev pub invariant-loop-at : goal.invariant-loop-at

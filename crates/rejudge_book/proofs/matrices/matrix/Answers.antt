@@ -1,7 +1,8 @@
 use Rattle.std.proofs.Common.{List, ◌++◌, ap, ◌∙◌}
 use Rattle.std.specs.List.{flat_map}
 use Rattle.farm_kinds.specs.declared.outcomes.MatrixRow.{MatrixRow}
-use Rattle.rejudge_book.specs.Matrix.{counted_rows, every_answer}
+use Rattle.farm_model.specs.Matrix.{every_answer}
+use Rattle.rejudge_book.specs.Counts.{counted_rows}
 use Rattle.rejudge_book.proofs.Counts.{matrix_is}
 use Rattle.rejudge_book.proofs.matrices.matrix.Goals as goal
 

@@ -1,6 +1,6 @@
 use Rattle.std.proofs.Common.{◌≡◌, ◌++◌, drop}
 use Rattle.std.specs.List.{flat_map}
-use Rattle.rejudge_book.specs.Matrix.{counted_rows}
+use Rattle.rejudge_book.specs.Counts.{counted_rows}
 use Rattle.rejudge_book.proofs.matrices.push_all.Given as goal
 
 abbrev pub invariant-loop-old : goal.invariant-loop-old

@@ -1,5 +1,5 @@
 use Rattle.std.proofs.Common.{◌≡◌, ◌++◌, drop}
-use Rattle.rejudge_book.specs.Matrix.{counted_rows}
+use Rattle.rejudge_book.specs.Counts.{counted_rows}
 use Rattle.rejudge_book.proofs.matrices.push_rows.Given as goal
 
 abbrev pub invariant-loop-new : goal.invariant-loop-new

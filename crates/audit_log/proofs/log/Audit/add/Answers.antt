@@ -1,5 +1,5 @@
 use Rattle.std.proofs.Common.{◌≡◌, List, ℕ, ap, ◌∙◌, rules}
-use Rattle.audit_log.specs.Chain.{digest_after}
+use Rattle.farm_model.specs.Chain.{digest_after}
 use Rattle.audit_log.proofs.Chained.{chained_push}
 use Rattle.audit_log.proofs.log.Audit.add.Goals as goal
 

@@ -8,7 +8,7 @@ use Rattle.farm_model.specs.declared.records.RejudgeState.{RejudgeState}
 use Rattle.farm_model.specs.declared.records.RejudgeState.TheVariants as state
 use Rattle.farm_model.specs.Numbered.{item_of}
 use Rattle.rejudge_book.specs.declared.book.Kept.{Kept}
-use Rattle.rejudge_book.specs.Rejudgings.{close_as, closed}
+use Rattle.farm_model.specs.Rejudgings.{close_as, closed}
 use Rattle.rejudge_book.specs.Refusals.{close_refusal}
 use Rattle.rejudge_book.specs.Marks.{submissions_of, with_marks}
 use Rattle.rejudge_book.specs.Book.{Book, with_closed}

@@ -4,7 +4,7 @@ use Rattle.farm_model.specs.declared.records.Member.{Member}
 use Rattle.farm_model.specs.declared.records.Rejudging.{Rejudging}
 use Rattle.farm_model.specs.declared.records.RejudgeState.TheVariants as state
 use Rattle.rejudge_book.specs.declared.book.Kept.{Kept}
-use Rattle.rejudge_book.specs.Rejudgings.{members_from}
+use Rattle.farm_model.specs.Rejudgings.{members_from}
 use Rattle.rejudge_book.specs.Refusals.{AreKnown, busy_refusal}
 use Rattle.rejudge_book.specs.Marks.{marked_refusal, submissions_of, with_marks}
 use Rattle.rejudge_book.specs.Book.{Book}

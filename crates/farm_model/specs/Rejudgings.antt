@@ -1,5 +1,5 @@
 -- Rejudgings, numbered from 1: their members, their states, and which of them a submission is in.
-use Rattle.std.specs.Prelude.{ℕ, ◌+◌, List, [], ◌∷◌, ◌++◌, Option, Some, None, Bool, true, false, ◌&&◌, ◌==◌}
+use Rattle.std.specs.Prelude.{ℕ, ◌+◌, List, [], ◌∷◌, ◌++◌, map, Option, Some, None, Bool, true, false, ◌&&◌, ◌==◌, if◌then◌else◌, unwrap_or}
 use Rattle.std.specs.List.{list_any}
 use Rattle.std.specs.Option.{option_map, option_and_then}
 use Rattle.farm_kinds.specs.declared.outcomes.How.{How}
@@ -26,6 +26,14 @@ holds_open submission rejudging = is_pending rejudging.state && has_member submi
 abbrev pub busy_with : List Rejudging → ℕ → Option ℕ
 busy_with rejudgings submission = number_where (holds_open submission) rejudgings
 
+-- the first member that stood earlier in the list, after those before it
+abbrev pub first_twice_after : List ℕ → List ℕ → Option ℕ
+first_twice_after earlier [] = None
+first_twice_after earlier (m ∷ list) = if list_any (λ n. n == m) earlier then Some m else first_twice_after (m ∷ earlier) list
+
+abbrev pub first_twice : List ℕ → Option ℕ
+first_twice list = first_twice_after [] list
+
 -- the members, whose new judgings are numbered from first
 abbrev pub members_from : ℕ → List ℕ → List ℕ → List Member
 members_from first (submission ∷ list) (old ∷ olds) = record { submission = submission; old = old; new = first } ∷ members_from (first + 1) list olds
@@ -37,6 +45,14 @@ prepared rejudgings list olds first = rejudgings ++ (record { members = members_
 
 abbrev pub members_of : List Rejudging → ℕ → Option (List Member)
 members_of rejudgings number = option_map (λ r. r.members) (item_of rejudgings number)
+
+-- the members of the rejudging of this number; none where there is no such rejudging
+abbrev pub members_in : List Rejudging → ℕ → List Member
+members_in rejudgings number = unwrap_or (members_of rejudgings number) []
+
+-- the judgings that were made for the members
+abbrev pub new_judgings : List Member → List ℕ
+new_judgings members = map (λ member. member.new) members
 
 abbrev pub state_of : List Rejudging → ℕ → Option RejudgeState
 state_of rejudgings number = option_map (λ r. r.state) (item_of rejudgings number)

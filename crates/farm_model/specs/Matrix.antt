@@ -1,5 +1,5 @@
 -- Matrices: how often one answer became another.
-use Rattle.std.specs.Prelude.{◌≡◌, ℕ, ◌+◌, ◌*◌, ◌<◌, List, [], ◌∷◌, ◌++◌, length, map, filter, count_by, slice_index, Bool, ◌&&◌, ◌==◌, nat_lt}
+use Rattle.std.specs.Prelude.{ℕ, List, [], ◌∷◌, ◌++◌, map, filter, count_by, Bool, ◌&&◌, ◌==◌, nat_lt}
 use Rattle.std.specs.List.{flat_map}
 use Rattle.farm_kinds.specs.declared.outcomes.Verdict.TheVariants.{Tests, CompilerError}
 use Rattle.farm_kinds.specs.declared.outcomes.Answer.{Answer}
@@ -34,20 +34,3 @@ is_counted row = nat_lt 0 row.count
 -- the counts above 0, in order of the old and then of the new answer
 unfoldable pub matrix_of : List (Answer × Answer) → List MatrixRow
 matrix_of pairs = filter is_counted (flat_map (λ old. map (matrix_row pairs old) every_answer) every_answer)
-
--- the place of a pair among the hundred
-abbrev pub pair_place : Answer × Answer → ℕ
-pair_place pair = 10 * answer_place pair.0 + answer_place pair.1
-
--- a row by counts that stand at the places of their pairs
-abbrev pub counted_row : List ℕ → Answer → Answer → MatrixRow
-counted_row counts old new = record { old = old; new = new; count = slice_index counts (pair_place (old, new)) }
-
--- the rows of an old answer whose count is above 0, for these new answers in order
-abbrev pub counted_rows : List ℕ → List Answer → Answer → List MatrixRow
-counted_rows counts answers old = filter is_counted (map (counted_row counts old) answers)
-
--- each pair's count stands at its place
-pub record AreCounts (counts : List ℕ) (pairs : List (Answer × Answer)) : Type 0 where
-  pub len : length counts ≡ 100
-  pub counted : (place : ℕ) → place < 100 → slice_index counts place ≡ count_by (λ pair. pair_place pair == place) pairs
