@@ -1,5 +1,6 @@
-#!/bin/sh
+#!/usr/bin/env bash
 # Runs each example, with the settings beside it where there are some, and compares what is written with its replies.
+# Where the texts of the audit log stand beside it, the last reply is compared with the chain that `chain.sh` computes.
 #
 #     examples/check.sh [PROGRAM]
 #
@@ -9,12 +10,16 @@ here=$(cd "$(dirname "$0")" && pwd)
 program=${1:-$here/../crates/farm/out/farm}
 [ -x "$program" ] || { echo "$program is not there: build it by 'rt run' in crates/farm, or name another one"; exit 1; }
 
+has_its_chain() {
+    [ ! -e "$1.texts" ] || "$here/chain.sh" <"$1.texts" | cmp -s - <(tail -n 1 "$1.replies")
+}
+
 status=0
 for lines in "$here"/*.txt; do
     example=${lines%.txt}
     set -- script
     [ ! -e "$example.json" ] || set -- script --config "$example.json"
-    if "$program" "$@" <"$lines" | cmp -s - "$example.replies"; then
+    if "$program" "$@" <"$lines" | cmp -s - "$example.replies" && has_its_chain "$example"; then
         echo "ok      $(basename "$example")"
     else
         echo "differs $(basename "$example")"

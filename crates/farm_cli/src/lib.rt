@@ -4,6 +4,8 @@
 mod config;
 mod exit;
 #[cfg(test)]
+mod rejudging_tests;
+#[cfg(test)]
 mod tests;
 mod top;
 mod words;

@@ -17,7 +17,7 @@ fn words(alloc: Global, given: &[&str]) -> Result<Vec<String>, AllocError> {
 }
 
 /// What `farm script` writes for the input, where nothing fails, and how it ends.
-fn script(alloc: Global, input: &[u8]) -> Result<(Exit, ReliableSink), AllocError> {
+pub fn script(alloc: Global, input: &[u8]) -> Result<(Exit, ReliableSink), AllocError> {
     run(
         alloc,
         &["farm", "script"],
@@ -41,7 +41,7 @@ fn run(
 }
 
 /// What `farm script` writes by the settings of a file, and how it ends.
-fn configured(
+pub fn configured(
     alloc: Global,
     settings: &[u8],
     input: &[u8],
@@ -195,7 +195,7 @@ fn refusals_of_hosts(rt: HostRuntime) -> Result<(), Fail> {
 fn lines_out_of_form(rt: HostRuntime) -> Result<(), Fail> {
     let (_, out) = script(
         rt.alloc(),
-        b"tick\ntick 01\ntick 1000000000000000000\nhost\nhost a.b\nclaim\nclaim h1 h2\nresult h1 1 1\nrenew h1 1\ndown\nsubmit A fast\nsubmit A broken high\nreplace A\n@ann problem A 1\nboard\naudit\n",
+        b"tick\ntick 01\ntick 1000000000000000000\nhost\nhost a.b\nclaim\nclaim h1 h2\nresult h1 1 1\nrenew h1 1\ndown\nsubmit A fast\nsubmit A broken high\nreplace A\n@ann submit A\nboard 1\naudit now\n",
     )?;
     assert_eq!(rt;
         out.bytes(),

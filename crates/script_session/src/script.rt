@@ -18,12 +18,17 @@ use farm_kinds::{LineFault, NoMemory, Reply};
 use std::alloc::Global;
 
 /// Answers a line, behind the replies that are pending. At `NoMemory` these stay as they were.
-fn answer_line(farm: &mut Farm, line: &[u8], pending: &mut Vec<u8>) -> Result<(), NoMemory>
+fn answer_line(
+    alloc: Global,
+    farm: &mut Farm,
+    line: &[u8],
+    pending: &mut Vec<u8>,
+) -> Result<(), NoMemory>
     ensures farm { OnOk result (farm.new ≡ (after_line farm.old (Whole line.now)).0) }
     ensures text { OnOk result (pending.new.items ≡ pending.old.items ++ (after_line farm.old (Whole line.now)).1) }
     ensures kept { OnErr result (pending.new.items ≡ pending.old.items) }
 {
-    match read_line(line) {
+    match read_line(alloc, line) {
         Ok(None) => Ok(()),
         Ok(Some(event)) => {
             let reply = farm.step(&event);
@@ -33,6 +38,7 @@ fn answer_line(farm: &mut Farm, line: &[u8], pending: &mut Vec<u8>) -> Result<()
             push_reply(pending, &reply)
         }
         Err(LineFault::BadLine) => push_bad_line(pending),
+        Err(LineFault::NoMemory) => Err(NoMemory),
     }
 }
 
@@ -78,6 +84,7 @@ fn end_without_memory<K: Sink>(pending: &mut Vec<u8>, out: &mut K) -> ScriptEnd
 /// Reads one line and answers it, or says how the session ends. Nothing is pending where the source has to
 /// be asked.
 fn answer_next<S: Source, K: Sink>(
+    alloc: Global,
     farm: &mut Farm,
     reader: &mut LineReader,
     pending: &mut Vec<u8>,
@@ -96,7 +103,7 @@ fn answer_next<S: Source, K: Sink>(
     ensures write { result ≡ Some ScriptEnd.WriteFault → Rose (K.faults out.old) (K.faults out.new) }
 {
     match reader.next_line(input) {
-        Line::Text => match answer_line(farm, reader.text(), pending) {
+        Line::Text => match answer_line(alloc, farm, reader.text(), pending) {
             Ok(()) => None,
             Err(NoMemory) => Some(end_without_memory(pending, out)),
         },
@@ -112,6 +119,7 @@ fn answer_next<S: Source, K: Sink>(
 
 /// One turn of a session: puts what is pending before the source is asked, and answers the next line.
 fn turn<S: Source, K: Sink>(
+    alloc: Global,
     farm: &mut Farm,
     reader: &mut LineReader,
     pending: &mut Vec<u8>,
@@ -129,7 +137,7 @@ fn turn<S: Source, K: Sink>(
     ensures write { result ≡ Some ScriptEnd.WriteFault → Rose (K.faults out.old) (K.faults out.new) }
 {
     match put_before_asking(reader, pending, out) {
-        PutEnd::Done => answer_next(farm, reader, pending, input, out),
+        PutEnd::Done => answer_next(alloc, farm, reader, pending, input, out),
         PutEnd::Failed => Some(ScriptEnd::WriteFault),
     }
 }
@@ -161,7 +169,7 @@ pub fn run_script<S: Source, K: Sink>(
     let mut reader = LineReader::new();
     let mut pending = Vec::new(alloc);
     'lines: loop {
-        if let Some(end) = turn(farm, &mut reader, &mut pending, input, out) {
+        if let Some(end) = turn(alloc, farm, &mut reader, &mut pending, input, out) {
             return end;
         }
     }

@@ -1,0 +1,108 @@
+#!/usr/bin/env python3
+"""Refuses each allocation of `farm script` in turn, one a run, and looks at how the program ends.
+
+    bench/script/memory.py [PROGRAM]
+
+PROGRAM is the built program, `crates/farm/out/farm` of this repository if none is given. Some scripts are played, with
+the n-th allocation refused in the n-th run, until a run asks for fewer. Wanted is status 6 with a front of the replies,
+and nothing else. `refuse.c`, which a C compiler makes a shared object of, refuses the allocations. Printed are how many
+allocations each script asks for, and each run that ends otherwise.
+"""
+
+import os
+import shutil
+import subprocess
+import sys
+
+sys.dont_write_bytecode = True
+
+from run import HERE, OUT, program_and_numbers  # noqa: E402
+
+SCRIPTS = {
+    "smallest path": """problem A 2
+submit A
+record 1 1 correct
+show 1
+record 1 2 correct
+show 1
+""",
+    "apply is one change": """problem A 1
+submit A
+submit A
+record 1 1 correct
+record 2 1 wrong-answer
+rejudge 1,2
+record 3 1 wrong-answer
+apply 1
+board
+record 4 1 correct
+matrix 1
+apply 1
+board
+apply 1
+""",
+    "every event that takes memory": """problem A 1
+@ann replace A 2
+host h1
+submit A broken
+submit A low
+rejudge 1
+@ann cancel 1
+rejudge 1
+apply 2
+claim h1
+result h1 2 1 run-error
+verify 2
+matrix 2
+board
+audit
+down h1
+host h1
+""",
+}
+
+
+def make_refuser():
+    """The shared object that refuses an allocation."""
+    compiler = shutil.which("cc") or shutil.which("gcc")
+    if compiler is None:
+        sys.exit("no C compiler here")
+    library = os.path.join(OUT, "refuse.so")
+    source = os.path.join(HERE, "refuse.c")
+    subprocess.run([compiler, "-O1", "-shared", "-fPIC", "-o", library, source, "-ldl"], check=True)
+    return library
+
+
+def play(program, library, lines, refused):
+    """The status, what was written, and how many allocations were asked for."""
+    asked = os.path.join(OUT, "asked")
+    env = dict(os.environ, LD_PRELOAD=library, REFUSE=str(refused), REFUSE_COUNT=asked)
+    done = subprocess.run([program, "script"], input=lines.encode(), capture_output=True, env=env, check=False)
+    with open(asked) as file:
+        return done.returncode, done.stdout, int(file.read())
+
+
+def measure(program, library, name):
+    """Whether every run ends as it should."""
+    lines = SCRIPTS[name]
+    status, replies, asked = play(program, library, lines, 0)
+    sound, fronts = status == 0, set()
+    for refused in range(1, asked + 1):
+        status, written, _ = play(program, library, lines, refused)
+        fronts.add(written)
+        if status != 6 or not replies.startswith(written):
+            print(f"  {name}: allocation {refused} refused: status {status}, {written!r}")
+            sound = False
+    print(f"{name}: {asked} allocations, each refused in turn: {'status 6 and' if sound else 'NOT always'} a front of the replies")
+    print(f"  {len(fronts)} different fronts")
+    return sound
+
+
+def main():
+    program, _ = program_and_numbers(sys.argv[1:])
+    library = make_refuser()
+    return 0 if all([measure(program, library, name) for name in SCRIPTS]) else 1
+
+
+if __name__ == "__main__":
+    sys.exit(main())
