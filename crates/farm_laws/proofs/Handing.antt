@@ -216,8 +216,8 @@ verify_quiet s j =
     let final = is_final (answer_at s j) in
     let known = is_verified s.filings j in
     first_quiet (unless judging (reply.NoJudging j)) _ (unless_quiet judging (reply.NoJudging j) refl) (
-      three_quiet (when (is_dropped s.judge.judgings j) reply.Dropped) (unless final (reply.NotFinal j)) (when known (reply.Already j))
-      (when_quiet (is_dropped s.judge.judgings j) reply.Dropped refl) (unless_quiet final (reply.NotFinal j) refl) (when_quiet known (reply.Already j) refl))
+    three_quiet (when (is_dropped s.judge.judgings j) reply.Dropped) (unless final (reply.NotFinal j)) (when known (reply.Already j))
+    (when_quiet (is_dropped s.judge.judgings j) reply.Dropped refl) (unless_quiet final (reply.NotFinal j) refl) (when_quiet known (reply.Already j) refl))
 
 refused_quiet : (s : State) (refusal : Option Reply) (done : State × Reply) → Quiet refusal → is_handed done.1 ≡ false → is_handed (refused_or s refusal done).1 ≡ false
 refused_quiet s None done h k = k
