@@ -45,14 +45,14 @@ all_current submissions (m ∷ members) are =
       all_current later members (are.0.1, others),
     )
 
--- what is no item of a list differs from each
+-- what is not seen in a list differs from each of its items, as it is seen
 none_is : {X : Type 0} (f : X → ℕ) (xs : List X) (n : ℕ) → (Contains (map f xs) n → ⊥) → Each (λ x. f x ≢ n) xs
 none_is f [] n h = tt
 none_is f (x ∷ xs) n h = (λ e. h (zero, omega arith, e), none_is f xs n (λ c. let lt = c.1 in h (suc c.0, omega (arith, lt), c.2)))
 
 -- Applies that are accepted
 
--- an apply is refused by none of the answers that say how many members it has
+-- an apply that is answered with the number of its members is not refused
 not_refused : (s : State) (done : State × Reply) (is : Bool) (r : ℕ) (how : Option How) (judging : Option ℕ) (n : ℕ)
     → (refused_or s (first_of (first_of (unless is (reply.NoRejudging r) ∷ option_map reply.Closed how ∷ []) ∷ option_map reply.Unfinished judging ∷ [])) done).1 ≡ reply.Applied n
     → first_of (first_of (unless is (reply.NoRejudging r) ∷ option_map reply.Closed how ∷ []) ∷ option_map reply.Unfinished judging ∷ []) ≡ None

@@ -35,7 +35,7 @@ Apart (m ∷ members) = Each (λ other. other.submission ≢ m.submission) membe
 abbrev pub AreThere : List Submission → List Member → Type 0
 AreThere submissions members = Each (λ m. IsSome (item_of submissions m.submission)) members
 
--- the members are different submissions, each of which is there
+-- they are different submissions, each of which is there
 abbrev pub AreMembers : List Submission → List Member → Type 0
 AreMembers submissions members = Apart members × AreThere submissions members
 
@@ -155,7 +155,7 @@ prepared_members s first list olds h =
 abbrev members_lists : List Rejudging → List (List Member)
 members_lists rejudgings = map (λ rejudging. rejudging.members) rejudgings
 
--- every rejudging has members
+-- the members of every rejudging are different submissions, each of which is there
 abbrev pub AllMembers : State → Type 0
 AllMembers s = Each (AreMembers s.submissions) (members_lists s.rejudgings)
 
