@@ -7,4 +7,9 @@ pub mod Runs
 pub mod Rows
 pub mod Later
 pub mod Handing
+pub mod Outcomes
+pub mod Moves
+pub mod Cancels
+pub mod Members
+pub mod Applying
 pub mod Reporting
