@@ -6,6 +6,7 @@ pub mod Steps
 pub mod Runs
 pub mod Rows
 pub mod Later
+pub mod Quiet
 pub mod Handing
 pub mod Outcomes
 pub mod Moves
