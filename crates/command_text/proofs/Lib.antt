@@ -1,7 +1,9 @@
 pub mod WordLemmas
 pub mod NumberLemmas
 pub mod Joining
+pub mod RowLemmas
 pub mod LineLemmas
+pub mod PartLemmas
 pub mod ActorLemmas
 pub mod Tokens
 pub mod Decimals
