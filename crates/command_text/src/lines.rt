@@ -158,7 +158,6 @@ fn plain_event_of(word: &[u8], rest: &[u8]) -> Option<Event>
 }
 
 /// The event of a line without `@NAME` that begins with this word. Where it is the jury's, `jury` acts.
-#[tactic(auto, using(crate::proofs::LineLemmas::listed_first))]
 fn unnamed_event_of(
     alloc: Global,
     word: &[u8],

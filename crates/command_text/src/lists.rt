@@ -8,6 +8,7 @@ use farm_kinds::{NoMemory, Numbers};
 use std::alloc::Global;
 
 /// The part before the first comma, and what stands behind the comma, where there is one.
+#[tactic(auto, using(crate::proofs::PartLemmas::part_more, crate::proofs::PartLemmas::cut_at, crate::proofs::PartLemmas::uncut))]
 fn cut_part(text: &[u8]) -> (&[u8], Option<&[u8]>)
     ensures parts { comma_parts text.now ≡ result.0.now ∷ parts_behind result.1 }
     ensures shorter { IfSome result.1 (λ rest. length rest.now < length text.now) }
@@ -21,6 +22,7 @@ fn cut_part(text: &[u8]) -> (&[u8], Option<&[u8]>)
 }
 
 /// How many numbers the list has. None where one of its parts is no number.
+#[tactic(auto, using(crate::proofs::PartLemmas::count_none_yet, crate::proofs::PartLemmas::none_counted, crate::proofs::PartLemmas::one_counted))]
 fn count_of(list: &[u8]) -> Option<usize>
     ensures { result ≡ option_map length (list_of list.now) }
 {
@@ -38,6 +40,7 @@ fn count_of(list: &[u8]) -> Option<usize>
 }
 
 /// The numbers of the list, in the room that was made for them.
+#[tactic(auto, using(crate::proofs::PartLemmas::none_yet, crate::proofs::PartLemmas::none_appended, crate::proofs::PartLemmas::one_appended))]
 fn numbers_in(mut room: Vec<u32>, list: &[u8]) -> Option<Numbers>
     requires blank { room.items ≡ [] }
     requires enough { length (comma_parts list.now) ≤ vec_capacity room }
