@@ -8,4 +8,5 @@ pub mod ActorLemmas
 pub mod Tokens
 pub mod Decimals
 pub mod Readable
+pub mod ListsBack
 pub mod ReadBack

@@ -21,12 +21,12 @@ parts_step : (b : ℕ) (bs : List ℕ) → b ≢ 44 → comma_parts (b ∷ bs) �
 parts_step b bs h = rw (not_comma b h) refl
 
 -- a part that is all
-part_last : (part : List ℕ) → IsPart part → comma_parts part ≡ part ∷ []
+pub part_last : (part : List ℕ) → IsPart part → comma_parts part ≡ part ∷ []
 part_last [] h = refl
 part_last (b ∷ bs) h = parts_step b bs h.0 ∙ ap (onto_first_part b) (part_last bs h.1)
 
 -- a part and a comma
-part_then : (part rest : List ℕ) → IsPart part → comma_parts (part ++ 44 ∷ rest) ≡ part ∷ comma_parts rest
+pub part_then : (part rest : List ℕ) → IsPart part → comma_parts (part ++ 44 ∷ rest) ≡ part ∷ comma_parts rest
 part_then [] rest h = refl
 part_then (b ∷ bs) rest h = parts_step b (bs ++ 44 ∷ rest) h.0 ∙ ap (onto_first_part b) (part_then bs rest h.1)
 
