@@ -1,5 +1,5 @@
 use Rattle.command_text.proofs.WordLemmas.{first_word}
-use Rattle.command_text.proofs.lines.cut_word.Goals as goal
+use Rattle.command_text.proofs.words.cut_word.Goals as goal
 
 pub returns : goal.returns
 returns c =
