@@ -1,9 +1,10 @@
 use crate::{
-    push_bad_line, push_reply, push_too_long, read_line, write_event, write_event_words, write_reply,
+    push_bad_line, push_reply, push_too_long, read_line, write_event, write_event_words,
+    write_reply,
 };
 use farm_kinds::{
-    Answer, Answers, Class, Event, How, Kind, LineFault, MatrixRow, MatrixRows, Name, NoMemory, Reply, Task,
-    Text, Verdict,
+    Answer, Answers, Class, Event, How, Kind, LineFault, MatrixRow, MatrixRows, Name, NoMemory,
+    Reply, Task, Text, Verdict,
 };
 use std::alloc::Global;
 use std::test::Fail;
@@ -77,7 +78,12 @@ fn spaces_a_normal_class_and_the_jury_are_left_out(rt: HostRuntime) -> Result<()
 
 #[test]
 fn a_line_says_which_event_it_is(rt: HostRuntime) {
-    assert!(rt; matches!(read_line(rt.alloc(), b"tick 60"), Ok(Some(Event::Tick { moment: 60 }))));
+    assert!(rt;
+        matches!(
+            read_line(rt.alloc(), b"tick 60"),
+            Ok(Some(Event::Tick { moment: 60 }))
+        )
+    );
     assert!(rt;
         matches!(
             read_line(rt.alloc(), b"submit A low broken"),
@@ -369,6 +375,8 @@ fn a_matrix_has_the_old_answer_before_the_new_one(rt: HostRuntime) -> Result<(),
     })?;
     let reply = Reply::Matrix { rows, members: 3 };
     let text = write_reply(rt.alloc(), &reply)?;
-    assert!(rt; text.as_slice() == b"wrong-answer correct 2\ncorrect pending 1\nmatrix 3".as_slice());
+    assert!(rt;
+        text.as_slice() == b"wrong-answer correct 2\ncorrect pending 1\nmatrix 3".as_slice()
+    );
     Ok(())
 }
