@@ -1,12 +1,12 @@
 -- Numbers joined by single commas are read as these numbers.
-use Rattle.std.proofs.Common.{ℕ, ◌≡◌, ◌<◌, ◌≤◌, ◌^◌, ◌≢◌, Bool, true, List, [], ◌∷◌, ◌++◌, Some, refl, sym, ap, subst, ◌∙◌, arith, length, append_assoc}
+use Rattle.std.proofs.Common.{ℕ, ◌≡◌, ◌<◌, ◌≢◌, true, List, [], ◌∷◌, ◌++◌, Some, refl, sym, ap, subst, ◌∙◌, arith, length}
 use Rattle.std.specs.Prelude.{map}
 use Rattle.std.specs.Fmt.{decimal}
 use Rattle.std.specs.List.{join_with_byte, list_all}
 use Rattle.std.proofs.lemmas.Bool.{and_parts}
 use Rattle.std.proofs.lemmas.Bool.Decides.{nat_tests}
 use Rattle.std.proofs.lemmas.List.{append-nil}
-use Rattle.farm_model.specs.Numbers.{is_digit, number_of, comma_parts, before_all, all_numbers, list_of}
+use Rattle.farm_model.specs.Numbers.{is_digit, comma_parts, before_all, all_numbers, list_of}
 use Rattle.command_text.specs.NextWord.{IsWord}
 use Rattle.command_text.specs.Parts.{IsPart}
 use Rattle.command_text.specs.WordList.{commas}

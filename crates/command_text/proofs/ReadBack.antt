@@ -14,7 +14,7 @@ use Rattle.farm_kinds.specs.declared.outcomes.Class.{Class}
 use Rattle.farm_kinds.specs.declared.outcomes.Class.TheVariants.{High, Normal, Low}
 use Rattle.farm_kinds.specs.Names.{is_name, name_read, jury}
 use Rattle.farm_kinds.specs.Kinds.{name_of, kind_named}
-use Rattle.farm_model.specs.Numbers.{number_of, moment_of, all_numbers, list_of}
+use Rattle.farm_model.specs.Numbers.{number_of, moment_of}
 use Rattle.farm_model.specs.Grammar.{◌>>=◌, problem_line, replace_line, rejudge_line, number_line, name_line, submit_words, submit_line, result_line, record_line, renew_line, tick_line, jury_event_of, host_event_of, other_event_of, unnamed_event_of, event_or_bad, read_of_words, line_read}
 use Rattle.farm_model.specs.Texts.{class_words, image_words, list_words, event_words, actor_of, actor_words, event_text}
 use Rattle.command_text.proofs.Tokens.{IsToken, AreTokens, token-name, words_joined}
@@ -134,9 +134,9 @@ jury_back : (who word : List ℕ) (ws : List (List ℕ)) (e : Event) → IsName 
 jury_back who word ws e named unmarked back =
     by_actor (bytes_eq who jury) who (word ∷ ws) e
     (λ same.
-      let is : who ≡ jury = (bytes_eq-Decides who jury).0 same in
-      let by_jury : jury_event_of jury word ws ≡ Some e = ap (λ w. jury_event_of w word ws) (sym is) ∙ back in
-      unmarked ∙ ap (λ o. event_or_bad (option_or o (option_or (host_event_of word ws) (other_event_of word ws)))) by_jury)
+    let is : who ≡ jury = (bytes_eq-Decides who jury).0 same in
+    let by_jury : jury_event_of jury word ws ≡ Some e = ap (λ w. jury_event_of w word ws) (sym is) ∙ back in
+    unmarked ∙ ap (λ o. event_or_bad (option_or o (option_or (host_event_of word ws) (other_event_of word ws)))) by_jury)
     (ap event_or_bad (step (name_read who) who (λ w. jury_event_of w word ws) (name_back who named) ∙ back))
 
 actor_name : (e : Event) → IsReadable e → IsName (actor_of e)

@@ -22,11 +22,7 @@ fn problem_line(who: Name, rest: &[u8]) -> Option<Event>
     }
     let name = Name::read(name)?;
     let tests = read_number(tests)?;
-    Some(Event::Problem {
-        who,
-        name,
-        tests,
-    })
+    Some(Event::Problem { who, name, tests })
 }
 
 /// What `replace NAME N` asks.
@@ -40,11 +36,7 @@ fn replace_line(who: Name, rest: &[u8]) -> Option<Event>
     }
     let name = Name::read(name)?;
     let tests = read_number(tests)?;
-    Some(Event::Replace {
-        who,
-        name,
-        tests,
-    })
+    Some(Event::Replace { who, name, tests })
 }
 
 /// What `rejudge [LIST]` asks. Memory is taken only where each number of the list is read.

@@ -158,11 +158,7 @@ fn plain_event_of(word: &[u8], rest: &[u8]) -> Option<Event>
 }
 
 /// The event of a line without `@NAME` that begins with this word. Where it is the jury's, `jury` acts.
-fn unnamed_event_of(
-    alloc: Global,
-    word: &[u8],
-    rest: &[u8],
-) -> Result<Option<Event>, NoMemory>
+fn unnamed_event_of(alloc: Global, word: &[u8], rest: &[u8]) -> Result<Option<Event>, NoMemory>
     ensures read { IfOk result (λ read. read ≡ unnamed_event_of word.now (words rest.now)) }
     ensures wanted { OnErr result (0 < length (listed (unnamed_event_of word.now (words rest.now)))) }
 {
