@@ -1,6 +1,15 @@
-//! The farm: problems, submissions and their judgings, and the answer to each event.
+//! The farm: problems, submissions, their judgings and rejudgings, the audit log, and the answer to each
+//! event.
 #![tactic(auto)]
 
+mod entries;
 mod farm;
+mod lists;
+mod places;
+mod rejudging;
+mod replies;
+#[cfg(test)]
+mod tests;
+mod words;
 
 pub use farm::Farm;
