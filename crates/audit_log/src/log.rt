@@ -97,6 +97,13 @@ impl Audit {
         Ok(())
     }
 
+    /// How many entries there are.
+    pub fn len(&self) -> usize
+        ensures { result ≡ length self.now.texts }
+    {
+        self.entries.len()
+    }
+
     /// The last digest, or where there is no entry the SHA-256 of the empty text.
     pub fn head(&self) -> [u8; 32]
         ensures { result ≡ chain_head self.now.texts }

@@ -98,6 +98,7 @@ fn digests_are_chained(rt: HostRuntime) -> Result<(), Fail> {
         assert!(rt; add(&mut audit, case));
         assert!(rt; is_digest(&audit.head(), case.3), "at {}", case.2);
     }
+    assert_eq!(rt; audit.len(), CASES.len());
     assert_eq!(rt; audit.entries().len(), CASES.len());
     for (entry, case) in audit.entries().iter().zip(CASES) {
         assert_eq!(rt; entry.text.as_slice(), case.2.as_bytes());

@@ -8,12 +8,9 @@ use Rattle.farm_model.specs.declared.records.RejudgeState.{RejudgeState}
 use Rattle.farm_model.specs.declared.records.RejudgeState.TheVariants as state
 use Rattle.farm_model.specs.Numbered.{item_of, change_item}
 use Rattle.farm_model.specs.Refusing.{first_of, unless}
-use Rattle.std.proofs.lemmas.Option.{slice_get-map}
-use Rattle.rejudge_book.specs.declared.book.Kept.{Kept}
-use Rattle.rejudge_book.specs.declared.faults.CloseFault.TheVariants as close
 use Rattle.farm_model.specs.Rejudgings.{how_closed, close_as, closed}
+use Rattle.rejudge_book.specs.declared.faults.CloseFault.TheVariants as close
 use Rattle.rejudge_book.specs.Refusals.{close_refusal}
-use Rattle.rejudge_book.specs.BookLayout.{rejudging_of, rejudgings_of}
 
 -- the item of a number stands at the place before it
 pub item_place : {X : Type 0} (xs : List X) (n : ℕ) (x : X) → item_of xs n ≡ Some x → slice_get xs (n - 1) ≡ Some x
@@ -31,14 +28,3 @@ accepted rs n r e o =
 
 pub closed_is : (rs : List Rejudging) (n : ℕ) (r : Rejudging) (w : How) → item_of rs n ≡ Some r → closed rs n w ≡ set rs (n - 1) (close_as w r)
 closed_is rs n r w e = ap (λ (i : Option Rejudging). change_item rs n (close_as w) i) e
-
--- the rejudgings that are kept as what they are
-pub place_of_kept : (ks : List Kept) (n : ℕ) (k : Kept) → item_of ks n ≡ Some k → slice_get (rejudgings_of ks) (n - 1) ≡ Some (rejudging_of k)
-place_of_kept ks n k e = slice_get-map rejudging_of ks (n - 1) ∙ ap (option_map rejudging_of) (item_place ks n k e)
-
-pub item_of_kept : (ks : List Kept) (n : ℕ) (k : Kept) → item_of ks n ≡ Some k → item_of (rejudgings_of ks) n ≡ Some (rejudging_of k)
-item_of_kept ks n k e =
-    elim (nat_lt 0 n) as (λ t. cond t (slice_get ks (n - 1)) None ≡ Some k → cond t (slice_get (rejudgings_of ks) (n - 1)) None ≡ Some (rejudging_of k)) [
-      | true ↦ λ h. slice_get-map rejudging_of ks (n - 1) ∙ ap (option_map rejudging_of) h
-      | false ↦ λ h. cc
-    ] e

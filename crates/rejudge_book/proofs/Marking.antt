@@ -10,9 +10,9 @@ use Rattle.farm_model.specs.declared.records.Member.{Member}
 use Rattle.farm_model.specs.declared.records.Rejudging.{Rejudging}
 use Rattle.farm_model.specs.declared.records.RejudgeState.TheVariants as state
 use Rattle.farm_model.specs.Refusing.{first_of}
+use Rattle.farm_model.specs.Rejudgings.{is_pending, has_member, holds_open, busy_with, members_from, close_as}
 use Rattle.rejudge_book.specs.declared.faults.BookFault.{BookFault}
 use Rattle.rejudge_book.specs.declared.faults.BookFault.TheVariants as fault
-use Rattle.farm_model.specs.Rejudgings.{is_pending, has_member, holds_open, busy_with, members_from, close_as}
 use Rattle.rejudge_book.specs.Refusals.{IsKnown, AreKnown, busy_fault, busy_refusal}
 use Rattle.rejudge_book.specs.Marks.{mark_of, with_marks, submissions_of, marked, marked_fault, marked_refusal, IsIn, AreMarks}
 use Rattle.rejudge_book.proofs.Places.{passes, passes_before, passes_still, passes_last, passes_set_same, passes_set_other, none_passes, one_passes}

@@ -1,8 +1,8 @@
 -- A book of rejudgings: what is known of them, of how many submissions, and room for more.
 use Rattle.std.specs.Prelude.{ℕ, List, []}
+use Rattle.farm_kinds.specs.declared.outcomes.How.{How}
 use Rattle.farm_model.specs.declared.records.Rejudging.{Rejudging}
 use Rattle.farm_model.specs.Rejudgings.{prepared, closed}
-use Rattle.farm_kinds.specs.declared.outcomes.How.{How}
 
 pub record Book : Type 0 where
   -- in the order of their numbers

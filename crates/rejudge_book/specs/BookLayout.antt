@@ -1,16 +1,8 @@
 -- How a book lies in memory.
-use Rattle.std.specs.Prelude.{◌≡◌, ℕ, ◌-◌, List, [], map, min, vec_len, vec_capacity, nat_lt, if◌then◌else◌}
-use Rattle.farm_model.specs.declared.records.Rejudging.{Rejudging}
-use Rattle.rejudge_book.specs.declared.book.Kept.{Kept}
+use Rattle.std.specs.Prelude.{◌≡◌, ℕ, ◌-◌, [], min, vec_len, vec_capacity, nat_lt, if◌then◌else◌}
 use Rattle.rejudge_book.specs.declared.book.RejudgeBook.TheInside.{Inside}
 use Rattle.rejudge_book.specs.Book.{Book}
 use Rattle.rejudge_book.specs.Marks.{AreMarks}
-
-abbrev pub rejudging_of : Kept → Rejudging
-rejudging_of kept = record { members = kept.members; state = kept.state }
-
-abbrev pub rejudgings_of : List Kept → List Rejudging
-rejudgings_of list = map rejudging_of list
 
 -- the room for members counts only where there is a place for their rejudging
 abbrev pub room_kept : Inside → ℕ
@@ -18,14 +10,14 @@ room_kept a = if nat_lt (vec_len a.rejudgings) (vec_capacity a.rejudgings) then 
 
 abbrev pub book_value : Inside → Book
 book_value a = record {
-  rejudgings = rejudgings_of a.rejudgings.items;
+  rejudgings = a.rejudgings.items;
   submissions = vec_len a.marks;
   spare = min (vec_capacity a.marks) (vec_capacity a.places) - vec_len a.marks;
   reserved = room_kept a;
 }
 
 pub record IsBookLayout (a : Inside) : Type 0 where
-  pub marks : AreMarks (rejudgings_of a.rejudgings.items) a.marks.items
+  pub marks : AreMarks (a.rejudgings.items) a.marks.items
   -- a place for each submission, which holds any number
   pub places : vec_len a.places ≡ vec_len a.marks
   -- nothing is written yet into the room for the next members

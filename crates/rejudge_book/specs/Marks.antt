@@ -5,9 +5,9 @@ use Rattle.std.specs.List.{slice_get}
 use Rattle.farm_model.specs.declared.records.Member.{Member}
 use Rattle.farm_model.specs.declared.records.Rejudging.{Rejudging}
 use Rattle.farm_model.specs.Refusing.{first_of}
+use Rattle.farm_model.specs.Rejudgings.{holds_open}
 use Rattle.rejudge_book.specs.declared.faults.BookFault.{BookFault}
 use Rattle.rejudge_book.specs.declared.faults.BookFault.TheVariants as fault
-use Rattle.farm_model.specs.Rejudgings.{holds_open}
 
 -- the submission's mark
 abbrev pub mark_of : List ℕ → ℕ → ℕ

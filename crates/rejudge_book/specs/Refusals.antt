@@ -5,11 +5,11 @@ use Rattle.std.specs.Option.{option_map}
 use Rattle.farm_model.specs.declared.records.Rejudging.{Rejudging}
 use Rattle.farm_model.specs.Numbered.{item_of}
 use Rattle.farm_model.specs.Refusing.{unless, first_of}
+use Rattle.farm_model.specs.Rejudgings.{first_twice, busy_with, closed_how}
 use Rattle.rejudge_book.specs.declared.faults.BookFault.{BookFault}
 use Rattle.rejudge_book.specs.declared.faults.BookFault.TheVariants as fault
 use Rattle.rejudge_book.specs.declared.faults.CloseFault.{CloseFault}
 use Rattle.rejudge_book.specs.declared.faults.CloseFault.TheVariants as close
-use Rattle.farm_model.specs.Rejudgings.{first_twice, busy_with, closed_how}
 
 -- it is the number of one of so many submissions
 pub record IsKnown (submissions : ℕ) (submission : ℕ) : Type 0 where

@@ -6,19 +6,11 @@ ghost use Rattle.rejudge_book.specs.Book.{empty_book, with_closed, with_prepared
 
 use crate::faults::{BookFault, CloseFault};
 use crate::lists::{first_marked, first_twice, mark, write_members};
-use crate::members::Members;
 use farm_kinds::{How, NoMemory};
-use farm_model::{Member, RejudgeState};
+use farm_model::{Member, Members, RejudgeState, Rejudging};
 use std::alloc::Global;
 use std::marker::Model;
 use std::mem;
-
-/// A rejudging as it is kept.
-#[derive(Debug, Drop)]
-struct Kept {
-    members: Members,
-    state: RejudgeState,
-}
 
 /// The rejudgings and the submissions, both numbered from 1. A submission is in at most one rejudging that
 /// is open.
@@ -27,7 +19,7 @@ struct Kept {
 #[derive(Drop)]
 pub struct RejudgeBook {
     alloc: Global,
-    rejudgings: Vec<Kept>,
+    rejudgings: Vec<Rejudging>,
     /// For each submission the number of the open rejudging that it is in, or 0.
     marks: Vec<u32>,
     /// For each submission a place of its own, where it is written at which index of a list it stood.
@@ -168,13 +160,13 @@ impl RejudgeBook {
         ensures closed { OnOk result (self.new ≡ with_closed self.old number how) }
         ensures unchanged { OnErr result (self.new ≡ self.old) }
     {
-        let Some(kept) = rejudging_at(&self.rejudgings, number) else {
+        let Some(rejudging) = rejudging_at(&self.rejudgings, number) else {
             return Err(CloseFault::NoRejudging);
         };
-        if let Some(how) = how_closed(kept.state) {
+        if let Some(how) = how_closed(rejudging.state) {
             return Err(CloseFault::Closed { how });
         }
-        mark(&mut self.marks, kept.members.as_slice(), 0);
+        mark(&mut self.marks, rejudging.members.as_slice(), 0);
         self.rejudgings[number as usize - 1].state = state_when(how);
         Ok(())
     }
@@ -183,14 +175,14 @@ impl RejudgeBook {
     pub fn members(&self, number: u32) -> Option<&Members>
         ensures { option_copied result ≡ members_of self.now.rejudgings number }
     {
-        rejudging_at(&self.rejudgings, number).map(|kept| &kept.members)
+        rejudging_at(&self.rejudgings, number).map(|rejudging| &rejudging.members)
     }
 
     /// Where the rejudging of this number stands. None where no rejudging has it.
     pub fn state(&self, number: u32) -> Option<RejudgeState>
         ensures { result ≡ state_of self.now.rejudgings number }
     {
-        rejudging_at(&self.rejudgings, number).map(|kept| kept.state)
+        rejudging_at(&self.rejudgings, number).map(|rejudging| rejudging.state)
     }
 
     /// Why no rejudging of these submissions is prepared, but for the empty list and for want of memory.
@@ -221,7 +213,7 @@ impl RejudgeBook {
         let mut list = mem::replace(&mut self.ready, Vec::new(self.alloc));
         write_members(&mut list, members, olds, first);
         mark(&mut self.marks, list.as_slice(), number);
-        self.rejudgings.push_reserved(Kept {
+        self.rejudgings.push_reserved(Rejudging {
             members: Members::from_vec(list),
             state: RejudgeState::Open,
         });
@@ -265,7 +257,7 @@ impl RejudgeBook {
 }
 
 /// The rejudging of this number.
-fn rejudging_at(rejudgings: &[Kept], number: u32) -> Option<&Kept>
+fn rejudging_at(rejudgings: &[Rejudging], number: u32) -> Option<&Rejudging>
     ensures { option_copied result ≡ item_of rejudgings.now number }
 {
     if number == 0 {

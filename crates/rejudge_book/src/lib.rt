@@ -6,12 +6,9 @@ mod book;
 mod faults;
 mod lists;
 mod matrices;
-mod members;
 #[cfg(test)]
 mod tests;
 
 pub use book::RejudgeBook;
-pub use farm_model::{Member, RejudgeState};
 pub use faults::{BookFault, CloseFault};
 pub use matrices::matrix;
-pub use members::Members;

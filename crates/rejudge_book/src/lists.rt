@@ -1,7 +1,6 @@
 ghost use Rattle.std.specs.Prelude.{◌≡◌, ◌+◌, ◌<◌, ◌≤◌, ◌^◌, [], length, vec_capacity, vec_len};
 ghost use Rattle.std.specs.List.{All};
-ghost use Rattle.farm_model.specs.Rejudgings.{members_from};
-ghost use Rattle.farm_model.specs.Rejudgings.{first_twice};
+ghost use Rattle.farm_model.specs.Rejudgings.{first_twice, members_from};
 ghost use Rattle.rejudge_book.specs.Refusals.{AreKnown, IsKnown};
 ghost use Rattle.rejudge_book.specs.Marks.{marked_refusal, submissions_of, with_marks};
 

@@ -1,8 +1,9 @@
 ghost use Rattle.std.specs.Prelude.{◌≡◌, true};
 ghost use Rattle.rejudge_book.specs.Refusals.{AreKnown};
 
-use crate::{BookFault, CloseFault, RejudgeBook, RejudgeState, matrix};
+use crate::{BookFault, CloseFault, RejudgeBook, matrix};
 use farm_kinds::{Answer, How, Kind, MatrixRow, NoMemory, Verdict};
+use farm_model::RejudgeState;
 use std::test::Fail;
 
 const CORRECT: Answer = Answer::Final(Verdict::Tests(Kind::Correct));
