@@ -15,7 +15,7 @@ use Rattle.farm_model.specs.Refusals.{is_test_count, refusal_of}
 use Rattle.farm_model.specs.Changes.{next_version, host_as}
 use Rattle.farm_model.specs.Farm.{farm_step, Stepped}
 use Rattle.judging_core.proofs.Changed.{item_there}
-use Rattle.farm_core.proofs.Submits.{stepped_by}
+use Rattle.farm_core.proofs.Stepping.{stepped_by}
 
 -- Versions
 
@@ -34,36 +34,6 @@ at_place xs place x lt e = let same : place + 1 - 1 ≡ place = omega arith in i
 
 set_place : {X : Type 0} (xs : List X) (place : ℕ) (x : X) → set xs place x ≡ with_item xs (place + 1) x
 set_place xs place x = let same : place ≡ place + 1 - 1 = omega arith in ap (λ i. set xs i x) same
-
-pub replace_full : (s : State) (name : List ℕ) (tests place : ℕ) (p : Problem)
-    → position (λ problem. bytes_eq problem.name name) s.problems ≡ Some place → place < length s.problems → p ≡ get_or s.problems place p
-    → 1 ≤ tests → tests ≤ 1000 → 1000 ≤ p.version → (who : List ℕ) → Stepped s (event.Replace who name tests) s (reply.Full 1000)
-replace_full s name tests place p found lt here low high full who =
-    let there = at_place s.problems place p lt here in
-    stepped_by s (event.Replace who name tests) s (reply.Full 1000) (λ no. cc) (rw (test_count tests low high, found, there, is_full 1000 p.version full) refl)
-
-replace_step : (s : State) (who name : List ℕ) (tests place : ℕ) (p : Problem)
-    → position (λ problem. bytes_eq problem.name name) s.problems ≡ Some place → place < length s.problems → p ≡ get_or s.problems place p
-    → 1 ≤ tests → tests ≤ 1000 → p.version < 1000
-    → farm_step s (event.Replace who name tests) ≡ (record s { problems = with_item s.problems (place + 1) (next_version tests p) }, reply.Problem name (p.version + 1))
-replace_step s who name tests place p found lt here low high few =
-    let there = at_place s.problems place p lt here in
-    rw (test_count tests low high, found, there, not_full 1000 p.version few) refl
-
-pub replace_stepped : (s : State) (name : List ℕ) (tests place : ℕ) (p q : Problem) (new : State)
-    → position (λ problem. bytes_eq problem.name name) s.problems ≡ Some place → place < length s.problems → p ≡ get_or s.problems place p → q ≡ get_or s.problems place q
-    → 1 ≤ tests → tests ≤ 1000 → p.version < 1000
-    → new ≡ record s { problems = set s.problems place (record { name = q.name; version = p.version + 1; tests = tests }) }
-    → (who : List ℕ) → Stepped s (event.Replace who name tests) new (reply.Problem name (p.version + 1))
-replace_stepped s name tests place p q new found lt here again low high few e who =
-    let there = at_place s.problems place p lt here in
-    let once_more = at_place s.problems place q lt again in
-    let same : q ≡ p = let both : Some q ≡ Some p = sym once_more ∙ there in cc in
-    stepped_by s (event.Replace who name tests) new (reply.Problem name (p.version + 1)) (λ no. cc)
-    (replace_step s who name tests place p found lt here low high few
-    ∙ ap (λ (problems : List Problem). (record s { problems = problems }, reply.Problem name (p.version + 1))) (sym (set_place s.problems place (next_version tests p)))
-    ∙ ap (λ (x : Problem). (record s { problems = set s.problems place (record { name = x.name; version = p.version + 1; tests = tests }) }, reply.Problem name (p.version + 1))) (sym same)
-    ∙ ap (λ t. (t, reply.Problem name (p.version + 1))) (sym e))
 
 -- Hosts
 

@@ -1,3 +1,5 @@
+pub mod Numbering
+pub mod Stepping
 pub mod Submits
 pub mod Judged
 pub mod Entering

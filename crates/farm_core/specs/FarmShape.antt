@@ -29,8 +29,8 @@ pub record HasJudging (judgings : ℕ) (member : Member) : Type 0 where
 
 -- its submissions and its new judgings are there
 pub record IsKept (submissions judgings : ℕ) (rejudging : Rejudging) : Type 0 where
-  pub submissions : All (HasSubmission submissions) rejudging.members
-  pub judgings : All (HasJudging judgings) rejudging.members
+  pub known : All (HasSubmission submissions) rejudging.members
+  pub judged : All (HasJudging judgings) rejudging.members
   pub few : length rejudging.members ≤ 400000
 
 abbrev pub AreKept : ℕ → ℕ → List Rejudging → Type 0

@@ -57,12 +57,10 @@ pub fn file_judgings(filings: &mut Vec<Filing>, rejudging: u32, list: &[u32])
 pub fn mark_verified(filings: &mut [Filing], judging: u32)
     ensures { filings.new ≡ with_change filings.old judging mark_verified }
 {
-    if judging == 0 {
+    if judging == 0 || judging as usize > filings.len() {
         return;
     }
-    if let Some(filing) = filings.get_mut(judging as usize - 1) {
-        filing.verified = true;
-    }
+    filings[judging as usize - 1].verified = true;
 }
 
 /// Makes the new judging of each member the current one of its submission.
@@ -71,8 +69,16 @@ pub fn make_current(submissions: &mut [Submission], members: &[Member])
     ensures { submissions.new ≡ fold with_current submissions.old members.now }
 {
     for member in members {
-        submissions[member.submission as usize - 1].current = member.new;
+        make_current_of(submissions, member);
     }
+}
+
+/// Makes the new judging of the member the current one of its submission.
+fn make_current_of(submissions: &mut [Submission], member: &Member)
+    requires { HasSubmission (length submissions.old) member.now }
+    ensures { submissions.new ≡ with_current submissions.old member.now }
+{
+    submissions[member.submission as usize - 1].current = member.new;
 }
 
 /// Drops the new judging of each member.

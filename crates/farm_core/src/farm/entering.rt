@@ -1,5 +1,5 @@
 ghost use Rattle.std.specs.Prelude.{◌≡◌, ◌+◌, ◌++◌, ◌∷◌, [], ◌<◌, ◌≤◌, length, IfOk, IfSome, IfNone, OnOk, OnErr, None, true};
-ghost use Rattle.farm_kinds.specs.declared.events.Event.TheVariants as event;
+ghost use Rattle.farm_kinds.specs.declared.events.Event.TheVariants as events;
 ghost use Rattle.farm_kinds.specs.declared.events.Reply.TheVariants as reply;
 ghost use Rattle.farm_model.specs.Numbered.{number_or_0};
 ghost use Rattle.farm_model.specs.State.{problem_number, up_number};
@@ -29,7 +29,7 @@ const MAX_JUDGINGS: u32 = 400_000;
 
 impl Farm {
     pub fn add_problem(&mut self, event: &Event, who: &Name, name: Name, tests: u32) -> Reply
-        requires { event.now ≡ event.Problem who.now name tests }
+        requires { event.now ≡ events.Problem who.now name tests }
         ensures { Stepped self.old event.now self.new result }
     {
         if let Some(refusal) = self.problem_refusal(name, tests) {
@@ -70,7 +70,7 @@ impl Farm {
         name: Name,
         tests: u16,
     ) -> Result<(), NoMemory>
-        requires event { event.now ≡ event.Problem who.now name tests }
+        requires event { event.now ≡ events.Problem who.now name tests }
         requires few_tests { tests ≤ 1000 }
         requires few { length self.old.problems < 1000 }
         ensures added { OnOk result (self.new ≡ logged (with_problem self.old name tests) event.now) }
@@ -88,7 +88,7 @@ impl Farm {
     }
 
     pub fn replace(&mut self, event: &Event, who: &Name, name: Name, tests: u32) -> Reply
-        requires { event.now ≡ event.Replace who.now name tests }
+        requires { event.now ≡ events.Replace who.now name tests }
         ensures { Stepped self.old event.now self.new result }
     {
         if let Some(refusal) = self.replace_refusal(name, tests) {
@@ -129,7 +129,7 @@ impl Farm {
         name: Name,
         tests: u16,
     ) -> Result<u32, NoMemory>
-        requires event { event.now ≡ event.Replace who.now name tests }
+        requires event { event.now ≡ events.Replace who.now name tests }
         requires few_tests { tests ≤ 1000 }
         requires accepted { replace_refusal self.old.problems name tests ≡ None }
         ensures version { IfOk result (λ version. version ≡ version_of self.old.problems (number_or_0 (problem_number self.old.problems name)) + 1) }
@@ -149,7 +149,7 @@ impl Farm {
 
     /// Brings a host up, under its old number where its name was entered before.
     pub fn bring_up(&mut self, name: Name) -> Reply
-        ensures { Stepped self.old (event.Host name) self.new result }
+        ensures { Stepped self.old (events.Host name) self.new result }
     {
         if self.up_number(&name).is_some() {
             return Reply::Known { name };
@@ -180,7 +180,7 @@ impl Farm {
     }
 
     pub fn submit(&mut self, problem: Name, class: Class, broken: bool) -> Reply
-        ensures { Stepped self.old (event.Submit problem class broken) self.new result }
+        ensures { Stepped self.old (events.Submit problem class broken) self.new result }
     {
         let Some(place) = place_of(&self.problems, &problem) else {
             return Reply::NoProblem { name: problem };
@@ -243,7 +243,7 @@ impl Farm {
 
     /// Brings a host down, and ends its leases.
     pub fn bring_down(&mut self, host: Name) -> Reply
-        ensures { Stepped self.old (event.Down host) self.new result }
+        ensures { Stepped self.old (events.Down host) self.new result }
     {
         let Some(number) = self.up_number(&host) else {
             return Reply::NoHost { name: host };

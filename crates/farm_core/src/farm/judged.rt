@@ -1,4 +1,4 @@
-ghost use Rattle.farm_kinds.specs.declared.events.Event.TheVariants as event;
+ghost use Rattle.farm_kinds.specs.declared.events.Event.TheVariants as events;
 ghost use Rattle.farm_model.specs.Farm.{Stepped};
 
 use super::Farm;
@@ -7,7 +7,7 @@ use farm_kinds::{Kind, Name, Reply};
 
 impl Farm {
     pub fn claim(&mut self, host: Name) -> Reply
-        ensures { Stepped self.old (event.Claim host) self.new result }
+        ensures { Stepped self.old (events.Claim host) self.new result }
     {
         match self.up_number(&host) {
             Some(number) => claim_reply(self.judge.claim(number)),
@@ -16,7 +16,7 @@ impl Farm {
     }
 
     pub fn result(&mut self, host: Name, judging: u32, test: u32, kind: Kind) -> Reply
-        ensures { Stepped self.old (event.Result host judging test kind) self.new result }
+        ensures { Stepped self.old (events.Result host judging test kind) self.new result }
     {
         match self.up_number(&host) {
             Some(_) => count_reply(judging, test, self.judge.result(judging, test, kind)),
@@ -25,13 +25,13 @@ impl Farm {
     }
 
     pub fn enter(&mut self, judging: u32, test: u32, kind: Kind) -> Reply
-        ensures { Stepped self.old (event.Entry judging test kind) self.new result }
+        ensures { Stepped self.old (events.Entry judging test kind) self.new result }
     {
         count_reply(judging, test, self.judge.enter(judging, test, kind))
     }
 
     pub fn renew(&mut self, host: Name, judging: u32, test: u32) -> Reply
-        ensures { Stepped self.old (event.Renew host judging test) self.new result }
+        ensures { Stepped self.old (events.Renew host judging test) self.new result }
     {
         match self.up_number(&host) {
             Some(number) => renewed_reply(judging, test, self.judge.renew(number, judging, test)),
@@ -40,7 +40,7 @@ impl Farm {
     }
 
     pub fn tick(&mut self, moment: u64) -> Reply
-        ensures { Stepped self.old (event.Tick moment) self.new result }
+        ensures { Stepped self.old (events.Tick moment) self.new result }
     {
         Reply::Ended {
             count: self.judge.tick(moment),

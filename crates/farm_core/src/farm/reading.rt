@@ -1,5 +1,5 @@
 ghost use Rattle.std.specs.Prelude.{◌≡◌, IfOk, IfSome, OnOk, OnErr};
-ghost use Rattle.farm_kinds.specs.declared.events.Event.TheVariants as event;
+ghost use Rattle.farm_kinds.specs.declared.events.Event.TheVariants as events;
 ghost use Rattle.farm_model.specs.State.{answer_at, is_withheld, public_answer, public_answers};
 ghost use Rattle.farm_model.specs.Refusals.{verify_refusal};
 ghost use Rattle.farm_model.specs.Changes.{logged, verified};
@@ -14,7 +14,7 @@ use farm_kinds::{Answer, Answers, Event, Name, NoMemory, Reply};
 
 impl Farm {
     pub fn show(&self, judging: u32) -> Reply
-        ensures { Stepped self.now (event.Show judging) self.now result }
+        ensures { Stepped self.now (events.Show judging) self.now result }
     {
         match self.judge.answer(judging) {
             Some(answer) => Reply::Shown(answer),
@@ -23,7 +23,7 @@ impl Farm {
     }
 
     pub fn board(&self) -> Reply
-        ensures { Stepped self.now event.Board self.now result }
+        ensures { Stepped self.now events.Board self.now result }
     {
         match self.public_answers() {
             Ok(rows) => Reply::Board { rows },
@@ -61,7 +61,7 @@ impl Farm {
     }
 
     pub fn verify(&mut self, event: &Event, who: &Name, judging: u32) -> Reply
-        requires { event.now ≡ event.Verify who.now judging }
+        requires { event.now ≡ events.Verify who.now judging }
         ensures { Stepped self.old event.now self.new result }
     {
         if let Some(refusal) = self.verify_refusal(judging) {
@@ -95,7 +95,7 @@ impl Farm {
 
     /// Marks a judging as verified, and adds the entry of its event.
     fn mark_verified(&mut self, event: &Event, who: &Name, judging: u32) -> Result<(), NoMemory>
-        requires { event.now ≡ event.Verify who.now judging }
+        requires { event.now ≡ events.Verify who.now judging }
         ensures done { OnOk result (self.new ≡ logged (verified self.old judging) event.now) }
         ensures unchanged { OnErr result (self.new ≡ self.old) }
     {
@@ -107,7 +107,7 @@ impl Farm {
 
     /// How many entries the audit log has, and its last digest.
     pub fn audit_head(&self) -> Reply
-        ensures { Stepped self.now event.Audit self.now result }
+        ensures { Stepped self.now events.Audit self.now result }
     {
         Reply::Audit {
             count: self.audit.len() as u32,

@@ -1,5 +1,5 @@
 ghost use Rattle.std.specs.Prelude.{◌≡◌, ◌+◌, ◌≤◌, ◌<◌, length, map, find, not, IfOk, IfErr, IfSome, IfNone, OnOk, OnErr, None};
-ghost use Rattle.farm_kinds.specs.declared.events.Event.TheVariants as event;
+ghost use Rattle.farm_kinds.specs.declared.events.Event.TheVariants as events;
 ghost use Rattle.farm_model.specs.State.{answer_at, is_final};
 ghost use Rattle.farm_model.specs.Rejudgings.{members_in, new_judgings};
 ghost use Rattle.farm_model.specs.Refusals.{apply_refusal, close_refusal, has_final, is_submission};
@@ -25,7 +25,7 @@ const MAX_JUDGINGS: u32 = 400_000;
 
 impl Farm {
     pub fn rejudge(&mut self, event: &Event, who: &Name, list: &Numbers) -> Reply
-        requires { event.now ≡ event.Rejudge who.now list.now }
+        requires { event.now ≡ events.Rejudge who.now list.now }
         ensures { Stepped self.old event.now self.new result }
     {
         if let Some(refusal) = self.list_refusal(list.as_slice()) {
@@ -121,7 +121,7 @@ impl Farm {
     /// Prepares a rejudging of these submissions, with its judgings and the entry of its event. All that
     /// it needs is there before anything changes.
     fn prepare(&mut self, event: &Event, who: &Name, list: &[u32]) -> Result<(), BookFault>
-        requires event { event.now ≡ event.Rejudge who.now list.now }
+        requires event { event.now ≡ events.Rejudge who.now list.now }
         requires accepted { list_refusal self.old list.now ≡ None }
         requires known { AreKnown (length self.old.submissions) list.now }
         requires few { length self.old.rejudgings < 10000 }
@@ -154,7 +154,7 @@ impl Farm {
     }
 
     pub fn matrix(&self, rejudging: u32) -> Reply
-        ensures { Stepped self.now (event.Matrix rejudging) self.now result }
+        ensures { Stepped self.now (events.Matrix rejudging) self.now result }
     {
         if self.book.state(rejudging).is_none() {
             return Reply::NoRejudging { rejudging };
@@ -187,7 +187,7 @@ impl Farm {
     }
 
     pub fn apply(&mut self, event: &Event, who: &Name, rejudging: u32) -> Reply
-        requires { event.now ≡ event.Apply who.now rejudging }
+        requires { event.now ≡ events.Apply who.now rejudging }
         ensures { Stepped self.old event.now self.new result }
     {
         if let Some(refusal) = self.apply_refusal(rejudging) {
@@ -242,7 +242,7 @@ impl Farm {
     /// Makes all judgings of an open rejudging the current ones, and answers how many. The entry of the
     /// event is added.
     fn make_current(&mut self, event: &Event, who: &Name, rejudging: u32) -> Result<u32, NoMemory>
-        requires event { event.now ≡ event.Apply who.now rejudging }
+        requires event { event.now ≡ events.Apply who.now rejudging }
         requires is_open { close_refusal self.old.rejudgings rejudging ≡ None }
         ensures members { IfOk result (λ members. members ≡ length (members_in self.old.rejudgings rejudging)) }
         ensures done { OnOk result (self.new ≡ logged (applied self.old rejudging) event.now) }
@@ -258,7 +258,7 @@ impl Farm {
     }
 
     pub fn cancel(&mut self, event: &Event, who: &Name, rejudging: u32) -> Reply
-        requires { event.now ≡ event.Cancel who.now rejudging }
+        requires { event.now ≡ events.Cancel who.now rejudging }
         ensures { Stepped self.old event.now self.new result }
     {
         if let Some(refusal) = self.close_refusal(rejudging) {
@@ -272,7 +272,7 @@ impl Farm {
 
     /// Drops all judgings of an open rejudging, and answers how many. The entry of the event is added.
     fn drop_judgings(&mut self, event: &Event, who: &Name, rejudging: u32) -> Result<u32, NoMemory>
-        requires event { event.now ≡ event.Cancel who.now rejudging }
+        requires event { event.now ≡ events.Cancel who.now rejudging }
         requires is_open { close_refusal self.old.rejudgings rejudging ≡ None }
         ensures members { IfOk result (λ members. members ≡ length (members_in self.old.rejudgings rejudging)) }
         ensures done { OnOk result (self.new ≡ logged (cancelled self.old rejudging) event.now) }
