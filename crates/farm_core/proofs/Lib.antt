@@ -3,3 +3,5 @@ pub mod Stepping
 pub mod Submits
 pub mod Judged
 pub mod Entering
+pub mod Keeping
+pub mod Refusing

@@ -1,10 +1,9 @@
-ghost use Rattle.std.specs.Prelude.{◌≡◌, ◌+◌, ◌++◌, ◌∷◌, [], ◌<◌, ◌≤◌, length, IfOk, IfSome, IfNone, OnOk, OnErr, None, true};
+ghost use Rattle.std.specs.Prelude.{◌≡◌, ◌+◌, ◌++◌, ◌∷◌, [], ◌<◌, ◌≤◌, length, IfOk, IfErr, IfSome, IfNone, OnOk, OnErr, None, Some, true};
 ghost use Rattle.farm_kinds.specs.declared.events.Event.TheVariants as events;
 ghost use Rattle.farm_kinds.specs.declared.events.Reply.TheVariants as reply;
-ghost use Rattle.farm_model.specs.Numbered.{number_or_0};
 ghost use Rattle.farm_model.specs.State.{problem_number, up_number};
-ghost use Rattle.farm_model.specs.Refusals.{problem_refusal, replace_refusal, refusal_of, version_of};
-ghost use Rattle.farm_model.specs.Changes.{logged, with_problem, with_version, submitted, host_as};
+ghost use Rattle.farm_model.specs.Refusals.{problem_refusal, replace_refusal, version_of};
+ghost use Rattle.farm_model.specs.Changes.{logged, with_problem, submitted, host_as};
 ghost use Rattle.farm_model.specs.Farm.{Stepped};
 ghost use Rattle.farm_core.specs.FarmShape.{IsAnswer};
 
@@ -91,60 +90,65 @@ impl Farm {
         requires { event.now ≡ events.Replace who.now name tests }
         ensures { Stepped self.old event.now self.new result }
     {
-        if let Some(refusal) = self.replace_refusal(name, tests) {
-            return refusal;
-        }
-        match self.write_version(event, who, name, tests as u16) {
-            Ok(version) => Reply::Problem { name, version },
-            Err(NoMemory) => Reply::NoMemory,
+        match self.place_to_replace(name, tests) {
+            Ok(place) => self.write_version(event, who, name, place, tests as u16),
+            Err(refusal) => refusal,
         }
     }
 
-    /// Why the problem of this name gets no version of this many tests.
-    fn replace_refusal(&self, name: Name, tests: u32) -> Option<Reply>
-        ensures refusal { result ≡ replace_refusal self.now.problems name tests }
-        ensures answers { IfSome result IsAnswer }
-        ensures few_tests { IfNone result (tests ≤ 1000) }
+    /// Where the problem of this name stands, which gets a version of this many tests.
+    fn place_to_replace(&self, name: Name, tests: u32) -> Result<usize, Reply>
+        ensures refusal { IfErr result (λ refusal. replace_refusal self.now.problems name tests ≡ Some refusal) }
+        ensures answers { IfErr result IsAnswer }
+        ensures accepted { OnOk result (replace_refusal self.now.problems name tests ≡ None) }
+        ensures few_tests { OnOk result (tests ≤ 1000) }
+        ensures place { IfOk result (λ place. problem_number self.now.problems name ≡ Some (place + 1)) }
+        ensures within { IfOk result (λ place. place < length self.now.problems) }
+        ensures few { IfOk result (λ place. version_of self.now.problems (place + 1) < 1000) }
     {
         if tests == 0 || tests > MAX_TESTS {
-            return Some(Reply::BadTests { tests });
+            return Err(Reply::BadTests { tests });
         }
         let Some(place) = place_of(&self.problems, &name) else {
-            return Some(Reply::NoProblem { name });
+            return Err(Reply::NoProblem { name });
         };
         if self.problems[place].version >= MAX_VERSIONS {
-            return Some(Reply::Full {
+            return Err(Reply::Full {
                 limit: MAX_VERSIONS,
             });
         }
-        None
+        Ok(place)
     }
 
-    /// Gives the problem of this name its next version, with this many tests, and answers it. The entry of
-    /// its event is added.
+    /// Gives the problem at this place its next version, with this many tests, and adds the entry of its
+    /// event.
     fn write_version(
         &mut self,
         event: &Event,
         who: &Name,
         name: Name,
+        place: usize,
         tests: u16,
-    ) -> Result<u32, NoMemory>
+    ) -> Reply
         requires event { event.now ≡ events.Replace who.now name tests }
-        requires few_tests { tests ≤ 1000 }
         requires accepted { replace_refusal self.old.problems name tests ≡ None }
-        ensures version { IfOk result (λ version. version ≡ version_of self.old.problems (number_or_0 (problem_number self.old.problems name)) + 1) }
-        ensures written { OnOk result (self.new ≡ logged (with_version self.old (number_or_0 (problem_number self.old.problems name)) tests) event.now) }
-        ensures unchanged { OnErr result (self.new ≡ self.old) }
+        requires few_tests { tests ≤ 1000 }
+        requires place { problem_number self.old.problems name ≡ Some (place + 1) }
+        requires within { place < length self.old.problems }
+        requires few { version_of self.old.problems (place + 1) < 1000 }
+        ensures { Stepped self.old event.now self.new result }
     {
-        let words = make_entry(&mut self.audit, self.alloc, who, event)?;
-        // The problem is there.
-        let place = place_of(&self.problems, &name).ok_or(NoMemory)?;
-        let problem = &mut self.problems[place];
-        let version = problem.version + 1;
-        problem.version = version;
-        problem.tests = tests;
+        let Ok(words) = make_entry(&mut self.audit, self.alloc, who, event) else {
+            return Reply::NoMemory;
+        };
+        let version = self.problems[place].version + 1;
+        self.problems[place] = Problem {
+            name,
+            version,
+            tests,
+        };
         add_entry(&mut self.audit, who, &words);
-        Ok(version)
+        Reply::Problem { name, version }
     }
 
     /// Brings a host up, under its old number where its name was entered before.

@@ -1,4 +1,4 @@
-ghost use Rattle.std.specs.Prelude.{◌≡◌, ◌+◌, ◌≤◌, ◌<◌, length, map, find, not, IfOk, IfErr, IfSome, IfNone, OnOk, OnErr, None};
+ghost use Rattle.std.specs.Prelude.{◌≡◌, ◌+◌, ◌≤◌, ◌<◌, length, map, find, not, IfOk, IfErr, IfSome, IfNone, OnOk, OnErr, None, ⊤};
 ghost use Rattle.farm_kinds.specs.declared.events.Event.TheVariants as events;
 ghost use Rattle.farm_model.specs.State.{answer_at, is_final};
 ghost use Rattle.farm_model.specs.Rejudgings.{members_in, new_judgings};
@@ -126,7 +126,7 @@ impl Farm {
         requires known { AreKnown (length self.old.submissions) list.now }
         requires few { length self.old.rejudgings < 10000 }
         requires room { length self.old.judge.judgings + length list.now ≤ 400000 }
-        ensures fault { IfErr result (IsFault (reserve_refusal self.old.rejudgings list.now) (self.new ≡ self.old)) }
+        ensures fault { IfErr result (IsFault (reserve_refusal self.old.rejudgings list.now) ⊤) }
         ensures accepted { OnOk result (reserve_refusal self.old.rejudgings list.now ≡ None) }
         ensures prepared { OnOk result (self.new ≡ logged (rejudged self.old list.now) event.now) }
         ensures unchanged { OnErr result (self.new ≡ self.old) }
