@@ -9,8 +9,6 @@ use Rattle.farm_model.specs.declared.records.Rejudging.{Rejudging}
 use Rattle.farm_model.specs.declared.records.RejudgeState.TheVariants as state
 use Rattle.farm_model.specs.declared.records.Submission.{Submission}
 use Rattle.farm_model.specs.Numbered.{item_of, with_change, change_item}
-use Rattle.farm_model.specs.Judge.{JudgeState, drop_judging}
-use Rattle.farm_model.specs.Judgings.{mark_dropped}
 use Rattle.farm_model.specs.Rejudgings.{close_as, closed, members_from, prepared}
 use Rattle.farm_model.specs.Changes.{with_current, make_current}
 use Rattle.rejudge_book.specs.Refusals.{IsKnown, AreKnown}
@@ -37,10 +35,6 @@ closed_kept submissions judgings rs n h all =
 pub length_applied : (xs : List Submission) (members : List Member) → length (fold with_current xs members) ≡ length xs
 length_applied xs [] = refl
 length_applied xs (m ∷ members) = length_applied (with_current xs m) members ∙ length_changed xs m.submission (make_current m.new)
-
-pub length_dropped : (s : JudgeState) (js : List ℕ) → length (fold drop_judging s js).judgings ≡ length s.judgings
-length_dropped s [] = refl
-length_dropped s (j ∷ js) = length_dropped (drop_judging s j) js ∙ length_changed s.judgings j mark_dropped
 
 -- Preparing
 

@@ -6,6 +6,7 @@ use Rattle.std.specs.Option.{option_map, is_some}
 use Rattle.std.proofs.lemmas.Bool.Decides.{nat_tests}
 use Rattle.std.proofs.lemmas.List.Elements.{All-nil, All-cons}
 use Rattle.std.proofs.lemmas.Option.{slice_get_within}
+use Rattle.farm_kinds.specs.declared.events.Event.{Event}
 use Rattle.farm_kinds.specs.declared.events.Event.TheVariants as event
 use Rattle.farm_kinds.specs.declared.events.Reply.{Reply}
 use Rattle.farm_kinds.specs.declared.events.Reply.TheVariants as reply
@@ -15,13 +16,14 @@ use Rattle.farm_model.specs.Refusing.{first_of}
 use Rattle.farm_model.specs.Rejudgings.{first_twice, busy_with}
 use Rattle.farm_model.specs.State.{State}
 use Rattle.farm_model.specs.Refusals.{is_submission, busy_reply, rejudge_refusal}
+use Rattle.farm_model.specs.Changes.{logged, rejudged, rejudging_reply}
 use Rattle.farm_model.specs.Farm.{Stepped}
 use Rattle.rejudge_book.specs.declared.faults.BookFault.{BookFault}
 use Rattle.rejudge_book.specs.declared.faults.BookFault.TheVariants as fault
 use Rattle.rejudge_book.specs.Refusals.{IsKnown, AreKnown, IsFault, twice_refusal, busy_fault, busy_refusal, reserve_refusal}
 use Rattle.rejudge_book.proofs.Closing.{item_place}
-use Rattle.farm_core.specs.FarmShape.{list_refusal, fault_reply}
-use Rattle.farm_core.proofs.Stepping.{refused, wanting}
+use Rattle.farm_core.specs.FarmShape.{list_refusals, list_refusal, fault_reply}
+use Rattle.farm_core.proofs.Stepping.{refused, done, wanting}
 
 -- Submissions that are there
 
@@ -103,11 +105,11 @@ no_want rs list =
 pub list_refused : (s : State) (who list : List ℕ) (r : Reply) → list_refusal s list ≡ Some r → r ≢ reply.NoMemory → Stepped s (event.Rejudge who list) s r
 list_refused s who list r refusal answers =
     refused s (event.Rejudge who list) r
-    (front_found _ (option_map reply.Twice (first_twice list) ∷ first_of (map (busy_reply s.rejudgings) list) ∷ []) r refusal) answers
+    (front_found (list_refusals s list) (option_map reply.Twice (first_twice list) ∷ first_of (map (busy_reply s.rejudgings) list) ∷ []) r refusal) answers
 
 pub rest_refuses : (s : State) (list : List ℕ) → list_refusal s list ≡ None → rejudge_refusal s list ≡ option_map fault_reply (reserve_refusal s.rejudgings list)
 rest_refuses s list none =
-    front_none _ (option_map reply.Twice (first_twice list) ∷ first_of (map (busy_reply s.rejudgings) list) ∷ []) none
+    front_none (list_refusals s list) (option_map reply.Twice (first_twice list) ∷ first_of (map (busy_reply s.rejudgings) list) ∷ []) none
     ∙ book_refuses s.rejudgings list
 
 faulted_by : (s : State) (who list : List ℕ) (new : State) (f : BookFault) (o : Option BookFault)
@@ -128,3 +130,12 @@ pub faulted : (s : State) (who list : List ℕ) (new : State) (f : BookFault) �
     → IsFault (reserve_refusal s.rejudgings list) ⊤ f → new ≡ s → Stepped s (event.Rejudge who list) new (fault_reply f)
 faulted s who list new f none cause same =
     faulted_by s who list new f (reserve_refusal s.rejudgings list) (rest_refuses s list none) (no_want s.rejudgings list) cause same
+
+pub rejudged_by : (s : State) (e : Event) (who list : List ℕ) (new : State) (r : Reply) → e ≡ event.Rejudge who list → list_refusal s list ≡ None → reserve_refusal s.rejudgings list ≡ None
+    → new ≡ logged (rejudged s list) e → r ≡ rejudging_reply s list → Stepped s e new r
+rejudged_by s e who list new r is none free change answer =
+    let let_in : rejudge_refusal s list ≡ None = rest_refuses s list none ∙ ap (option_map fault_reply) free in
+    subst (λ (f : Event). Stepped s f new r) (sym is)
+    (done s (event.Rejudge who list) new r let_in
+    (ap (λ f. (logged (rejudged s list) f, rejudging_reply s list)) (sym is) ∙ ap (λ t. (t, rejudging_reply s list)) (sym change) ∙ ap (λ q. (new, q)) (sym answer))
+    (subst (λ (q : Reply). q ≢ reply.NoMemory) (sym answer) (λ no. cc)))

@@ -43,13 +43,16 @@ abbrev pub IsAnswer : Reply → Type 0
 IsAnswer r = r ≢ reply.NoMemory
 
 -- the refusals of a list but for those of submissions that stand in it twice or are busy
-abbrev pub list_refusal : State → List ℕ → Option Reply
-list_refusal s list = first_of (
+abbrev pub list_refusals : State → List ℕ → List (Option Reply)
+list_refusals s list =
     when (length list == 0) reply.EmptySet
     ∷ refuse_first (is_submission s) reply.NoSubmission list
     ∷ refuse_first (has_final s) reply.NotFinal list
     ∷ when (is_full s.rejudgings 10000) (reply.Full 10000)
-    ∷ when (nat_lt 400000 (length s.judge.judgings + length list)) (reply.Full 400000) ∷ [])
+    ∷ when (nat_lt 400000 (length s.judge.judgings + length list)) (reply.Full 400000) ∷ []
+
+abbrev pub list_refusal : State → List ℕ → Option Reply
+list_refusal s list = first_of (list_refusals s list)
 
 -- why a rejudging is not prepared, as a reply
 abbrev pub fault_reply : BookFault → Reply

@@ -17,6 +17,7 @@ pub fn add_judgings(judge: &mut Judge, tests: &[u32])
     requires few { length judge.old.state.judgings + length tests.now ≤ 400000 }
     requires short { All (λ n. n ≤ 1000) tests.now }
     ensures state { judge.new.state ≡ add_judgings judge.old.state Low tests.now }
+    ensures count { length judge.new.state.judgings ≡ length judge.old.state.judgings + length tests.now }
     ensures hosts { judge.new.hosts ≡ judge.old.hosts }
 {
     for count in tests {
@@ -84,7 +85,8 @@ fn make_current_of(submissions: &mut [Submission], member: &Member)
 /// Drops the new judging of each member.
 pub fn drop_judgings(judge: &mut Judge, members: &[Member])
     requires { All (HasJudging (length judge.old.state.judgings)) members.now }
-    ensures { judge.new ≡ in_state judge.old (fold drop_judging judge.old.state (new_judgings members.now)) }
+    ensures dropped { judge.new ≡ in_state judge.old (fold drop_judging judge.old.state (new_judgings members.now)) }
+    ensures count { length judge.new.state.judgings ≡ length judge.old.state.judgings }
 {
     for member in members {
         judge.drop_judging(member.new);

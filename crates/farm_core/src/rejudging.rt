@@ -58,6 +58,7 @@ pub fn cells_of(
 ) -> Result<Numbers, NoMemory>
     requires { AreShort problems.now }
     ensures cells { IfOk result (λ tests. tests ≡ map (λ n. cells_of_item problems.now (item_of submissions.now n)) list.now) }
+    ensures count { IfOk result (λ tests. length tests ≡ length list.now) }
     ensures short { IfOk result (λ tests. All (λ n. n ≤ 1000) tests) }
 {
     let mut tests = Vec::new(alloc);

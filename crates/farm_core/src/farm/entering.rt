@@ -141,9 +141,10 @@ impl Farm {
         let Ok(words) = make_entry(&mut self.audit, self.alloc, who, event) else {
             return Reply::NoMemory;
         };
-        let version = self.problems[place].version + 1;
+        let kept = self.problems[place];
+        let version = kept.version + 1;
         self.problems[place] = Problem {
-            name,
+            name: kept.name,
             version,
             tests,
         };
