@@ -31,6 +31,13 @@ has_words (event.Renew host j test) = omega arith
 has_words (event.Tick moment) = omega arith
 has_words (event.Down host) = omega arith
 has_words (event.Show j) = omega arith
+has_words event.Board = omega arith
+has_words (event.Rejudge who list) = omega arith
+has_words (event.Matrix r) = omega arith
+has_words (event.Apply who r) = omega arith
+has_words (event.Cancel who r) = omega arith
+has_words (event.Verify who j) = omega arith
+has_words event.Audit = omega arith
 
 -- the text of an event is who acts and then its words
 pub event_text_by : (e : Event) → event_text e ≡ actor_text (actor_of e) ++ join_with_byte 32 (event_words e)

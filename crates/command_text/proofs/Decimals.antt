@@ -26,7 +26,7 @@ decimal_leads : (n : ℕ) → n < 2 ^ 64 → leads_well (decimal n) ≡ true
 decimal_leads zero h = zero_leads
 decimal_leads (suc n) h = first_leads (decimal (suc n)) (first_decimal (suc n) (omega arith) h)
 
-decimal_digits : (n : ℕ) → n < 2 ^ 64 → list_all is_digit (decimal n) ≡ true
+pub decimal_digits : (n : ℕ) → n < 2 ^ 64 → list_all is_digit (decimal n) ≡ true
 decimal_digits n h = digits_decimal own n h
 
 read_decimal : (limit n : ℕ) → n ≤ limit → limit < 2 ^ 64 → number_within limit (decimal n) ≡ Some n

@@ -1,10 +1,13 @@
 -- Words that are put one after another.
 use Rattle.std.proofs.Common.{ℕ, ◌≡◌, ◌+◌, ◌<◌, ◌≤◌, List, [], ◌∷◌, ◌++◌, refl, sym, ap, ◌∙◌, append_assoc, length, take, get_or, arith}
+use Rattle.std.specs.Prelude.{map}
+use Rattle.std.specs.Fmt.{decimal}
 use Rattle.std.specs.List.{join_with_byte}
 use Rattle.std.specs.Borrow.{Bor}
 use Rattle.std.proofs.lemmas.List.{take_more, append-nil, length-append, take-take}
 use Rattle.std.proofs.Math.Seq.{take-append_seam}
-use Rattle.command_text.specs.WordList.{texts_of, spaced}
+use Rattle.command_text.specs.WordList.{texts_of, spaced, commas}
+use Rattle.farm_model.specs.Texts.{list_words}
 
 pub spaced-push : (words : List (List ℕ)) (next : List ℕ) → spaced (words ++ next ∷ []) ≡ spaced words ++ (32 ∷ next)
 spaced-push [] next = append-nil (32 ∷ next)
@@ -46,3 +49,26 @@ pub words_pushed : (old mid : List ℕ) (word : Bor (List ℕ)) (words rest : Li
 words_pushed old mid word words rest m w =
     ap (λ t. t ++ spaced (texts_of rest)) m ∙ append_assoc old word.now (spaced (texts_of rest))
     ∙ ap (λ t. old ++ t) (sym (joined word.now (texts_of rest)) ∙ ap (λ ws. join_with_byte 32 (texts_of ws)) (sym w))
+
+commas-push : (ns : List ℕ) (next : ℕ) → commas (ns ++ next ∷ []) ≡ commas ns ++ (44 ∷ decimal next)
+commas-push [] next = append-nil (44 ∷ decimal next)
+commas-push (n ∷ ns) next = ap (λ t. (44 ∷ decimal n) ++ t) (commas-push ns next) ∙ sym (append_assoc (44 ∷ decimal n) (commas ns) (44 ∷ decimal next))
+
+-- one number more of a list
+pub commas_more : (ns : List ℕ) (i : ℕ) → i < length ns → commas (take (i + 1) ns) ≡ commas (take i ns) ++ (44 ∷ decimal (get_or ns i 0))
+commas_more ns i h = ap commas (take_more ns i 0 h) ∙ commas-push (take i ns) (get_or ns i 0)
+
+pub joined_by_commas : (n : ℕ) (ns : List ℕ) → join_with_byte 44 (map decimal (n ∷ ns)) ≡ decimal n ++ commas ns
+joined_by_commas n [] = sym (append-nil (decimal n))
+joined_by_commas n (m ∷ ns) = ap (λ t. decimal n ++ (44 ∷ t)) (joined_by_commas m ns)
+
+-- a list as a word behind others
+list_joined : (n : ℕ) (ns : List ℕ) → spaced (list_words (n ∷ ns)) ≡ 32 ∷ decimal n ++ commas ns
+list_joined n ns = append-nil (32 ∷ join_with_byte 44 (map decimal (n ∷ ns))) ∙ ap (λ t. 32 ∷ t) (joined_by_commas n ns)
+
+-- a space, the first number, and then each other number with a comma before it
+pub list_pushed : (old mid end : List ℕ) (n : ℕ) (numbers rest : List ℕ) → mid ≡ old ++ 32 ∷ [] → end ≡ mid ++ decimal n → numbers ≡ n ∷ rest
+    → end ++ commas rest ≡ old ++ spaced (list_words numbers)
+list_pushed old mid end n numbers rest m e w =
+    ap (λ t. t ++ commas rest) (e ∙ ap (λ t. t ++ decimal n) m ∙ append_assoc old (32 ∷ []) (decimal n)) ∙ append_assoc old (32 ∷ decimal n) (commas rest)
+    ∙ ap (λ t. old ++ t) (sym (list_joined n rest)) ∙ ap (λ ns. old ++ spaced (list_words ns)) (sym w)

@@ -1,9 +1,12 @@
 pub mod WordLemmas
 pub mod NumberLemmas
 pub mod Joining
+pub mod RowLemmas
 pub mod LineLemmas
+pub mod PartLemmas
 pub mod ActorLemmas
 pub mod Tokens
 pub mod Decimals
 pub mod Readable
+pub mod ListsBack
 pub mod ReadBack

@@ -1,8 +1,8 @@
--- What holds of an event that a line is read as: the jury acts, names are names, and numbers are within their limits.
-use Rattle.std.proofs.Common.{ℕ, ◌≡◌, ◌-◌, ◌^◌, ◌≤◌, List, [], ◌∷◌, Option, Some, None, Result, Ok, Err, Bool, true, cond, refl, subst}
+-- What holds of an event that a line is read as: names are names, and numbers are within their limits.
+use Rattle.std.proofs.Common.{ℕ, ◌≡◌, ◌-◌, ◌^◌, ◌≤◌, List, [], ◌∷◌, Option, Some, None, Result, Ok, Err, Bool, true, cond, eqb, refl, subst, arith}
 use Rattle.std.specs.Prelude.{⊤, nat_le, codes}
 use Rattle.std.specs.Str.{bytes_eq}
-use Rattle.std.specs.Option.{option_and_then}
+use Rattle.std.specs.Option.{option_and_then, option_or}
 use Rattle.std.proofs.lemmas.Bool.{cond_both, leb-true}
 use Rattle.farm_kinds.specs.declared.events.Event.{Event}
 use Rattle.farm_kinds.specs.declared.events.Event.TheVariants as event
@@ -10,8 +10,8 @@ use Rattle.farm_kinds.specs.declared.events.LineFault.{LineFault}
 use Rattle.farm_kinds.specs.Names.{is_name, name_read, jury}
 use Rattle.farm_kinds.specs.Kinds.{kind_named}
 use Rattle.farm_model.specs.Words.{words}
-use Rattle.farm_model.specs.Numbers.{number_of, whole_of, at_most}
-use Rattle.farm_model.specs.Grammar.{◌>>=◌, problem_line, replace_line, name_line, submit_words, submit_line, result_line, record_line, renew_line, tick_line, show_line, host_event_of, event_of, is_comment, event_or_bad, read_of_words, line_read}
+use Rattle.farm_model.specs.Numbers.{number_of, whole_of, at_most, before_all, all_numbers, comma_parts, list_of}
+use Rattle.farm_model.specs.Grammar.{◌>>=◌, problem_line, replace_line, rejudge_line, number_line, name_line, submit_words, submit_line, result_line, record_line, renew_line, tick_line, bare_line, jury_event_of, host_event_of, other_event_of, unnamed_event_of, named_event_of, event_of, is_comment, event_or_bad, read_of_words, line_read}
 
 abbrev pub IsName : List ℕ → Type 0
 IsName word = is_name word ≡ true
@@ -19,9 +19,13 @@ IsName word = is_name word ≡ true
 abbrev pub IsNumber : ℕ → Type 0
 IsNumber n = n ≤ 4294967295
 
+abbrev pub AreNumbers : List ℕ → Type 0
+AreNumbers [] = ⊤
+AreNumbers (n ∷ ns) = IsNumber n × AreNumbers ns
+
 abbrev pub IsReadable : Event → Type 0
-IsReadable (event.Problem who name tests) = (who ≡ jury) × IsName name × IsNumber tests
-IsReadable (event.Replace who name tests) = (who ≡ jury) × IsName name × IsNumber tests
+IsReadable (event.Problem who name tests) = IsName who × IsName name × IsNumber tests
+IsReadable (event.Replace who name tests) = IsName who × IsName name × IsNumber tests
 IsReadable (event.Host name) = IsName name
 IsReadable (event.Submit problem class broken) = IsName problem
 IsReadable (event.Claim host) = IsName host
@@ -31,6 +35,13 @@ IsReadable (event.Renew host j test) = IsName host × IsNumber j × IsNumber tes
 IsReadable (event.Tick moment) = moment ≤ 10 ^ 18 - 1
 IsReadable (event.Down host) = IsName host
 IsReadable (event.Show j) = IsNumber j
+IsReadable event.Board = ⊤
+IsReadable (event.Rejudge who list) = IsName who × AreNumbers list
+IsReadable (event.Matrix r) = IsNumber r
+IsReadable (event.Apply who r) = IsName who × IsNumber r
+IsReadable (event.Cancel who r) = IsName who × IsNumber r
+IsReadable (event.Verify who j) = IsName who × IsNumber j
+IsReadable event.Audit = ⊤
 
 abbrev IfRead : Option Event → Type 0
 IfRead None = ⊤
@@ -54,23 +65,46 @@ after_limit limit (Some n) f each =
 after_number : (word : List ℕ) (f : ℕ → Option Event) → ((n : ℕ) → IsNumber n → IfRead (f n)) → IfRead (number_of word >>= f)
 after_number word f each = after_limit 4294967295 (whole_of word) f each
 
+-- Lists
+
+abbrev IfNumbers : Option (List ℕ) → Type 0
+IfNumbers None = ⊤
+IfNumbers (Some ns) = AreNumbers ns
+
+number_before : (n : ℕ) (others : Option (List ℕ)) → IsNumber n → IfNumbers others → IfNumbers (before_all (Some n) others)
+number_before n None small h = tt
+number_before n (Some ns) small h = (small, h)
+
+first_of_list : (limit : ℕ) (whole : Option ℕ) (others : Option (List ℕ)) → limit ≤ 4294967295 → IfNumbers others → IfNumbers (before_all (option_and_then (at_most limit) whole) others)
+first_of_list limit None others low h = tt
+first_of_list limit (Some n) others low h =
+    cond_both (nat_le n limit) (Some n) None (λ (o : Option ℕ). IfNumbers (before_all o others)) (λ within. number_before n others (omega (arith, leb-true n limit within)) h) (λ no. tt)
+
+numbers_read : (parts : List (List ℕ)) → IfNumbers (all_numbers parts)
+numbers_read [] = tt
+numbers_read (part ∷ parts) = first_of_list 4294967295 (whole_of part) (all_numbers parts) (omega arith) (numbers_read parts)
+
+after_list : (read : Option (List ℕ)) (f : List ℕ → Option Event) → IfNumbers read → ((ns : List ℕ) → AreNumbers ns → IfRead (f ns)) → IfRead (read >>= f)
+after_list None f h each = tt
+after_list (Some ns) f h each = each ns h
+
 -- Lines
 
-problem_reads : (ws : List (List ℕ)) → IfRead (problem_line ws)
-problem_reads [] = tt
-problem_reads (name ∷ []) = tt
-problem_reads (name ∷ tests ∷ []) =
-    after_name name (λ n. number_of tests >>= (λ t. Some (event.Problem jury n t))) (λ is.
-    after_number tests (λ t. Some (event.Problem jury name t)) (λ t small. (refl, is, small)))
-problem_reads (name ∷ tests ∷ more ∷ ws) = tt
+problem_reads : (who : List ℕ) → IsName who → (ws : List (List ℕ)) → IfRead (problem_line who ws)
+problem_reads who named [] = tt
+problem_reads who named (name ∷ []) = tt
+problem_reads who named (name ∷ tests ∷ []) =
+    after_name name (λ n. number_of tests >>= (λ t. Some (event.Problem who n t))) (λ is.
+    after_number tests (λ t. Some (event.Problem who name t)) (λ t small. (named, is, small)))
+problem_reads who named (name ∷ tests ∷ more ∷ ws) = tt
 
-replace_reads : (ws : List (List ℕ)) → IfRead (replace_line ws)
-replace_reads [] = tt
-replace_reads (name ∷ []) = tt
-replace_reads (name ∷ tests ∷ []) =
-    after_name name (λ n. number_of tests >>= (λ t. Some (event.Replace jury n t))) (λ is.
-    after_number tests (λ t. Some (event.Replace jury name t)) (λ t small. (refl, is, small)))
-replace_reads (name ∷ tests ∷ more ∷ ws) = tt
+replace_reads : (who : List ℕ) → IsName who → (ws : List (List ℕ)) → IfRead (replace_line who ws)
+replace_reads who named [] = tt
+replace_reads who named (name ∷ []) = tt
+replace_reads who named (name ∷ tests ∷ []) =
+    after_name name (λ n. number_of tests >>= (λ t. Some (event.Replace who n t))) (λ is.
+    after_number tests (λ t. Some (event.Replace who name t)) (λ t small. (named, is, small)))
+replace_reads who named (name ∷ tests ∷ more ∷ ws) = tt
 
 name_reads : (e : List ℕ → Event) → ((name : List ℕ) → IsName name → IsReadable (e name)) → (ws : List (List ℕ)) → IfRead (name_line e ws)
 name_reads e each [] = tt
@@ -120,10 +154,19 @@ tick_reads [] = tt
 tick_reads (moment ∷ []) = after_limit (10 ^ 18 - 1) (whole_of moment) (λ m. Some (event.Tick m)) (λ m small. small)
 tick_reads (moment ∷ more ∷ ws) = tt
 
-show_reads : (ws : List (List ℕ)) → IfRead (show_line ws)
-show_reads [] = tt
-show_reads (judging ∷ []) = after_number judging (λ j. Some (event.Show j)) (λ j small. small)
-show_reads (judging ∷ more ∷ ws) = tt
+number_reads : (e : ℕ → Event) → ((n : ℕ) → IsNumber n → IsReadable (e n)) → (ws : List (List ℕ)) → IfRead (number_line e ws)
+number_reads e each [] = tt
+number_reads e each (number ∷ []) = after_number number (λ n. Some (e n)) each
+number_reads e each (number ∷ more ∷ ws) = tt
+
+rejudge_reads : (who : List ℕ) → IsName who → (ws : List (List ℕ)) → IfRead (rejudge_line who ws)
+rejudge_reads who named [] = (named, tt)
+rejudge_reads who named (list ∷ []) = after_list (list_of list) (λ ns. Some (event.Rejudge who ns)) (numbers_read (comma_parts list)) (λ ns small. (named, small))
+rejudge_reads who named (list ∷ more ∷ ws) = tt
+
+bare_reads : (e : Event) → IsReadable e → (ws : List (List ℕ)) → IfRead (bare_line e ws)
+bare_reads e h [] = h
+bare_reads e h (more ∷ ws) = tt
 
 -- Words that begin a line
 
@@ -138,14 +181,41 @@ host_event_reads word ws =
     (or_else (bytes_eq word (codes "renew")) _ _ (renew_reads ws)
     (or_else (bytes_eq word (codes "down")) (name_line event.Down ws) None (name_reads event.Down (λ n is. is) ws) tt))))
 
-event_reads : (word : List ℕ) (ws : List (List ℕ)) → IfRead (event_of word ws)
-event_reads word ws =
-    or_else (bytes_eq word (codes "problem")) _ _ (problem_reads ws)
-    (or_else (bytes_eq word (codes "replace")) _ _ (replace_reads ws)
-    (or_else (bytes_eq word (codes "submit")) _ _ (submit_reads ws)
+jury_event_reads : (who : List ℕ) → IsName who → (word : List ℕ) (ws : List (List ℕ)) → IfRead (jury_event_of who word ws)
+jury_event_reads who named word ws =
+    or_else (bytes_eq word (codes "problem")) _ _ (problem_reads who named ws)
+    (or_else (bytes_eq word (codes "replace")) _ _ (replace_reads who named ws)
+    (or_else (bytes_eq word (codes "rejudge")) _ _ (rejudge_reads who named ws)
+    (or_else (bytes_eq word (codes "apply")) _ _ (number_reads (event.Apply who) (λ n small. (named, small)) ws)
+    (or_else (bytes_eq word (codes "cancel")) _ _ (number_reads (event.Cancel who) (λ n small. (named, small)) ws)
+    (or_else (bytes_eq word (codes "verify")) (number_line (event.Verify who) ws) None (number_reads (event.Verify who) (λ n small. (named, small)) ws) tt)))))
+
+other_event_reads : (word : List ℕ) (ws : List (List ℕ)) → IfRead (other_event_of word ws)
+other_event_reads word ws =
+    or_else (bytes_eq word (codes "submit")) _ _ (submit_reads ws)
     (or_else (bytes_eq word (codes "record")) _ _ (record_reads ws)
-    (or_else (bytes_eq word (codes "show")) _ _ (show_reads ws)
-    (or_else (bytes_eq word (codes "tick")) _ _ (tick_reads ws) (host_event_reads word ws))))))
+    (or_else (bytes_eq word (codes "tick")) _ _ (tick_reads ws)
+    (or_else (bytes_eq word (codes "show")) _ _ (number_reads event.Show (λ n small. small) ws)
+    (or_else (bytes_eq word (codes "board")) _ _ (bare_reads event.Board tt ws)
+    (or_else (bytes_eq word (codes "matrix")) _ _ (number_reads event.Matrix (λ n small. small) ws)
+    (or_else (bytes_eq word (codes "audit")) (bare_line event.Audit ws) None (bare_reads event.Audit tt ws) tt))))))
+
+first_or_second : (first second : Option Event) → IfRead first → IfRead second → IfRead (option_or first second)
+first_or_second None second p q = q
+first_or_second (Some e) second p q = p
+
+unnamed_event_reads : (word : List ℕ) (ws : List (List ℕ)) → IfRead (unnamed_event_of word ws)
+unnamed_event_reads word ws =
+    first_or_second (jury_event_of jury word ws) _ (jury_event_reads jury refl word ws)
+    (first_or_second (host_event_of word ws) (other_event_of word ws) (host_event_reads word ws) (other_event_reads word ws))
+
+named_event_reads : (name : List ℕ) (ws : List (List ℕ)) → IfRead (named_event_of name ws)
+named_event_reads name [] = tt
+named_event_reads name (word ∷ ws) = after_name name (λ who. jury_event_of who word ws) (λ named. jury_event_reads name named word ws)
+
+event_reads : (word : List ℕ) (ws : List (List ℕ)) → IfRead (event_of word ws)
+event_reads [] ws = tt
+event_reads (b ∷ bs) ws = or_else (eqb b 64) _ _ (named_event_reads bs ws) (unnamed_event_reads (b ∷ bs) ws)
 
 abbrev IfOkRead : Result (Option Event) LineFault → Type 0
 IfOkRead (Ok read) = IfRead read

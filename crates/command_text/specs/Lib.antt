@@ -1,5 +1,9 @@
 pub mod Actor
+pub mod Alone
+pub mod JuryWords
 pub mod Limited
-pub mod NameAlone
+pub mod Listed
 pub mod NextWord
+pub mod Parts
+pub mod RefusalWords
 pub mod WordList

@@ -2,12 +2,13 @@ ghost use Rattle.std.specs.Prelude.{◌≡◌, ◌++◌, ◌∷◌, [], ℕ, Lis
 ghost use Rattle.std.specs.Fmt.{decimal};
 ghost use Rattle.std.specs.List.{join_with_byte};
 ghost use Rattle.farm_kinds.specs.Kinds.{name_of};
-ghost use Rattle.farm_model.specs.Texts.{class_words, image_words, event_words, actor_of, event_text};
+ghost use Rattle.farm_model.specs.Texts.{class_words, image_words, list_words, event_words, actor_of, event_text};
 ghost use Rattle.command_text.specs.Actor.{actor_text};
-ghost use Rattle.command_text.specs.WordList.{texts_of};
+ghost use Rattle.command_text.specs.JuryWords.{jury_words};
+ghost use Rattle.command_text.specs.WordList.{texts_of, spaced, commas};
 
 use crate::texts::{push, push_number, push_spaced, push_words};
-use farm_kinds::{Class, Event, Kind, Name, NoMemory, Text};
+use farm_kinds::{Class, Event, Kind, Name, NoMemory, Numbers, Text};
 use itoa::Buffer;
 use std::alloc::Global;
 
@@ -17,6 +18,8 @@ fn actor_of(event: &Event) -> Name
 {
     match event {
         Event::Problem { who, .. } | Event::Replace { who, .. } => *who,
+        Event::Rejudge { who, .. } | Event::Verify { who, .. } => *who,
+        Event::Apply { who, .. } | Event::Cancel { who, .. } => *who,
         _ => Name::jury(),
     }
 }
@@ -145,6 +148,71 @@ fn push_entry(out: &mut Vec<u8>, judging: u32, test: u32, kind: Kind) -> Result<
     )
 }
 
+/// Puts a number.
+fn push_decimal(out: &mut Vec<u8>, n: u32) -> Result<(), NoMemory>
+    ensures ok { OnOk result (out.new.items ≡ out.old.items ++ decimal n) }
+    ensures err { OnErr result (out.new.items ≡ out.old.items) }
+{
+    push(out, Buffer::new().format(n).as_bytes())
+}
+
+/// Puts each number, with a comma before it. At `NoMemory` a part of them may be there.
+#[tactic(auto, using(crate::proofs::Joining::commas_more, crate::proofs::Joining::front_stays))]
+fn push_commas(out: &mut Vec<u8>, numbers: &[u32]) -> Result<(), NoMemory>
+    ensures ok { OnOk result (out.new.items ≡ out.old.items ++ commas numbers.now) }
+    ensures err { OnErr result (take (length out.old.items) out.new.items ≡ out.old.items) }
+{
+    for number in numbers {
+        push(out, b",")?;
+        push_decimal(out, *number)?;
+    }
+    Ok(())
+}
+
+/// Puts a space and the numbers joined by single commas, where there are any.
+/// At `NoMemory` a part of them may be there.
+#[tactic(auto, using(crate::proofs::Joining::front_stays))]
+fn push_list(out: &mut Vec<u8>, numbers: &[u32]) -> Result<(), NoMemory>
+    ensures ok { OnOk result (out.new.items ≡ out.old.items ++ spaced (list_words numbers.now)) }
+    ensures err { OnErr result (take (length out.old.items) out.new.items ≡ out.old.items) }
+{
+    let Some((first, rest)) = numbers.split_first() else {
+        return Ok(());
+    };
+    push(out, b" ")?;
+    push_decimal(out, *first)?;
+    push_commas(out, rest)
+}
+
+/// Puts the words of a rejudging. At `NoMemory` a part of them may be there.
+#[tactic(auto, using(crate::proofs::Joining::front_stays, crate::proofs::Joining::joined_more))]
+fn push_rejudge(out: &mut Vec<u8>, list: &Numbers) -> Result<(), NoMemory>
+    ensures ok { OnOk result (out.new.items ≡ out.old.items
+        ++ join_with_byte 32 (codes "rejudge" ∷ list_words list.now)) }
+    ensures err { OnErr result (take (length out.old.items) out.new.items ≡ out.old.items) }
+{
+    push_words(out, &[b"rejudge"])?;
+    push_list(out, list.as_slice())
+}
+
+/// Puts the words of an event of the jury, without the name of who acts.
+/// At `NoMemory` a part of them may be there.
+fn push_jury_words(out: &mut Vec<u8>, event: &Event) -> Result<(), NoMemory>
+    ensures ok { OnOk result (out.new.items ≡ out.old.items
+        ++ join_with_byte 32 (jury_words event.now)) }
+    ensures err { OnErr result (take (length out.old.items) out.new.items ≡ out.old.items) }
+{
+    match event {
+        Event::Problem { name, tests, .. } => push_tests(out, b"problem", name, *tests),
+        Event::Replace { name, tests, .. } => push_tests(out, b"replace", name, *tests),
+        Event::Rejudge { list, .. } => push_rejudge(out, list),
+        Event::Apply { rejudging, .. } => push_number(out, b"apply", u64::from(*rejudging)),
+        Event::Cancel { rejudging, .. } => push_number(out, b"cancel", u64::from(*rejudging)),
+        Event::Verify { judging, .. } => push_number(out, b"verify", u64::from(*judging)),
+        _ => Ok(()),
+    }
+}
+
 /// Puts the words of an event, without the name of who acts.
 /// At `NoMemory` a part of them may be there.
 fn push_event_words(out: &mut Vec<u8>, event: &Event) -> Result<(), NoMemory>
@@ -153,8 +221,6 @@ fn push_event_words(out: &mut Vec<u8>, event: &Event) -> Result<(), NoMemory>
     ensures err { OnErr result (take (length out.old.items) out.new.items ≡ out.old.items) }
 {
     match event {
-        Event::Problem { name, tests, .. } => push_tests(out, b"problem", name, *tests),
-        Event::Replace { name, tests, .. } => push_tests(out, b"replace", name, *tests),
         Event::Host { name } => push_words(out, &[b"host", name.as_bytes()]),
         Event::Submit {
             problem,
@@ -181,6 +247,10 @@ fn push_event_words(out: &mut Vec<u8>, event: &Event) -> Result<(), NoMemory>
         Event::Tick { moment } => push_number(out, b"tick", *moment),
         Event::Down { host } => push_words(out, &[b"down", host.as_bytes()]),
         Event::Show { judging } => push_number(out, b"show", u64::from(*judging)),
+        Event::Board => push_words(out, &[b"board"]),
+        Event::Matrix { rejudging } => push_number(out, b"matrix", u64::from(*rejudging)),
+        Event::Audit => push_words(out, &[b"audit"]),
+        _ => push_jury_words(out, event),
     }
 }
 
@@ -214,5 +284,14 @@ pub fn write_event(alloc: Global, event: &Event) -> Result<Text, NoMemory>
 {
     let mut text = Vec::new(alloc);
     push_event(&mut text, event)?;
+    Ok(Text::from_vec(text))
+}
+
+/// The words of an event joined by single spaces, without the name of who acts.
+pub fn write_event_words(alloc: Global, event: &Event) -> Result<Text, NoMemory>
+    ensures { IfOk result (λ text. text ≡ join_with_byte 32 (event_words event.now)) }
+{
+    let mut text = Vec::new(alloc);
+    push_event_words(&mut text, event)?;
     Ok(Text::from_vec(text))
 }

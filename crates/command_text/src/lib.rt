@@ -1,16 +1,22 @@
 //! The grammar of event lines, and the texts of events and replies.
 #![tactic(auto)]
 
+mod alone;
 mod events;
+mod hosts;
+mod jury;
 mod laws;
 mod lines;
+mod lists;
 mod numbers;
 mod replies;
+mod rows;
 #[cfg(test)]
 mod tests;
 mod texts;
+mod words;
 
-pub use events::{push_event, write_event};
+pub use events::{push_event, write_event, write_event_words};
 pub use laws::written_event_is_read;
 pub use lines::read_line;
 pub use numbers::{read_moment, read_number};

@@ -1,138 +1,19 @@
-ghost use Rattle.std.specs.Prelude.{◌≡◌, ◌≢◌, ◌≤◌, ◌<◌, ◌+◌, [], ◌∷◌, ◌++◌, List, ℕ, length, take, drop, Option, None, Some, IfSome, IfNone, slice_index};
-ghost use Rattle.farm_model.specs.Words.{words};
+ghost use Rattle.std.specs.Prelude.{◌≡◌, ◌≢◌, ◌<◌, List, ℕ, length, Result, Err, IfOk, OnErr};
+ghost use Rattle.std.specs.Option.{option_or};
+ghost use Rattle.farm_kinds.specs.Names.{jury};
 ghost use Rattle.farm_kinds.specs.declared.events.Event.TheVariants as event;
-ghost use Rattle.farm_model.specs.Grammar.{problem_line, replace_line, name_line, class_named, broken_words, submit_words, submit_line, result_line, record_line, renew_line, tick_line, show_line, host_event_of, event_of, is_comment, line_read};
-ghost use Rattle.command_text.specs.NameAlone.{name_alone};
-ghost use Rattle.command_text.specs.NextWord.{IsWord};
+ghost use Rattle.farm_kinds.specs.declared.events.LineFault.TheVariants as fault;
+ghost use Rattle.farm_model.specs.Words.{words};
+ghost use Rattle.farm_model.specs.Grammar.{class_named, broken_words, submit_words, submit_line, record_line, tick_line, number_line, host_event_of, other_event_of, unnamed_event_of, named_event_of, event_of, is_comment, line_read};
+ghost use Rattle.command_text.specs.Listed.{listed, ListsSome};
 
+use crate::alone::{bare_line, number_alone};
+use crate::hosts::host_event_of;
+use crate::jury::jury_event_of;
 use crate::numbers::{read_moment, read_number};
-use farm_kinds::{Class, Event, Kind, LineFault, Name};
-
-/// Where the first word begins.
-#[tactic(auto, using(crate::proofs::WordLemmas::spaces_more))]
-fn start_of(text: &[u8]) -> usize
-    ensures within { result ≤ length text.now }
-    ensures words { words (drop result text.now) ≡ words text.now }
-    ensures word { result < length text.now → slice_index text.now result ≢ 32 }
-{
-    for (i, b) in text.iter().enumerate() {
-        if *b != b' ' {
-            return i;
-        }
-    }
-    text.len()
-}
-
-/// How long the word is that begins the text.
-#[tactic(auto, using(crate::proofs::WordLemmas::word_more))]
-fn len_of_word(text: &[u8]) -> usize
-    ensures within { result ≤ length text.now }
-    ensures word { IsWord (take result text.now) }
-    ensures end { result < length text.now → slice_index text.now result ≡ 32 }
-{
-    for (i, b) in text.iter().enumerate() {
-        if *b == b' ' {
-            return i;
-        }
-    }
-    text.len()
-}
-
-/// The word that begins the text, and what follows it.
-fn cut_word(text: &[u8]) -> (&[u8], &[u8])
-    requires some { 0 < length text.now }
-    requires word { slice_index text.now 0 ≢ 32 }
-    ensures { words text.now ≡ result.0.now ∷ words result.1.now }
-{
-    text.split_at(len_of_word(text))
-}
-
-/// The first word of a line, and what follows it.
-#[tactic(auto, using(crate::proofs::WordLemmas::first_at))]
-fn next_word(text: &[u8]) -> Option<(&[u8], &[u8])>
-    ensures none { IfNone result (words text.now ≡ []) }
-    ensures some { IfSome result (λ r. words text.now ≡ r.0.now ∷ words r.1.now) }
-{
-    let text = &text[start_of(text)..];
-    if text.is_empty() {
-        return None;
-    }
-    Some(cut_word(text))
-}
-
-/// What `problem NAME N` asks.
-fn problem_line(rest: &[u8]) -> Option<Event>
-    ensures { result ≡ problem_line (words rest.now) }
-{
-    let (name, rest) = next_word(rest)?;
-    let (tests, rest) = next_word(rest)?;
-    if next_word(rest).is_some() {
-        return None;
-    }
-    let name = Name::read(name)?;
-    let tests = read_number(tests)?;
-    Some(Event::Problem {
-        who: Name::jury(),
-        name,
-        tests,
-    })
-}
-
-/// What `replace NAME N` asks.
-fn replace_line(rest: &[u8]) -> Option<Event>
-    ensures { result ≡ replace_line (words rest.now) }
-{
-    let (name, rest) = next_word(rest)?;
-    let (tests, rest) = next_word(rest)?;
-    if next_word(rest).is_some() {
-        return None;
-    }
-    let name = Name::read(name)?;
-    let tests = read_number(tests)?;
-    Some(Event::Replace {
-        who: Name::jury(),
-        name,
-        tests,
-    })
-}
-
-/// The name that is all that the line says.
-fn name_alone(rest: &[u8]) -> Option<Name>
-    ensures { result ≡ name_alone (words rest.now) }
-{
-    let (name, rest) = next_word(rest)?;
-    if next_word(rest).is_some() {
-        return None;
-    }
-    Name::read(name)
-}
-
-/// What `host NAME` asks.
-#[tactic(auto, using(crate::proofs::LineLemmas::name_line_by))]
-fn host_line(rest: &[u8]) -> Option<Event>
-    ensures { result ≡ name_line event.Host (words rest.now) }
-{
-    let name = name_alone(rest)?;
-    Some(Event::Host { name })
-}
-
-/// What `claim HOST` asks.
-#[tactic(auto, using(crate::proofs::LineLemmas::name_line_by))]
-fn claim_line(rest: &[u8]) -> Option<Event>
-    ensures { result ≡ name_line event.Claim (words rest.now) }
-{
-    let host = name_alone(rest)?;
-    Some(Event::Claim { host })
-}
-
-/// What `down HOST` asks.
-#[tactic(auto, using(crate::proofs::LineLemmas::name_line_by))]
-fn down_line(rest: &[u8]) -> Option<Event>
-    ensures { result ≡ name_line event.Down (words rest.now) }
-{
-    let host = name_alone(rest)?;
-    Some(Event::Down { host })
-}
+use crate::words::next_word;
+use farm_kinds::{Class, Event, Kind, LineFault, Name, NoMemory};
+use std::alloc::Global;
 
 /// The class of this name.
 fn class_named(word: &[u8]) -> Option<Class>
@@ -193,29 +74,6 @@ fn submit_line(rest: &[u8]) -> Option<Event>
     })
 }
 
-/// What `result HOST J T KIND` asks.
-fn result_line(rest: &[u8]) -> Option<Event>
-    ensures { result ≡ result_line (words rest.now) }
-{
-    let (host, rest) = next_word(rest)?;
-    let (judging, rest) = next_word(rest)?;
-    let (test, rest) = next_word(rest)?;
-    let (kind, rest) = next_word(rest)?;
-    if next_word(rest).is_some() {
-        return None;
-    }
-    let host = Name::read(host)?;
-    let judging = read_number(judging)?;
-    let test = read_number(test)?;
-    let kind = Kind::read(kind)?;
-    Some(Event::Result {
-        host,
-        judging,
-        test,
-        kind,
-    })
-}
-
 /// What `record J T KIND` asks.
 fn record_line(rest: &[u8]) -> Option<Event>
     ensures { result ≡ record_line (words rest.now) }
@@ -236,26 +94,6 @@ fn record_line(rest: &[u8]) -> Option<Event>
     })
 }
 
-/// What `renew HOST J T` asks.
-fn renew_line(rest: &[u8]) -> Option<Event>
-    ensures { result ≡ renew_line (words rest.now) }
-{
-    let (host, rest) = next_word(rest)?;
-    let (judging, rest) = next_word(rest)?;
-    let (test, rest) = next_word(rest)?;
-    if next_word(rest).is_some() {
-        return None;
-    }
-    let host = Name::read(host)?;
-    let judging = read_number(judging)?;
-    let test = read_number(test)?;
-    Some(Event::Renew {
-        host,
-        judging,
-        test,
-    })
-}
-
 /// What `tick N` asks.
 fn tick_line(rest: &[u8]) -> Option<Event>
     ensures { result ≡ tick_line (words rest.now) }
@@ -269,54 +107,90 @@ fn tick_line(rest: &[u8]) -> Option<Event>
 }
 
 /// What `show J` asks.
+#[tactic(auto, using(crate::proofs::LineLemmas::number_line_by))]
 fn show_line(rest: &[u8]) -> Option<Event>
-    ensures { result ≡ show_line (words rest.now) }
+    ensures { result ≡ number_line event.Show (words rest.now) }
 {
-    let (judging, rest) = next_word(rest)?;
-    if next_word(rest).is_some() {
-        return None;
-    }
-    let judging = read_number(judging)?;
+    let judging = number_alone(rest)?;
     Some(Event::Show { judging })
 }
 
-/// The event of a host's line that begins with this word.
-fn host_event_of(word: &[u8], rest: &[u8]) -> Option<Event>
-    ensures { result ≡ host_event_of word.now (words rest.now) }
+/// What `matrix R` asks.
+#[tactic(auto, using(crate::proofs::LineLemmas::number_line_by))]
+fn matrix_line(rest: &[u8]) -> Option<Event>
+    ensures { result ≡ number_line event.Matrix (words rest.now) }
 {
-    if word == b"host".as_slice() {
-        host_line(rest)
-    } else if word == b"claim".as_slice() {
-        claim_line(rest)
-    } else if word == b"result".as_slice() {
-        result_line(rest)
-    } else if word == b"renew".as_slice() {
-        renew_line(rest)
-    } else if word == b"down".as_slice() {
-        down_line(rest)
+    let rejudging = number_alone(rest)?;
+    Some(Event::Matrix { rejudging })
+}
+
+/// The event of a line that begins with this word, and is no host's and none of the jury's.
+fn other_event_of(word: &[u8], rest: &[u8]) -> Option<Event>
+    ensures { result ≡ other_event_of word.now (words rest.now) }
+{
+    if word == b"submit".as_slice() {
+        submit_line(rest)
+    } else if word == b"record".as_slice() {
+        record_line(rest)
+    } else if word == b"tick".as_slice() {
+        tick_line(rest)
+    } else if word == b"show".as_slice() {
+        show_line(rest)
+    } else if word == b"board".as_slice() {
+        bare_line(Event::Board, rest)
+    } else if word == b"matrix".as_slice() {
+        matrix_line(rest)
+    } else if word == b"audit".as_slice() {
+        bare_line(Event::Audit, rest)
     } else {
         None
     }
 }
 
-/// The event of a line that begins with this word.
-fn event_of(word: &[u8], rest: &[u8]) -> Option<Event>
-    ensures { result ≡ event_of word.now (words rest.now) }
+/// The event of a line that begins with this word, and is none of the jury's.
+fn plain_event_of(word: &[u8], rest: &[u8]) -> Option<Event>
+    ensures { result ≡ option_or (host_event_of word.now (words rest.now)) (other_event_of word.now (words rest.now)) }
 {
-    if word == b"problem".as_slice() {
-        problem_line(rest)
-    } else if word == b"replace".as_slice() {
-        replace_line(rest)
-    } else if word == b"submit".as_slice() {
-        submit_line(rest)
-    } else if word == b"record".as_slice() {
-        record_line(rest)
-    } else if word == b"show".as_slice() {
-        show_line(rest)
-    } else if word == b"tick".as_slice() {
-        tick_line(rest)
-    } else {
-        host_event_of(word, rest)
+    match host_event_of(word, rest) {
+        Some(event) => Some(event),
+        None => other_event_of(word, rest),
+    }
+}
+
+/// The event of a line without `@NAME` that begins with this word. Where it is the jury's, `jury` acts.
+fn unnamed_event_of(alloc: Global, word: &[u8], rest: &[u8]) -> Result<Option<Event>, NoMemory>
+    ensures read { IfOk result (λ read. read ≡ unnamed_event_of word.now (words rest.now)) }
+    ensures wanted { OnErr result (0 < length (listed (unnamed_event_of word.now (words rest.now)))) }
+{
+    match jury_event_of(alloc, Name::jury(), word, rest)? {
+        Some(event) => Ok(Some(event)),
+        None => Ok(plain_event_of(word, rest)),
+    }
+}
+
+/// The event of a line of the jury behind the name of who acts.
+fn named_event_of(alloc: Global, name: &[u8], rest: &[u8]) -> Result<Option<Event>, NoMemory>
+    ensures read { IfOk result (λ read. read ≡ named_event_of name.now (words rest.now)) }
+    ensures wanted { OnErr result (0 < length (listed (named_event_of name.now (words rest.now)))) }
+{
+    let Some((word, rest)) = next_word(rest) else {
+        return Ok(None);
+    };
+    let Some(who) = Name::read(name) else {
+        return Ok(None);
+    };
+    jury_event_of(alloc, who, word, rest)
+}
+
+/// The event of a line that begins with this word.
+fn event_of(alloc: Global, word: &[u8], rest: &[u8]) -> Result<Option<Event>, NoMemory>
+    ensures read { IfOk result (λ read. read ≡ event_of word.now (words rest.now)) }
+    ensures wanted { OnErr result (0 < length (listed (event_of word.now (words rest.now)))) }
+{
+    match word {
+        [] => Ok(None),
+        [b'@', name @ ..] => named_event_of(alloc, name, rest),
+        _ => unnamed_event_of(alloc, word, rest),
     }
 }
 
@@ -331,8 +205,11 @@ fn is_comment(word: &[u8]) -> bool
 }
 
 /// What the line asks: None for an empty line or a comment.
-pub fn read_line(text: &[u8]) -> Result<Option<Event>, LineFault>
-    ensures { result ≡ line_read text.now }
+///
+/// Memory is taken for the list of a rejudging only, once each of its numbers is read.
+pub fn read_line(alloc: Global, text: &[u8]) -> Result<Option<Event>, LineFault>
+    ensures read { result ≢ Err fault.NoMemory → result ≡ line_read text.now }
+    ensures wanted { result ≡ Err fault.NoMemory → ListsSome (line_read text.now) }
 {
     let Some((word, rest)) = next_word(text) else {
         return Ok(None);
@@ -340,8 +217,9 @@ pub fn read_line(text: &[u8]) -> Result<Option<Event>, LineFault>
     if is_comment(word) {
         return Ok(None);
     }
-    match event_of(word, rest) {
-        Some(event) => Ok(Some(event)),
-        None => Err(LineFault::BadLine),
+    match event_of(alloc, word, rest) {
+        Ok(Some(event)) => Ok(Some(event)),
+        Ok(None) => Err(LineFault::BadLine),
+        Err(NoMemory) => Err(LineFault::NoMemory),
     }
 }

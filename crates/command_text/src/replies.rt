@@ -1,23 +1,15 @@
-ghost use Rattle.std.specs.Prelude.{◌≡◌, ◌++◌, ◌∷◌, [], ℕ, List, OnOk, OnErr, IfOk, codes};
+ghost use Rattle.std.specs.Prelude.{◌≡◌, ◌++◌, ◌∷◌, [], ℕ, List, length, take, OnOk, OnErr, IfOk, codes};
 ghost use Rattle.std.specs.Fmt.{decimal};
 ghost use Rattle.std.specs.List.{join_with_byte};
-ghost use Rattle.farm_model.specs.Texts.{verdict_text, shown_words, reply_words, bad_line_words, too_long_words};
-ghost use Rattle.farm_model.specs.Script.{line_of};
+ghost use Rattle.hex.specs.Hex.{encode_lower};
+ghost use Rattle.farm_model.specs.Texts.{shown_words, how_text, reply_words, rows_text, reply_text, line_of, bad_line_words, too_long_words};
+ghost use Rattle.command_text.specs.RefusalWords.{refusal_words};
 
-use crate::texts::{end_line, push_number, push_words};
-use farm_kinds::{Answer, Name, NoMemory, Reply, Task, Text, Verdict};
+use crate::rows::{push_rows, verdict_text};
+use crate::texts::{end_line, push, push_number, push_words};
+use farm_kinds::{Answer, How, Name, NoMemory, Reply, Task, Text};
 use itoa::Buffer;
 use std::alloc::Global;
-
-/// The name of a verdict.
-fn verdict_text(verdict: Verdict) -> &'static str
-    ensures { result.now ≡ verdict_text verdict }
-{
-    match verdict {
-        Verdict::Tests(kind) => kind.name(),
-        Verdict::CompilerError => "compiler-error",
-    }
-}
 
 /// Puts what is reported of a judging.
 fn push_shown(out: &mut Vec<u8>, answer: Answer) -> Result<(), NoMemory>
@@ -89,7 +81,120 @@ fn push_handed(out: &mut Vec<u8>, task: Task, until: u64) -> Result<(), NoMemory
     )
 }
 
-/// Puts the words of a reply, joined by single spaces. At `NoMemory` nothing changes.
+/// Puts the numbers of a rejudging and of its first and last judgings.
+fn push_rejudging(out: &mut Vec<u8>, number: u32, first: u32, last: u32) -> Result<(), NoMemory>
+    ensures ok { OnOk result (out.new.items ≡ out.old.items
+        ++ join_with_byte 32 (codes "rejudging" ∷ decimal number ∷ codes "judgings" ∷ decimal first ∷ codes "to" ∷ decimal last ∷ [])) }
+    ensures err { OnErr result (out.new.items ≡ out.old.items) }
+{
+    let mut own = Buffer::new();
+    let mut from = Buffer::new();
+    let mut to = Buffer::new();
+    push_words(
+        out,
+        &[
+            b"rejudging",
+            own.format(number).as_bytes(),
+            b"judgings",
+            from.format(first).as_bytes(),
+            b"to",
+            to.format(last).as_bytes(),
+        ],
+    )
+}
+
+/// The hexadecimal digits of a digest.
+fn hex_of(digest: &[u8; 32]) -> [u8; 64]
+    ensures { result ≡ encode_lower digest.now }
+{
+    let mut digits = [0u8; 64];
+    let _written = hex::encode_to_slice(digest, &mut digits);
+    digits
+}
+
+/// Puts how many entries the audit log has, and its last digest.
+fn push_audit(out: &mut Vec<u8>, count: u32, head: &[u8; 32]) -> Result<(), NoMemory>
+    ensures ok { OnOk result (out.new.items ≡ out.old.items
+        ++ join_with_byte 32 (codes "audit" ∷ decimal count ∷ encode_lower head.now ∷ [])) }
+    ensures err { OnErr result (out.new.items ≡ out.old.items) }
+{
+    let mut digits = Buffer::new();
+    push_words(
+        out,
+        &[
+            b"audit",
+            digits.format(count).as_bytes(),
+            hex_of(head).as_slice(),
+        ],
+    )
+}
+
+/// Puts a submission, and the rejudging that it is in.
+fn push_busy(out: &mut Vec<u8>, submission: u32, rejudging: u32) -> Result<(), NoMemory>
+    ensures ok { OnOk result (out.new.items ≡ out.old.items
+        ++ join_with_byte 32 (codes "busy" ∷ decimal submission ∷ decimal rejudging ∷ [])) }
+    ensures err { OnErr result (out.new.items ≡ out.old.items) }
+{
+    let mut first = Buffer::new();
+    let mut second = Buffer::new();
+    push_words(
+        out,
+        &[
+            b"busy",
+            first.format(submission).as_bytes(),
+            second.format(rejudging).as_bytes(),
+        ],
+    )
+}
+
+/// The word for how a rejudging was closed.
+fn how_text(how: How) -> &'static str
+    ensures { result.now ≡ how_text how }
+{
+    match how {
+        How::Applied => "applied",
+        How::Cancelled => "cancelled",
+    }
+}
+
+/// Puts the words of a reply that refuses. At `NoMemory` nothing changes.
+fn push_refusal_words(out: &mut Vec<u8>, reply: &Reply) -> Result<(), NoMemory>
+    ensures ok { OnOk result (out.new.items ≡ out.old.items
+        ++ join_with_byte 32 (refusal_words reply.now)) }
+    ensures err { OnErr result (out.new.items ≡ out.old.items) }
+{
+    match reply {
+        Reply::BadTests { tests } => push_number(out, b"bad-tests", u64::from(*tests)),
+        Reply::Known { name } => push_words(out, &[b"known", name.as_bytes()]),
+        Reply::NoProblem { name } => push_words(out, &[b"no-problem", name.as_bytes()]),
+        Reply::NoHost { name } => push_words(out, &[b"no-host", name.as_bytes()]),
+        Reply::Full { limit } => push_number(out, b"full", u64::from(*limit)),
+        Reply::Holding { limit } => push_number(out, b"holding", u64::from(*limit)),
+        Reply::NoJudging { judging } => push_number(out, b"no-judging", u64::from(*judging)),
+        Reply::NoTest { test } => push_number(out, b"no-test", u64::from(*test)),
+        Reply::NotHanded => push_words(out, &[b"not-handed"]),
+        Reply::NoLease => push_words(out, &[b"no-lease"]),
+        Reply::EmptySet => push_words(out, &[b"empty-set"]),
+        Reply::NoSubmission { submission } => {
+            push_number(out, b"no-submission", u64::from(*submission))
+        }
+        Reply::Twice { submission } => push_number(out, b"twice", u64::from(*submission)),
+        Reply::NotFinal { number } => push_number(out, b"not-final", u64::from(*number)),
+        Reply::Busy {
+            submission,
+            rejudging,
+        } => push_busy(out, *submission, *rejudging),
+        Reply::NoRejudging { rejudging } => {
+            push_number(out, b"no-rejudging", u64::from(*rejudging))
+        }
+        Reply::Closed { how } => push_words(out, &[b"closed", how_text(*how).as_bytes()]),
+        Reply::Unfinished { judging } => push_number(out, b"unfinished", u64::from(*judging)),
+        Reply::Already { judging } => push_number(out, b"already", u64::from(*judging)),
+        _ => Ok(()),
+    }
+}
+
+/// Puts the words of a reply, of the last line where it has several. At `NoMemory` nothing changes.
 fn push_reply_words(out: &mut Vec<u8>, reply: &Reply) -> Result<(), NoMemory>
     ensures ok { OnOk result (out.new.items ≡ out.old.items
         ++ join_with_byte 32 (reply_words reply.now)) }
@@ -116,36 +221,62 @@ fn push_reply_words(out: &mut Vec<u8>, reply: &Reply) -> Result<(), NoMemory>
         Reply::Until { until } => push_number(out, b"until", *until),
         Reply::Ended { count } => push_number(out, b"ended", u64::from(*count)),
         Reply::Shown(answer) => push_shown(out, *answer),
-        Reply::BadTests { tests } => push_number(out, b"bad-tests", u64::from(*tests)),
-        Reply::Known { name } => push_words(out, &[b"known", name.as_bytes()]),
-        Reply::NoProblem { name } => push_words(out, &[b"no-problem", name.as_bytes()]),
-        Reply::NoHost { name } => push_words(out, &[b"no-host", name.as_bytes()]),
-        Reply::Full { limit } => push_number(out, b"full", u64::from(*limit)),
-        Reply::Holding { limit } => push_number(out, b"holding", u64::from(*limit)),
-        Reply::NoJudging { judging } => push_number(out, b"no-judging", u64::from(*judging)),
-        Reply::NoTest { test } => push_number(out, b"no-test", u64::from(*test)),
-        Reply::NotHanded => push_words(out, &[b"not-handed"]),
-        Reply::NoLease => push_words(out, &[b"no-lease"]),
-        Reply::NoMemory => push_words(out, &[]),
+        Reply::Board { rows } => push_number(out, b"board", rows.as_slice().len() as u64),
+        Reply::Rejudging {
+            number,
+            first,
+            last,
+        } => push_rejudging(out, *number, *first, *last),
+        Reply::Matrix { members, .. } => push_number(out, b"matrix", u64::from(*members)),
+        Reply::Applied { members } => push_number(out, b"applied", u64::from(*members)),
+        Reply::Cancelled { members } => push_number(out, b"cancelled", u64::from(*members)),
+        Reply::Verified { judging } => push_number(out, b"verified", u64::from(*judging)),
+        Reply::Audit { count, head } => push_audit(out, *count, head),
+        _ => push_refusal_words(out, reply),
     }
 }
 
-/// Puts the line of a reply behind what is there. At `NoMemory` nothing changes.
-pub fn push_reply(out: &mut Vec<u8>, reply: &Reply) -> Result<(), NoMemory>
-    ensures ok { OnOk result (out.new.items ≡ out.old.items ++ line_of (reply_words reply.now)) }
-    ensures err { OnErr result (out.new.items ≡ out.old.items) }
+/// Puts the lines of a reply, the last one without its line feed.
+/// At `NoMemory` a part of them may be there.
+#[tactic(auto, using(crate::proofs::Joining::front_stays))]
+fn push_text(out: &mut Vec<u8>, reply: &Reply) -> Result<(), NoMemory>
+    ensures ok { OnOk result (out.new.items ≡ out.old.items
+        ++ rows_text reply.now ++ join_with_byte 32 (reply_words reply.now)) }
+    ensures err { OnErr result (take (length out.old.items) out.new.items ≡ out.old.items) }
 {
-    let start = out.len();
-    push_reply_words(out, reply)?;
-    end_line(out, start)
+    push_rows(out, reply)?;
+    push_reply_words(out, reply)
 }
 
-/// The words of a reply, joined by single spaces.
+/// Puts the lines of a reply. At `NoMemory` a part of them may be there.
+#[tactic(auto, using(crate::proofs::Joining::front_stays))]
+fn push_lines(out: &mut Vec<u8>, reply: &Reply) -> Result<(), NoMemory>
+    ensures ok { OnOk result (out.new.items ≡ out.old.items ++ reply_text reply.now) }
+    ensures err { OnErr result (take (length out.old.items) out.new.items ≡ out.old.items) }
+{
+    push_text(out, reply)?;
+    push(out, b"\n")
+}
+
+/// Puts the lines of a reply behind what is there. At `NoMemory` nothing changes.
+pub fn push_reply(out: &mut Vec<u8>, reply: &Reply) -> Result<(), NoMemory>
+    ensures ok { OnOk result (out.new.items ≡ out.old.items ++ reply_text reply.now) }
+    ensures err { OnErr result (out.new.items ≡ out.old.items) }
+{
+    let kept = out.len();
+    let pushed = push_lines(out, reply);
+    if pushed.is_err() {
+        out.truncate(kept);
+    }
+    pushed
+}
+
+/// The lines of a reply, the last one without its line feed.
 pub fn write_reply(alloc: Global, reply: &Reply) -> Result<Text, NoMemory>
-    ensures { IfOk result (λ text. text ≡ join_with_byte 32 (reply_words reply.now)) }
+    ensures { IfOk result (λ text. text ≡ rows_text reply.now ++ join_with_byte 32 (reply_words reply.now)) }
 {
     let mut text = Vec::new(alloc);
-    push_reply_words(&mut text, reply)?;
+    push_text(&mut text, reply)?;
     Ok(Text::from_vec(text))
 }
 

@@ -1,13 +1,17 @@
-use crate::{push_bad_line, push_reply, push_too_long, read_line, write_event, write_reply};
+use crate::{
+    push_bad_line, push_reply, push_too_long, read_line, write_event, write_event_words,
+    write_reply,
+};
 use farm_kinds::{
-    Answer, Class, Event, Kind, LineFault, Name, NoMemory, Reply, Task, Text, Verdict,
+    Answer, Answers, Class, Event, How, Kind, LineFault, MatrixRow, MatrixRows, Name, NoMemory,
+    Reply, Task, Text, Verdict,
 };
 use std::alloc::Global;
 use std::test::Fail;
 
 /// What the line is read as, written again. Empty where the line gives no event.
 fn read_and_written(alloc: Global, line: &[u8]) -> Result<Text, NoMemory> {
-    match read_line(line) {
+    match read_line(alloc, line) {
         Ok(Some(event)) => write_event(alloc, &event),
         _ => Ok(Text::new(alloc)),
     }
@@ -35,6 +39,22 @@ fn each_line_is_read_and_written_again(rt: HostRuntime) -> Result<(), Fail> {
         b"tick 999999999999999999",
         b"down h1",
         b"show 0",
+        b"board",
+        b"rejudge",
+        b"rejudge 7",
+        b"rejudge 3,4294967295,0",
+        b"matrix 1",
+        b"apply 1",
+        b"cancel 2",
+        b"verify 3",
+        b"audit",
+        b"@ann problem A 2",
+        b"@ann replace A 3",
+        b"@ann rejudge",
+        b"@ann rejudge 2,1",
+        b"@ann apply 1",
+        b"@ann cancel 2",
+        b"@ann verify 1",
     ] {
         let text = read_and_written(rt.alloc(), line)?;
         assert!(rt; text.as_slice() == line);
@@ -43,11 +63,12 @@ fn each_line_is_read_and_written_again(rt: HostRuntime) -> Result<(), Fail> {
 }
 
 #[test]
-fn spaces_and_a_normal_class_are_left_out(rt: HostRuntime) -> Result<(), Fail> {
+fn spaces_a_normal_class_and_the_jury_are_left_out(rt: HostRuntime) -> Result<(), Fail> {
     for (line, want) in [
         (b"  tick   60  ".as_slice(), b"tick 60".as_slice()),
         (b"submit A normal", b"submit A"),
         (b"submit A normal broken", b"submit A broken"),
+        (b"@jury verify 1", b"verify 1"),
     ] {
         let text = read_and_written(rt.alloc(), line)?;
         assert!(rt; text.as_slice() == want);
@@ -57,10 +78,15 @@ fn spaces_and_a_normal_class_are_left_out(rt: HostRuntime) -> Result<(), Fail> {
 
 #[test]
 fn a_line_says_which_event_it_is(rt: HostRuntime) {
-    assert!(rt; matches!(read_line(b"tick 60"), Ok(Some(Event::Tick { moment: 60 }))));
     assert!(rt;
         matches!(
-            read_line(b"submit A low broken"),
+            read_line(rt.alloc(), b"tick 60"),
+            Ok(Some(Event::Tick { moment: 60 }))
+        )
+    );
+    assert!(rt;
+        matches!(
+            read_line(rt.alloc(), b"submit A low broken"),
             Ok(Some(Event::Submit {
                 class: Class::Low,
                 broken: true,
@@ -70,7 +96,7 @@ fn a_line_says_which_event_it_is(rt: HostRuntime) {
     );
     assert!(rt;
         matches!(
-            read_line(b"record 3 4 timelimit"),
+            read_line(rt.alloc(), b"record 3 4 timelimit"),
             Ok(Some(Event::Entry {
                 judging: 3,
                 test: 4,
@@ -83,7 +109,7 @@ fn a_line_says_which_event_it_is(rt: HostRuntime) {
 #[test]
 fn no_line_gives_no_event(rt: HostRuntime) {
     for line in [b"".as_slice(), b"   ", b"# problem A 2", b" #"] {
-        assert!(rt; matches!(read_line(line), Ok(None)));
+        assert!(rt; matches!(read_line(rt.alloc(), line), Ok(None)));
     }
 }
 
@@ -113,9 +139,58 @@ fn other_lines_are_bad(rt: HostRuntime) {
         b"show 1 #",
         b"Show 1",
         b"@jury show 1",
+        b"@",
+        b"@ verify 1",
+        b"@ann",
+        b"@a.b verify 1",
+        b"@ann claim h1",
+        b"@ann submit A",
+        b"@ann board",
+        b"@ann @ann verify 1",
+        b"board 1",
+        b"audit 1",
+        b"matrix",
+        b"matrix 1 2",
+        b"apply",
+        b"verify -1",
+        b"rejudge 1 2",
+        b"rejudge ,",
+        b"rejudge 1,",
+        b"rejudge ,1",
+        b"rejudge 1,,2",
+        b"rejudge 1,02",
+        b"rejudge 1,x",
+        b"rejudge 1;2",
+        b"rejudge 4294967296",
     ] {
-        assert!(rt; matches!(read_line(line), Err(LineFault::BadLine)));
+        assert!(rt; matches!(read_line(rt.alloc(), line), Err(LineFault::BadLine)));
     }
+}
+
+#[test]
+fn a_rejudging_has_its_list_in_order(rt: HostRuntime) -> Result<(), Fail> {
+    for (line, want) in [
+        (b"rejudge".as_slice(), [].as_slice()),
+        (b"rejudge 5", &[5]),
+        (b"@ann rejudge 3,1,3", &[3, 1, 3]),
+    ] {
+        match read_line(rt.alloc(), line) {
+            Ok(Some(Event::Rejudge { list, .. })) => assert_eq!(rt; list.as_slice(), want),
+            _ => assert!(rt; false),
+        }
+    }
+    Ok(())
+}
+
+#[test]
+fn the_words_of_an_event_leave_out_who_acts(rt: HostRuntime) -> Result<(), Fail> {
+    let event = Event::Verify {
+        who: name(b"ann"),
+        judging: 7,
+    };
+    let words = write_event_words(rt.alloc(), &event)?;
+    assert!(rt; words.as_slice() == b"verify 7".as_slice());
+    Ok(())
 }
 
 #[test]
@@ -182,6 +257,24 @@ fn each_reply_has_its_words(rt: HostRuntime) -> Result<(), Fail> {
             Reply::Shown(Answer::Final(Verdict::CompilerError)),
             b"final compiler-error",
         ),
+        (
+            Reply::Rejudging {
+                number: 1,
+                first: 4,
+                last: 6,
+            },
+            b"rejudging 1 judgings 4 to 6",
+        ),
+        (Reply::Applied { members: 3 }, b"applied 3"),
+        (Reply::Cancelled { members: 2 }, b"cancelled 2"),
+        (Reply::Verified { judging: 5 }, b"verified 5"),
+        (
+            Reply::Audit {
+                count: 2,
+                head: [0xaf; 32],
+            },
+            b"audit 2 afafafafafafafafafafafafafafafafafafafafafafafafafafafafafafafaf",
+        ),
     ];
     for (reply, want) in cases {
         let text = write_reply(rt.alloc(), &reply)?;
@@ -203,6 +296,27 @@ fn each_refusal_has_its_words(rt: HostRuntime) -> Result<(), Fail> {
         (Reply::NoTest { test: 3 }, b"no-test 3"),
         (Reply::NotHanded, b"not-handed"),
         (Reply::NoLease, b"no-lease"),
+        (Reply::EmptySet, b"empty-set"),
+        (Reply::NoSubmission { submission: 9 }, b"no-submission 9"),
+        (Reply::Twice { submission: 1 }, b"twice 1"),
+        (Reply::NotFinal { number: 2 }, b"not-final 2"),
+        (
+            Reply::Busy {
+                submission: 3,
+                rejudging: 1,
+            },
+            b"busy 3 1",
+        ),
+        (Reply::NoRejudging { rejudging: 8 }, b"no-rejudging 8"),
+        (Reply::Closed { how: How::Applied }, b"closed applied"),
+        (
+            Reply::Closed {
+                how: How::Cancelled,
+            },
+            b"closed cancelled",
+        ),
+        (Reply::Unfinished { judging: 4 }, b"unfinished 4"),
+        (Reply::Already { judging: 5 }, b"already 5"),
         (Reply::NoMemory, b""),
     ];
     for (reply, want) in cases {
@@ -219,5 +333,50 @@ fn replies_follow_one_another_as_lines(rt: HostRuntime) -> Result<(), Fail> {
     push_bad_line(&mut out)?;
     push_too_long(&mut out, 4_097)?;
     assert!(rt; out.as_slice() == b"counted\nbad-line\ntoo-long 4097\n".as_slice());
+    Ok(())
+}
+
+#[test]
+fn a_board_has_a_line_for_each_submission(rt: HostRuntime) -> Result<(), Fail> {
+    let mut rows = Answers::new(rt.alloc());
+    for answer in [
+        Answer::Final(Verdict::Tests(Kind::Correct)),
+        Answer::Pending,
+        Answer::Final(Verdict::CompilerError),
+    ] {
+        rows.push(answer)?;
+    }
+    let mut out = Vec::new(rt.alloc());
+    push_reply(&mut out, &Reply::Board { rows })?;
+    assert!(rt; out.as_slice() == b"1 correct\n2 pending\n3 compiler-error\nboard 3\n".as_slice());
+    Ok(())
+}
+
+#[test]
+fn an_empty_board_has_its_last_line_alone(rt: HostRuntime) -> Result<(), Fail> {
+    let rows = Answers::new(rt.alloc());
+    let text = write_reply(rt.alloc(), &Reply::Board { rows })?;
+    assert!(rt; text.as_slice() == b"board 0".as_slice());
+    Ok(())
+}
+
+#[test]
+fn a_matrix_has_the_old_answer_before_the_new_one(rt: HostRuntime) -> Result<(), Fail> {
+    let mut rows = MatrixRows::new(rt.alloc());
+    rows.push(MatrixRow {
+        old: Answer::Final(Verdict::Tests(Kind::WrongAnswer)),
+        new: Answer::Final(Verdict::Tests(Kind::Correct)),
+        count: 2,
+    })?;
+    rows.push(MatrixRow {
+        old: Answer::Final(Verdict::Tests(Kind::Correct)),
+        new: Answer::Pending,
+        count: 1,
+    })?;
+    let reply = Reply::Matrix { rows, members: 3 };
+    let text = write_reply(rt.alloc(), &reply)?;
+    assert!(rt;
+        text.as_slice() == b"wrong-answer correct 2\ncorrect pending 1\nmatrix 3".as_slice()
+    );
     Ok(())
 }

@@ -1,6 +1,7 @@
 ghost use Rattle.std.specs.Prelude.{◌≡◌, ◌++◌, ◌∷◌, [], ◌≤◌, ℕ, List, length, take, OnOk, OnErr};
 ghost use Rattle.std.specs.Fmt.{decimal};
 ghost use Rattle.std.specs.List.{join_with_byte};
+ghost use Rattle.farm_model.specs.Texts.{line_of};
 ghost use Rattle.command_text.specs.WordList.{texts_of, spaced};
 
 use farm_kinds::NoMemory;
@@ -55,6 +56,17 @@ pub fn push_words(out: &mut Vec<u8>, words: &[&[u8]]) -> Result<(), NoMemory>
         out.truncate(kept);
     }
     pushed
+}
+
+/// Puts the words, joined by single spaces, and a line feed behind what is there.
+/// At `NoMemory` a part of them may be there.
+#[tactic(auto, using(crate::proofs::Joining::front_stays))]
+pub fn push_line(out: &mut Vec<u8>, words: &[&[u8]]) -> Result<(), NoMemory>
+    ensures ok { OnOk result (out.new.items ≡ out.old.items ++ line_of (texts_of words.now)) }
+    ensures err { OnErr result (take (length out.old.items) out.new.items ≡ out.old.items) }
+{
+    push_joined(out, words)?;
+    push(out, b"\n")
 }
 
 /// Puts a word, a space and a number behind what is there. At `NoMemory` nothing changes.

@@ -1,0 +1,98 @@
+ghost use Rattle.std.specs.Prelude.{◌≡◌, List, ℕ};
+ghost use Rattle.farm_model.specs.Words.{words};
+ghost use Rattle.farm_kinds.specs.declared.events.Event.TheVariants as event;
+ghost use Rattle.farm_model.specs.Grammar.{name_line, result_line, renew_line, host_event_of};
+
+use crate::alone::name_alone;
+use crate::numbers::read_number;
+use crate::words::next_word;
+use farm_kinds::{Event, Kind, Name};
+
+/// What `host NAME` asks.
+#[tactic(auto, using(crate::proofs::LineLemmas::name_line_by))]
+fn host_line(rest: &[u8]) -> Option<Event>
+    ensures { result ≡ name_line event.Host (words rest.now) }
+{
+    let name = name_alone(rest)?;
+    Some(Event::Host { name })
+}
+
+/// What `claim HOST` asks.
+#[tactic(auto, using(crate::proofs::LineLemmas::name_line_by))]
+fn claim_line(rest: &[u8]) -> Option<Event>
+    ensures { result ≡ name_line event.Claim (words rest.now) }
+{
+    let host = name_alone(rest)?;
+    Some(Event::Claim { host })
+}
+
+/// What `down HOST` asks.
+#[tactic(auto, using(crate::proofs::LineLemmas::name_line_by))]
+fn down_line(rest: &[u8]) -> Option<Event>
+    ensures { result ≡ name_line event.Down (words rest.now) }
+{
+    let host = name_alone(rest)?;
+    Some(Event::Down { host })
+}
+
+/// What `result HOST J T KIND` asks.
+fn result_line(rest: &[u8]) -> Option<Event>
+    ensures { result ≡ result_line (words rest.now) }
+{
+    let (host, rest) = next_word(rest)?;
+    let (judging, rest) = next_word(rest)?;
+    let (test, rest) = next_word(rest)?;
+    let (kind, rest) = next_word(rest)?;
+    if next_word(rest).is_some() {
+        return None;
+    }
+    let host = Name::read(host)?;
+    let judging = read_number(judging)?;
+    let test = read_number(test)?;
+    let kind = Kind::read(kind)?;
+    Some(Event::Result {
+        host,
+        judging,
+        test,
+        kind,
+    })
+}
+
+/// What `renew HOST J T` asks.
+fn renew_line(rest: &[u8]) -> Option<Event>
+    ensures { result ≡ renew_line (words rest.now) }
+{
+    let (host, rest) = next_word(rest)?;
+    let (judging, rest) = next_word(rest)?;
+    let (test, rest) = next_word(rest)?;
+    if next_word(rest).is_some() {
+        return None;
+    }
+    let host = Name::read(host)?;
+    let judging = read_number(judging)?;
+    let test = read_number(test)?;
+    Some(Event::Renew {
+        host,
+        judging,
+        test,
+    })
+}
+
+/// The event of a host's line that begins with this word.
+pub fn host_event_of(word: &[u8], rest: &[u8]) -> Option<Event>
+    ensures { result ≡ host_event_of word.now (words rest.now) }
+{
+    if word == b"host".as_slice() {
+        host_line(rest)
+    } else if word == b"claim".as_slice() {
+        claim_line(rest)
+    } else if word == b"result".as_slice() {
+        result_line(rest)
+    } else if word == b"renew".as_slice() {
+        renew_line(rest)
+    } else if word == b"down".as_slice() {
+        down_line(rest)
+    } else {
+        None
+    }
+}
