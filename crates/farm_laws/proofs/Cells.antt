@@ -1,7 +1,8 @@
 -- The cells of judgings, and what each event does to them.
-use Rattle.std.proofs.Common.{ℕ, zero, suc, ◌≡◌, ◌≢◌, ◌-◌, List, [], ◌∷◌, ◌++◌, Option, Some, None, Bool, true, false, cond, eqb, ◌&&◌, refl, sym, ap, ◌∙◌, subst, set, slice_get, replicate}
+use Rattle.std.proofs.Common.{ℕ, zero, suc, ◌≡◌, ◌≢◌, ◌-◌, List, [], ◌∷◌, ◌++◌, Option, Some, None, Bool, true, false, cond, eqb, ◌&&◌, refl, sym, ap, ◌∙◌, subst, set, slice_get, replicate, map, append_assoc}
 use Rattle.std.specs.Prelude.{nat_lt}
 use Rattle.std.specs.Option.{option_map, option_and_then, option_or, unwrap_or, is_some}
+use Rattle.std.proofs.lemmas.List.{append-nil}
 use Rattle.std.proofs.lemmas.Bool.{eqb-true, eqb-false}
 use Rattle.farm_kinds.specs.declared.kinds.Kind.{Kind}
 use Rattle.farm_kinds.specs.declared.outcomes.Class.{Class}
@@ -115,6 +116,14 @@ same_kinds false x y t h = refl
 -- a new judging has no kind in any cell
 pub cell_append : (judgings : List Judging) (class : Class) (n j t : ℕ) → cell_at (judgings ++ empty_judging class n ∷ []) j t ≡ cell_at judgings j t
 cell_append judgings class n j t = same_kinds (nat_lt 0 j) (slice_get (judgings ++ empty_judging class n ∷ []) (j - 1)) (slice_get judgings (j - 1)) t (last_empty judgings class n (j - 1) t)
+
+-- new judgings have none
+pub cells_append : (judgings : List Judging) (class : Class) (tests : List ℕ) (j t : ℕ) → cell_at (judgings ++ map (empty_judging class) tests) j t ≡ cell_at judgings j t
+cells_append judgings class [] j t = ap (λ (js : List Judging). cell_at js j t) (append-nil judgings)
+cells_append judgings class (n ∷ tests) j t =
+    ap (λ (js : List Judging). cell_at js j t) (sym (append_assoc judgings (empty_judging class n ∷ []) (map (empty_judging class) tests)))
+    ∙ cells_append (judgings ++ empty_judging class n ∷ []) class tests j t
+    ∙ cell_append judgings class n j t
 
 pub or_none : {X : Type 0} (o : Option X) → option_or o None ≡ o
 or_none None = refl

@@ -1,5 +1,7 @@
 -- What each item of a list meets.
 use Rattle.std.proofs.Common.{ℕ, zero, suc, ◌≡◌, ◌+◌, ◌<◌, List, [], ◌∷◌, ◌++◌, Some, Bool, true, false, cond, refl, subst, arith, map, slice_get}
+use Rattle.std.specs.Prelude.{All}
+use Rattle.std.proofs.lemmas.List.Elements.{All-nil, All-cons}
 use Rattle.std.specs.List.{filter, flat_map, enumerate_from, range_with_len}
 
 abbrev pub Each : {X : Type 0} → (X → Type 0) → List X → Type 0
@@ -17,6 +19,14 @@ each_append P (x ∷ xs) ys h k = (h.0, each_append P xs ys h.1 k)
 pub each_map : {X Y : Type 0} (P : X → Type 0) (Q : Y → Type 0) (f : X → Y) → ((x : X) → P x → Q (f x)) → (xs : List X) → Each P xs → Each Q (map f xs)
 each_map P Q f turn [] h = tt
 each_map P Q f turn (x ∷ xs) h = (turn x h.0, each_map P Q f turn xs h.1)
+
+pub each_turned : {X : Type 0} (P Q : X → Type 0) → ((x : X) → P x → Q x) → (xs : List X) → Each P xs → Each Q xs
+each_turned P Q turn [] h = tt
+each_turned P Q turn (x ∷ xs) h = (turn x h.0, each_turned P Q turn xs h.1)
+
+pub each_all : {X : Type 0} (P : X → Type 0) (xs : List X) → Each P xs → All P xs
+each_all P [] h = All-nil P
+each_all P (x ∷ xs) h = All-cons P x xs h.0 (each_all P xs h.1)
 
 pub each_flat_map : {X Y : Type 0} (P : X → Type 0) (Q : Y → Type 0) (f : X → List Y) → ((x : X) → P x → Each Q (f x)) → (xs : List X) → Each P xs → Each Q (flat_map f xs)
 each_flat_map P Q f turn [] h = tt

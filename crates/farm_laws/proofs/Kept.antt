@@ -1,6 +1,7 @@
 -- Changes of the judge that leave every row as it was.
 use Rattle.std.proofs.Common.{ℕ, zero, suc, ◌≡◌, ◌-◌, List, [], ◌∷◌, Option, Some, None, Bool, true, false, cond, refl, sym, ap, ◌∙◌, length, map, set, slice_get}
 use Rattle.std.specs.Prelude.{nat_lt}
+use Rattle.std.specs.List.{fold}
 use Rattle.std.specs.Option.{option_map, option_and_then, unwrap_or}
 use Rattle.std.proofs.lemmas.Option.{slice_get-map}
 use Rattle.farm_kinds.specs.declared.kinds.Kind.{Kind}
@@ -8,8 +9,8 @@ use Rattle.farm_kinds.specs.declared.outcomes.Task.{Task}
 use Rattle.farm_model.specs.Numbered.{item_of, change_item}
 use Rattle.farm_model.specs.Refusing.{refused_or}
 use Rattle.farm_model.specs.Rows.{Row}
-use Rattle.farm_model.specs.Judgings.{Judging, task_of, rows_of, mark_handed}
-use Rattle.farm_model.specs.Judge.{JudgeState, claim_refusal, claimed, first_open, judge_claim, renew_refusal, renew_lease, judge_renew}
+use Rattle.farm_model.specs.Judgings.{Judging, task_of, rows_of, mark_handed, mark_dropped}
+use Rattle.farm_model.specs.Judge.{JudgeState, claim_refusal, claimed, first_open, judge_claim, renew_refusal, renew_lease, judge_renew, drop_judging}
 use Rattle.farm_laws.proofs.Items.{item_at}
 use Rattle.farm_laws.proofs.Cells.{cell_at}
 
@@ -86,3 +87,14 @@ claim_keeps s host = refused_keeps s (claim_refusal s.leases host) (claimed s ho
 -- a renewal changes a lease alone
 pub renew_keeps : (s : JudgeState) (host j t : ℕ) → KeepsRows s (judge_renew s host j t).0
 renew_keeps s host j t = refused_keeps s (renew_refusal s host j t) (renew_lease s (task_of j t)) (record { rule = refl; mode = refl; rows = refl })
+
+drop_keeps : (s : JudgeState) (j : ℕ) → KeepsRows s (drop_judging s j)
+drop_keeps s j = record { rule = refl; mode = refl; rows = changed_same (λ (judging : Judging). judging.row) mark_dropped (λ judging. refl) s.judgings j (item_of s.judgings j) refl }
+
+-- judgings that are dropped keep their rows
+pub drops_keep : (s : JudgeState) (js : List ℕ) → KeepsRows s (fold drop_judging s js)
+drops_keep s [] = same_rows s
+drops_keep s (j ∷ js) =
+    let first = drop_keeps s j in
+    let others = drops_keep (drop_judging s j) js in
+    record { rule = others.rule ∙ first.rule; mode = others.mode ∙ first.mode; rows = others.rows ∙ first.rows }

@@ -6,5 +6,11 @@ pub mod Steps
 pub mod Runs
 pub mod Rows
 pub mod Later
+pub mod Quiet
 pub mod Handing
+pub mod Outcomes
+pub mod Moves
+pub mod Cancels
+pub mod Members
+pub mod Applying
 pub mod Reporting

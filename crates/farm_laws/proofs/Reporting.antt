@@ -24,7 +24,7 @@ use Rattle.farm_model.specs.Farm.{farm_step}
 use Rattle.farm_model.specs.Replay.{state_after, reply_to, counted_in, kind_for, cell_for, given_by, Truth, AgreesWith, IsHonest, KnowsAll, true_kinds}
 use Rattle.farm_laws.specs.Laws.{reached, row_in, IsJudging, replayed_row, Shows, FinalIsExact, IsWantedCell, PendingIsExact, HandsOutWanted, FinalStays, CountedOnce, EqualsOneThread, OnlyCountedFills, RowIsReplayed, KeepsPromise}
 use Rattle.lazy_stop.specs.Matters.{Extends}
-use Rattle.farm_laws.proofs.Items.{item_at, item_by, item_append, numbered_from}
+use Rattle.farm_laws.proofs.Items.{item_at, item_by, item_append, numbered_from, there}
 use Rattle.farm_laws.proofs.Cells.{cell_at, kind_in, or_none}
 use Rattle.farm_laws.proofs.Kept.{lengths_of}
 use Rattle.farm_laws.proofs.Steps.{one_cell, steps, not_counted}
@@ -32,6 +32,9 @@ use Rattle.farm_laws.proofs.Runs.{runs, counts, tasks_same}
 use Rattle.farm_laws.proofs.Rows.{final_verdict, map_range, true_row}
 use Rattle.farm_laws.proofs.Later.{pending_wanted, extends_cells, answer_stays, answer_in_full}
 use Rattle.farm_laws.proofs.Handing.{hands_open}
+use Rattle.farm_laws.proofs.Moves.{only_apply}
+use Rattle.farm_laws.proofs.Cancels.{cancel_keeps}
+use Rattle.farm_laws.proofs.Applying.{applies_to_all}
 
 -- A row by its cells
 
@@ -65,10 +68,6 @@ pub row_is_replayed : (settings : SettingsValue) (es : List Event) → RowIsRepl
 row_is_replayed settings es j is = replayed settings es j
 
 -- What is shown
-
-there : {X : Type 0} (o : Option X) → IsSome o → (x : X) × (o ≡ Some x)
-there None h = cc
-there (Some x) h = (x, refl)
 
 shown_by : (s : State) (j : ℕ) (g : Judging) → item_of s.judge.judgings j ≡ Some g → reply_to s (event.Show j) ≡ reply.Shown (answer_of s.judge.rule s.judge.mode (row_in s j))
 shown_by s j g h =
@@ -287,4 +286,7 @@ keeps_promise settings es = record {
   only_counted_fills = only_counted_fills settings es;
   row_is_replayed = row_is_replayed settings es;
   hands_out_wanted = hands_out_wanted settings es;
+  applies_to_all = applies_to_all settings es;
+  cancel_changes_none = λ who r. cancel_keeps (reached settings es) who r;
+  only_apply_moves = λ e none. only_apply (reached settings es) e none;
 }

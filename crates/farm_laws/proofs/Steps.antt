@@ -1,10 +1,11 @@
 -- What one event does to the judgings.
-use Rattle.std.proofs.Common.{ℕ, ◌≡◌, ◌≢◌, ◌-◌, List, [], ◌∷◌, ◌++◌, Option, Some, None, Bool, true, false, cond, refl, sym, ap, ◌∙◌, subst, length}
+use Rattle.std.proofs.Common.{ℕ, ◌≡◌, ◌≢◌, ◌-◌, List, [], ◌∷◌, ◌++◌, Option, Some, None, Bool, true, false, cond, refl, sym, ap, ◌∙◌, subst, length, map}
 use Rattle.std.specs.Option.{option_map, option_or, unwrap_or, is_some}
 use Rattle.std.proofs.Math.ListN.{length-set}
 use Rattle.std.proofs.lemmas.List.{append-nil, map-append}
 use Rattle.farm_kinds.specs.declared.kinds.Kind.{Kind}
 use Rattle.farm_kinds.specs.declared.outcomes.Class.{Class}
+use Rattle.farm_kinds.specs.declared.outcomes.Class.TheVariants.{Low}
 use Rattle.farm_kinds.specs.declared.outcomes.Count.{Count}
 use Rattle.farm_kinds.specs.declared.outcomes.Task.{Task}
 use Rattle.farm_kinds.specs.declared.events.Event.{Event}
@@ -13,18 +14,19 @@ use Rattle.farm_kinds.specs.declared.events.Reply.{Reply}
 use Rattle.farm_kinds.specs.declared.events.Reply.TheVariants as reply
 use Rattle.farm_kinds.specs.RuleValue.{RuleValue}
 use Rattle.farm_kinds.specs.Rules.{remap_of}
-use Rattle.farm_model.specs.Numbered.{item_of}
+use Rattle.farm_model.specs.Numbered.{item_of, number_or_0}
 use Rattle.farm_model.specs.Refusing.{unless, first_of, refused_or}
 use Rattle.farm_model.specs.Leases.{same_task}
-use Rattle.farm_model.specs.Judgings.{Judging, task_of, cell_of, entry_refusal, result_refusal, fill_cell, with_result}
-use Rattle.farm_model.specs.Judge.{counted}
-use Rattle.farm_model.specs.State.{State, up_number}
+use Rattle.farm_model.specs.Judgings.{Judging, empty_judging, task_of, cell_of, entry_refusal, result_refusal, fill_cell, with_result}
+use Rattle.farm_model.specs.Rejudgings.{members_in, new_judgings}
+use Rattle.farm_model.specs.Judge.{JudgeState, add_judgings, counted}
+use Rattle.farm_model.specs.State.{State, problem_number, up_number}
 use Rattle.farm_model.specs.Refusals.{count_reply, no_host, refusal_of}
-use Rattle.farm_model.specs.Changes.{accepted, by_judge}
+use Rattle.farm_model.specs.Changes.{accepted, cells_for, cells_of, by_judge}
 use Rattle.farm_model.specs.Farm.{farm_step}
 use Rattle.farm_model.specs.Replay.{if_counted, counted_by}
-use Rattle.farm_laws.proofs.Cells.{cell_at, TellsOf, result_tells, entry_tells, count_reply_other, cell_append, or_none, cell_filled}
-use Rattle.farm_laws.proofs.Kept.{lengths_of, lengths_same, cells_same, changed_same, KeepsRows, same_rows, claim_keeps, renew_keeps}
+use Rattle.farm_laws.proofs.Cells.{cell_at, TellsOf, result_tells, entry_tells, count_reply_other, cells_append, or_none, cell_filled}
+use Rattle.farm_laws.proofs.Kept.{lengths_of, lengths_same, cells_same, changed_same, KeepsRows, same_rows, claim_keeps, renew_keeps, drops_keep}
 
 -- what one counted result gives the cell of a task
 abbrev pub one_cell : RuleValue → Option (Task × Kind) → Task → Option Kind
@@ -77,17 +79,28 @@ quiet_steps s (Some x) done a = kept_steps s (s, x) (if_counted x None) (nothing
 same_steps : (s : State) (refusal : Option Reply) (done : State × Reply) → KeepsRows s.judge done.0.judge → StepOf s None (refused_or s refusal done)
 same_steps s refusal done kept = quiet_steps s refusal done (kept_steps s done (if_counted done.1 None) (nothing_given done.1) kept)
 
+-- an event that adds judgings of the class, none of whose tests is judged
+added_steps : (s : State) (refusal : Option Reply) (done : State × Reply) (class : Class) (tests : List ℕ) → done.0.judge ≡ add_judgings s.judge class tests → StepOf s None (refused_or s refusal done)
+added_steps s refusal done class tests e =
+    quiet_steps s refusal done (record {
+      rule = ap (λ (judge : JudgeState). judge.rule) e;
+      mode = ap (λ (judge : JudgeState). judge.mode) e;
+      more = lengths_of (map (empty_judging class) tests);
+      lengths = ap (λ (judge : JudgeState). lengths_of judge.judgings) e ∙ map-append (λ (judging : Judging). length judging.row) s.judge.judgings (map (empty_judging class) tests);
+      cells = λ j t.
+          ap (λ (judge : JudgeState). cell_at judge.judgings j t) e
+          ∙ cells_append s.judge.judgings class tests j t
+          ∙ sym (ap (λ o. option_or (cell_at s.judge.judgings j t) (one_cell s.judge.rule o (task_of j t))) (nothing_given done.1) ∙ or_none (cell_at s.judge.judgings j t));
+      fresh = λ g no. let none : None ≡ Some g = sym (nothing_given done.1) ∙ no in cc;
+    })
+
 submit_steps : (s : State) (name : List ℕ) (class : Class) (broken : Bool) → StepOf s None (farm_step s (event.Submit name class broken))
 submit_steps s name class broken =
     let e = event.Submit name class broken in
-    quiet_steps s (refusal_of s e) (accepted s e) (record {
-      rule = refl;
-      mode = refl;
-      more = _;
-      lengths = map-append (λ (judging : Judging). length judging.row) s.judge.judgings _;
-      cells = λ j t. cell_append s.judge.judgings class _ j t ∙ sym (or_none (cell_at s.judge.judgings j t));
-      fresh = λ g no. cc;
-    })
+    added_steps s (refusal_of s e) (accepted s e) class (cells_for s.problems (number_or_0 (problem_number s.problems name)) broken ∷ []) refl
+
+rejudge_steps : (s : State) (who list : List ℕ) → StepOf s None (farm_step s (event.Rejudge who list))
+rejudge_steps s who list = let e = event.Rejudge who list in added_steps s (refusal_of s e) (accepted s e) Low (map (cells_of s) list) refl
 
 -- Results
 
@@ -164,3 +177,10 @@ steps s (event.Renew host j t) = quiet s (event.Renew host j t) (renew_keeps s.j
 steps s (event.Tick moment) = quiet s (event.Tick moment) (record { rule = refl; mode = refl; rows = refl })
 steps s (event.Down host) = quiet s (event.Down host) (record { rule = refl; mode = refl; rows = refl })
 steps s (event.Show j) = quiet s (event.Show j) (same_rows s.judge)
+steps s event.Board = quiet s event.Board (same_rows s.judge)
+steps s (event.Rejudge who list) = rejudge_steps s who list
+steps s (event.Matrix r) = quiet s (event.Matrix r) (same_rows s.judge)
+steps s (event.Apply who r) = quiet s (event.Apply who r) (same_rows s.judge)
+steps s (event.Cancel who r) = quiet s (event.Cancel who r) (drops_keep s.judge (new_judgings (members_in s.rejudgings r)))
+steps s (event.Verify who j) = quiet s (event.Verify who j) (same_rows s.judge)
+steps s event.Audit = quiet s event.Audit (same_rows s.judge)

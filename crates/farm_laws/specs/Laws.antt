@@ -1,5 +1,5 @@
 -- The laws of runs: each over every list of events from the empty farm.
-use Rattle.std.specs.Prelude.{◌≡◌, ◌≢◌, ◌↔◌, ℕ, ◌≤◌, List, [], ◌++◌, map, length, Option, Some, None, IsSome, IsTrue, unwrap_or, Contains, All, ⊥}
+use Rattle.std.specs.Prelude.{◌≡◌, ◌≢◌, ◌↔◌, ℕ, ◌≤◌, List, [], ◌++◌, map, length, Option, Some, None, IsSome, IsTrue, unwrap_or, Contains, All}
 use Rattle.std.specs.Option.{option_map}
 use Rattle.farm_kinds.specs.declared.outcomes.Verdict.{Verdict}
 use Rattle.farm_kinds.specs.declared.outcomes.Answer.{Answer}
