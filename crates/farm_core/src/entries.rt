@@ -3,8 +3,8 @@ ghost use Rattle.std.specs.List.{join_with_byte};
 ghost use Rattle.farm_model.specs.Chain.{audit_text};
 ghost use Rattle.farm_model.specs.Texts.{event_words};
 
-use crate::words::write_event_words;
 use audit_log::Audit;
+use command_text::write_event_words;
 use farm_kinds::{Event, Name, NoMemory, Text};
 use std::alloc::Global;
 

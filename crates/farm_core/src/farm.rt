@@ -2,6 +2,7 @@ ghost use Rattle.std.specs.Prelude.{◌≡◌, length, List};
 ghost use Rattle.farm_kinds.specs.declared.events.Event.{Event};
 ghost use Rattle.farm_model.specs.State.{SettingsValue, start, public_of};
 ghost use Rattle.farm_model.specs.Farm.{Stepped};
+ghost use Rattle.farm_laws.specs.Laws.{KeepsPromise};
 
 mod entering;
 mod judged;
@@ -64,8 +65,11 @@ impl Farm {
     }
 
     /// Answers one event. One that is refused, and one that wants memory, changes nothing.
+    ///
+    /// `promise` is the law of all runs of these steps from an empty farm.
     pub fn step(&mut self, event: &Event) -> Reply
         ensures stepped { Stepped self.old event.now self.new result }
+        ensures promise { (settings : SettingsValue) (es : List Event) → KeepsPromise settings es }
     {
         self.answer(event)
     }

@@ -10,6 +10,5 @@ mod rejudging;
 mod replies;
 #[cfg(test)]
 mod tests;
-mod words;
 
 pub use farm::Farm;
