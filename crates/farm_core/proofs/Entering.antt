@@ -1,21 +1,22 @@
 -- New versions of problems, and hosts that come and go.
-use Rattle.std.proofs.Common.{ℕ, ◌≡◌, ◌≢◌, ◌+◌, ◌-◌, ◌<◌, ◌≤◌, List, [], ◌∷◌, ◌++◌, Option, Some, None, Bool, true, false, refl, sym, ap, ◌∙◌, arith, length, get_or, set}
+use Rattle.std.proofs.Common.{ℕ, ◌≡◌, ◌≢◌, ◌+◌, ◌-◌, ◌<◌, ◌≤◌, List, [], ◌∷◌, ◌++◌, Option, Some, None, Bool, true, false, refl, sym, ap, ◌∙◌, subst, arith, length, get_or, set}
 use Rattle.std.specs.Prelude.{nat_le, IsTrue}
 use Rattle.std.specs.List.{position}
-use Rattle.std.specs.Option.{is_none}
+use Rattle.std.specs.Option.{is_none, option_map}
 use Rattle.std.specs.Str.{bytes_eq}
 use Rattle.std.proofs.lemmas.Bool.Decides.{nat_tests}
+use Rattle.farm_kinds.specs.declared.events.Event.{Event}
 use Rattle.farm_kinds.specs.declared.events.Event.TheVariants as event
 use Rattle.farm_kinds.specs.declared.events.Reply.{Reply}
 use Rattle.farm_kinds.specs.declared.events.Reply.TheVariants as reply
 use Rattle.farm_model.specs.declared.records.Problem.{Problem}
-use Rattle.farm_model.specs.Numbered.{item_of, with_item}
-use Rattle.farm_model.specs.State.{State, host_number, up_number}
-use Rattle.farm_model.specs.Refusals.{is_test_count, refusal_of}
-use Rattle.farm_model.specs.Changes.{next_version, host_as}
+use Rattle.farm_model.specs.Numbered.{item_of, with_item, with_change, change_item, number_or_0}
+use Rattle.farm_model.specs.State.{State, problem_number, host_number, up_number}
+use Rattle.farm_model.specs.Refusals.{is_test_count, refusal_of, replace_refusal, version_of}
+use Rattle.farm_model.specs.Changes.{logged, next_version, with_version, host_as}
 use Rattle.farm_model.specs.Farm.{farm_step, Stepped}
 use Rattle.judging_core.proofs.Changed.{item_there}
-use Rattle.farm_core.proofs.Submits.{stepped_by}
+use Rattle.farm_core.proofs.Stepping.{stepped_by, done}
 
 -- Versions
 
@@ -35,35 +36,35 @@ at_place xs place x lt e = let same : place + 1 - 1 ≡ place = omega arith in i
 set_place : {X : Type 0} (xs : List X) (place : ℕ) (x : X) → set xs place x ≡ with_item xs (place + 1) x
 set_place xs place x = let same : place ≡ place + 1 - 1 = omega arith in ap (λ i. set xs i x) same
 
-pub replace_full : (s : State) (name : List ℕ) (tests place : ℕ) (p : Problem)
-    → position (λ problem. bytes_eq problem.name name) s.problems ≡ Some place → place < length s.problems → p ≡ get_or s.problems place p
-    → 1 ≤ tests → tests ≤ 1000 → 1000 ≤ p.version → (who : List ℕ) → Stepped s (event.Replace who name tests) s (reply.Full 1000)
-replace_full s name tests place p found lt here low high full who =
-    let there = at_place s.problems place p lt here in
-    stepped_by s (event.Replace who name tests) s (reply.Full 1000) (λ no. cc) (rw (test_count tests low high, found, there, is_full 1000 p.version full) refl)
+-- the version of the problem at a place
+pub version_there : (problems : List Problem) (place : ℕ) (p : Problem) → place < length problems → p ≡ get_or problems place p → version_of problems (place + 1) ≡ p.version
+version_there problems place p lt here = ap (λ o. number_or_0 (option_map (λ problem. problem.version) o)) (at_place problems place p lt here)
 
-replace_step : (s : State) (who name : List ℕ) (tests place : ℕ) (p : Problem)
-    → position (λ problem. bytes_eq problem.name name) s.problems ≡ Some place → place < length s.problems → p ≡ get_or s.problems place p
-    → 1 ≤ tests → tests ≤ 1000 → p.version < 1000
-    → farm_step s (event.Replace who name tests) ≡ (record s { problems = with_item s.problems (place + 1) (next_version tests p) }, reply.Problem name (p.version + 1))
-replace_step s who name tests place p found lt here low high few =
-    let there = at_place s.problems place p lt here in
-    rw (test_count tests low high, found, there, not_full 1000 p.version few) refl
+pub refuses_version : (problems : List Problem) (name : List ℕ) (tests place : ℕ)
+    → problem_number problems name ≡ Some (place + 1) → 1 ≤ tests → tests ≤ 1000 → 1000 ≤ version_of problems (place + 1) → replace_refusal problems name tests ≡ Some (reply.Full 1000)
+refuses_version problems name tests place found low high full =
+    rw (test_count tests low high, found, is_full 1000 (version_of problems (place + 1)) full) refl
 
-pub replace_stepped : (s : State) (name : List ℕ) (tests place : ℕ) (p q : Problem) (new : State)
-    → position (λ problem. bytes_eq problem.name name) s.problems ≡ Some place → place < length s.problems → p ≡ get_or s.problems place p → q ≡ get_or s.problems place q
-    → 1 ≤ tests → tests ≤ 1000 → p.version < 1000
-    → new ≡ record s { problems = set s.problems place (record { name = q.name; version = p.version + 1; tests = tests }) }
-    → (who : List ℕ) → Stepped s (event.Replace who name tests) new (reply.Problem name (p.version + 1))
-replace_stepped s name tests place p q new found lt here again low high few e who =
-    let there = at_place s.problems place p lt here in
-    let once_more = at_place s.problems place q lt again in
-    let same : q ≡ p = let both : Some q ≡ Some p = sym once_more ∙ there in cc in
-    stepped_by s (event.Replace who name tests) new (reply.Problem name (p.version + 1)) (λ no. cc)
-    (replace_step s who name tests place p found lt here low high few
-    ∙ ap (λ (problems : List Problem). (record s { problems = problems }, reply.Problem name (p.version + 1))) (sym (set_place s.problems place (next_version tests p)))
-    ∙ ap (λ (x : Problem). (record s { problems = set s.problems place (record { name = x.name; version = p.version + 1; tests = tests }) }, reply.Problem name (p.version + 1))) (sym same)
-    ∙ ap (λ t. (t, reply.Problem name (p.version + 1))) (sym e))
+pub takes_version : (problems : List Problem) (name : List ℕ) (tests place : ℕ)
+    → problem_number problems name ≡ Some (place + 1) → 1 ≤ tests → tests ≤ 1000 → version_of problems (place + 1) < 1000 → replace_refusal problems name tests ≡ None
+takes_version problems name tests place found low high few =
+    rw (test_count tests low high, found, not_full 1000 (version_of problems (place + 1)) few) refl
+
+pub version_written : (s : State) (e : Event) (who name : List ℕ) (tests place : ℕ) (p : Problem) (new : State) → e ≡ event.Replace who name tests
+    → replace_refusal s.problems name tests ≡ None → problem_number s.problems name ≡ Some (place + 1) → place < length s.problems → p ≡ get_or s.problems place p
+    → new ≡ logged (record s { problems = set s.problems place (next_version tests p) }) e → Stepped s e new (reply.Problem name (p.version + 1))
+version_written s e who name tests place p new is let_in found lt here change =
+    let asked = event.Replace who name tests in
+    let changes : with_change s.problems (place + 1) (next_version tests) ≡ set s.problems place (next_version tests p)
+    = ap (change_item s.problems (place + 1) (next_version tests)) (at_place s.problems place p lt here) ∙ sym (set_place s.problems place (next_version tests p)) in
+    subst (λ (f : Event). Stepped s f new (reply.Problem name (p.version + 1))) (sym is)
+    (done s asked new (reply.Problem name (p.version + 1)) let_in
+    (ap (λ o. (logged (with_version s (number_or_0 o) tests) asked, reply.Problem name (version_of s.problems (number_or_0 o) + 1))) found
+    ∙ ap (λ (problems : List Problem). (logged (record s { problems = problems }) asked, reply.Problem name (version_of s.problems (place + 1) + 1))) changes
+    ∙ ap (λ v. (logged (record s { problems = set s.problems place (next_version tests p) }) asked, reply.Problem name (v + 1))) (version_there s.problems place p lt here)
+    ∙ ap (λ f. (logged (record s { problems = set s.problems place (next_version tests p) }) f, reply.Problem name (p.version + 1))) (sym is)
+    ∙ ap (λ t. (t, reply.Problem name (p.version + 1))) (sym change))
+    (λ no. cc))
 
 -- Hosts
 

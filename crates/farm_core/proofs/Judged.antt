@@ -17,7 +17,7 @@ use Rattle.farm_model.specs.State.{State, up_number}
 use Rattle.farm_model.specs.Refusals.{claim_reply, count_reply}
 use Rattle.farm_model.specs.Changes.{by_judge}
 use Rattle.farm_model.specs.Farm.{farm_step, Stepped}
-use Rattle.farm_core.proofs.Submits.{stepped_by}
+use Rattle.farm_core.proofs.Stepping.{stepped_by}
 
 -- what the judge refuses is refused, and changes nothing
 judged : {R : Type 0} (s : State) (replied : R → Reply) (r : Option R) (done : JudgeState × R)

@@ -1,3 +1,7 @@
+pub mod Numbering
+pub mod Stepping
 pub mod Submits
 pub mod Judged
 pub mod Entering
+pub mod Keeping
+pub mod Refusing

@@ -11,6 +11,7 @@ use Rattle.farm_kinds.specs.declared.events.Reply.TheVariants as reply
 use Rattle.farm_model.specs.State.{State}
 use Rattle.farm_model.specs.Changes.{submitted}
 use Rattle.farm_model.specs.Farm.{farm_step, Stepped}
+use Rattle.farm_core.proofs.Stepping.{stepped_by}
 
 below_full : (limit n : ℕ) → n < limit → nat_le limit n ≡ false
 below_full limit n h = grind (arith, nat_tests)
@@ -21,15 +22,6 @@ submit_step : (s : State) (name : List ℕ) (class : Class) (broken : Bool) (pla
     → farm_step s (event.Submit name class broken) ≡ (submitted s (place + 1) class broken, reply.Submitted (length s.submissions + 1) (length s.judge.judgings + 1))
 submit_step s name class broken place found few room =
     rw (found, below_full 100000 (length s.submissions) few, below_full 400000 (length s.judge.judgings) room) refl
-
--- an event that is not answered want of memory
-pub stepped_by : (old : State) (e : _) (new : State) (r : Reply) → r ≢ reply.NoMemory → farm_step old e ≡ (new, r) → Stepped old e new r
-stepped_by old e new r other step = record {
-  wanted = λ no. absurd (other no);
-  kept = λ no. absurd (other no);
-  state = λ _. sym (ap (λ p. p.0) step);
-  answer = λ _. sym (ap (λ p. p.1) step);
-}
 
 pub submit_stepped : (s : State) (name : List ℕ) (class : Class) (broken : Bool) (place : ℕ) (new : State) (n j : ℕ)
     → position (λ problem. bytes_eq problem.name name) s.problems ≡ Some place

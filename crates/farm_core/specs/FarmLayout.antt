@@ -1,7 +1,7 @@
--- How a farm lies in memory. There are no rejudgings and no audit texts.
-use Rattle.std.specs.Prelude.{◌≡◌, ◌≤◌, [], length}
+-- How a farm lies in memory.
+use Rattle.std.specs.Prelude.{◌≡◌, ◌≤◌, length}
 use Rattle.farm_model.specs.State.{State}
-use Rattle.farm_core.specs.FarmShape.{AreShort}
+use Rattle.farm_core.specs.FarmShape.{AreShort, AreKept}
 use Rattle.farm_core.specs.declared.farm.Farm.TheInside.{Inside}
 
 abbrev pub farm_value : Inside → State
@@ -12,8 +12,8 @@ farm_value a = record {
   hosts = a.hosts.items;
   submissions = a.submissions.items;
   filings = a.filings.items;
-  rejudgings = [];
-  texts = [];
+  rejudgings = a.book.rejudgings;
+  texts = a.audit.texts;
 }
 
 pub record IsFarmLayout (a : Inside) : Type 0 where
@@ -23,3 +23,8 @@ pub record IsFarmLayout (a : Inside) : Type 0 where
   pub hosts : length a.hosts.items ≡ a.judge.hosts
   pub few_hosts : length a.hosts.items ≤ 1000
   pub submissions : length a.submissions.items ≤ 100000
+  -- so does the book of rejudgings
+  pub booked : a.book.submissions ≡ length a.submissions.items
+  pub rejudgings : AreKept (length a.submissions.items) (length a.judge.state.judgings) a.book.rejudgings
+  -- so that its length is a number of a reply
+  pub entries : length a.audit.texts ≤ 4294967295

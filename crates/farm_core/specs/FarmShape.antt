@@ -1,7 +1,62 @@
--- What is true of the problems that a farm keeps.
-use Rattle.std.specs.Prelude.{◌≤◌, List, All}
+-- What is true of the problems and of the rejudgings that a farm keeps, and the refusals of a list.
+use Rattle.std.specs.Prelude.{◌≡◌, ◌≢◌, ℕ, ◌+◌, ◌≤◌, ◌==◌, List, [], ◌∷◌, length, All, Option, nat_lt}
+use Rattle.farm_kinds.specs.declared.events.Reply.{Reply}
+use Rattle.farm_kinds.specs.declared.events.Reply.TheVariants as reply
+use Rattle.farm_model.specs.declared.records.Member.{Member}
 use Rattle.farm_model.specs.declared.records.Problem.{Problem}
+use Rattle.farm_model.specs.declared.records.Rejudging.{Rejudging}
+use Rattle.farm_model.specs.Refusing.{when, first_of}
+use Rattle.farm_model.specs.Refusals.{is_full, is_submission, has_final, refuse_first}
+use Rattle.farm_model.specs.State.{State}
+use Rattle.rejudge_book.specs.declared.faults.BookFault.{BookFault}
+use Rattle.rejudge_book.specs.declared.faults.BookFault.TheVariants as fault
 
 -- no problem has more than 1,000 tests
 abbrev pub AreShort : List Problem → Type 0
 AreShort problems = All (λ problem. problem.tests ≤ 1000) problems
+
+-- Rejudgings
+
+-- the member's submission is one of so many
+pub record HasSubmission (submissions : ℕ) (member : Member) : Type 0 where
+  pub numbered : 1 ≤ member.submission
+  pub within : member.submission ≤ submissions
+
+-- the member's new judging is one of so many
+pub record HasJudging (judgings : ℕ) (member : Member) : Type 0 where
+  pub numbered : 1 ≤ member.new
+  pub within : member.new ≤ judgings
+
+-- its submissions and its new judgings are there
+pub record IsKept (submissions judgings : ℕ) (rejudging : Rejudging) : Type 0 where
+  pub known : All (HasSubmission submissions) rejudging.members
+  pub judged : All (HasJudging judgings) rejudging.members
+  pub few : length rejudging.members ≤ 400000
+
+abbrev pub AreKept : ℕ → ℕ → List Rejudging → Type 0
+AreKept submissions judgings rejudgings = All (IsKept submissions judgings) rejudgings
+
+-- Replies
+
+-- memory was not wanting
+abbrev pub IsAnswer : Reply → Type 0
+IsAnswer r = r ≢ reply.NoMemory
+
+-- the refusals of a list but for those of submissions that stand in it twice or are busy
+abbrev pub list_refusals : State → List ℕ → List (Option Reply)
+list_refusals s list =
+    when (length list == 0) reply.EmptySet
+    ∷ refuse_first (is_submission s) reply.NoSubmission list
+    ∷ refuse_first (has_final s) reply.NotFinal list
+    ∷ when (is_full s.rejudgings 10000) (reply.Full 10000)
+    ∷ when (nat_lt 400000 (length s.judge.judgings + length list)) (reply.Full 400000) ∷ []
+
+abbrev pub list_refusal : State → List ℕ → Option Reply
+list_refusal s list = first_of (list_refusals s list)
+
+-- why a rejudging is not prepared, as a reply
+abbrev pub fault_reply : BookFault → Reply
+fault_reply fault.EmptySet = reply.EmptySet
+fault_reply (fault.Twice submission) = reply.Twice submission
+fault_reply (fault.Busy submission rejudging) = reply.Busy submission rejudging
+fault_reply fault.NoMemory = reply.NoMemory

@@ -1,6 +1,14 @@
-//! The farm: problems, submissions and their judgings, and the answer to each event.
+//! The farm: problems, submissions, their judgings and rejudgings, the audit log, and the answer to each
+//! event.
 #![tactic(auto)]
 
+mod entries;
 mod farm;
+mod lists;
+mod places;
+mod rejudging;
+mod replies;
+#[cfg(test)]
+mod tests;
 
 pub use farm::Farm;
