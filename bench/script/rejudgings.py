@@ -193,13 +193,13 @@ def least(program, source, runs=5):
 
 def audit_costs(program):
     """What an `audit` line costs behind logs of several lengths."""
-    asked, sound = 100_000, True
+    asked, sound = 1_000_000, True
     for entries in [1_000, 10_000, 100_000, 1_000_000]:
         problems = (entries + 999) // 1000
         log = [f"problem p{number} 1" for number in range(problems)]
         log += [f"replace p{at % problems} {at % 1000 + 1}" for at in range(entries - problems)]
-        without, first = least(program, write(f"log {entries}", log), 3)
-        behind, second = least(program, write(f"audit {entries}", log + ["audit"] * asked), 3)
+        without, first = least(program, write(f"log {entries}", log))
+        behind, second = least(program, write(f"audit {entries}", log + ["audit"] * asked))
         print(
             f"audit behind {entries:,} entries: {(behind - without) / asked * 1e9:,.0f} ns of the processor a line;"
             f" an entry cost {without / entries * 1e9:,.0f} ns"

@@ -21,8 +21,16 @@ Reads event lines from standard input and writes a reply to each:
   tick N                         time goes on to moment N, in seconds
   down HOST                      the host goes down
   show J                         what is reported of judging J
-Empty lines, and lines whose first word begins with #, have no reply.
-FILE holds settings in JSON: priorities, remapping, lazy evaluation, leases.
+  board                          what the public sees of each submission
+  rejudge S,S,..                 has submissions judged anew, out of sight
+  matrix R                       old and new answers of rejudging R
+  apply R, cancel R              makes its judgings the current ones; drops them
+  verify J                       lets the public see judging J
+  audit                          the audit log's length and last digest
+problem, replace, rejudge, apply, cancel and verify may begin with @NAME, which
+says who acts. Empty lines, and lines whose first word begins with #, have no
+reply. FILE holds settings in JSON: priorities, remapping, lazy evaluation,
+leases, verification.
 
 Status: 0 done, 2 usage, 3 bad settings, 4 read fault, 5 write fault,
 6 no memory, 7 file fault, 9 input limit.
@@ -40,8 +48,9 @@ fn main(rt: HostRuntime) -> ExitCode {
 fn run(rt: &HostRuntime) -> Exit {
     let alloc = rt.alloc();
     let mut words = Vec::new(alloc);
-    let Ok(args) = env::args(rt) else {
-        return Exit::Usage;
+    let args = match env::args(rt) {
+        Ok(args) => args,
+        Err(fault) => return unread_words(&fault),
     };
     for word in args {
         if words.push(word).is_err() {
@@ -52,4 +61,13 @@ fn run(rt: &HostRuntime) -> Exit {
     let mut out = WriteSink::new(io::writer(rt));
     let mut tree = DiskTree::new(rt, alloc);
     farm_main(alloc, words.as_slice(), &mut tree, &mut input, &mut out)
+}
+
+/// How the program ends where its words cannot be read: no memory was left for them, or one is no UTF-8.
+fn unread_words(fault: &io::Error) -> Exit {
+    if fault.kind() == io::ErrorKind::OutOfMemory {
+        Exit::Memory
+    } else {
+        Exit::Usage
+    }
 }
