@@ -40,9 +40,9 @@ all_known s [] none = All-nil (IsKnown (length s.submissions))
 all_known s (n ∷ list) none =
     let both : (is_submission s n ≡ true) × (find (λ m. not (is_submission s m)) list ≡ None)
     = elim (is_submission s n) as (λ t. cond (not t) (Some n) (find (λ m. not (is_submission s m)) list) ≡ None → (t ≡ true) × (find (λ m. not (is_submission s m)) list ≡ None)) [
-        | true ↦ λ h. (refl, h)
-        | false ↦ λ h. cc
-      ] none in
+      | true ↦ λ h. (refl, h)
+      | false ↦ λ h. cc
+    ] none in
     All-cons (IsKnown (length s.submissions)) n list (known_item s.submissions n (item_of s.submissions n) refl both.0) (all_known s list both.1)
 
 -- The order of the refusals
@@ -94,9 +94,9 @@ no_want : (rs : List Rejudging) (list : List ℕ) → reserve_refusal rs list �
 no_want rs list =
     elim (first_twice list) as (λ o. first_of (option_map fault.Twice o ∷ busy_refusal rs list ∷ []) ≢ Some fault.NoMemory) [
       | None ↦ elim (busy_refusal rs list) as (λ o. o ≢ Some fault.NoMemory → first_of (None ∷ o ∷ []) ≢ Some fault.NoMemory) [
-          | None ↦ λ h e. cc
-          | Some f ↦ λ h. h
-        ] (no_want_busy rs list)
+        | None ↦ λ h e. cc
+        | Some f ↦ λ h. h
+      ] (no_want_busy rs list)
       | Some n ↦ λ e. cc
     ]
 
@@ -118,11 +118,11 @@ faulted_by s who list new f None refusal other cause same =
     subst (λ (g : BookFault). Stepped s (event.Rejudge who list) new (fault_reply g)) (sym cause.0) (wanting s (event.Rejudge who list) new refusal (search rules) same)
 faulted_by s who list new f (Some g) refusal other cause same =
     let answers : fault_reply g ≢ reply.NoMemory = elim g as (λ x. Some x ≢ Some fault.NoMemory → fault_reply x ≢ reply.NoMemory) [
-        | fault.EmptySet ↦ λ h e. cc
-        | fault.Twice n ↦ λ h e. cc
-        | fault.Busy n r ↦ λ h e. cc
-        | fault.NoMemory ↦ λ h e. h refl
-      ] other in
+      | fault.EmptySet ↦ λ h e. cc
+      | fault.Twice n ↦ λ h e. cc
+      | fault.Busy n r ↦ λ h e. cc
+      | fault.NoMemory ↦ λ h e. h refl
+    ] other in
     subst (λ (x : BookFault). Stepped s (event.Rejudge who list) new (fault_reply x)) (sym cause)
     (subst (λ (t : State). Stepped s (event.Rejudge who list) t (fault_reply g)) (sym same) (refused s (event.Rejudge who list) (fault_reply g) refusal answers))
 

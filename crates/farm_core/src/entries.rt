@@ -3,15 +3,11 @@ ghost use Rattle.std.specs.List.{join_with_byte};
 ghost use Rattle.farm_model.specs.Chain.{audit_text};
 ghost use Rattle.farm_model.specs.Texts.{event_words};
 
+use crate::limits::{MAX_ENTRIES, MAX_WORDS};
 use audit_log::Audit;
 use command_text::write_event_words;
 use farm_kinds::{Event, Name, NoMemory, Text};
 use std::alloc::Global;
-
-/// The most entries that the audit log may have.
-const MAX_ENTRIES: usize = 4_294_967_295;
-/// The most bytes that the words of an entry may have.
-const MAX_WORDS: usize = 4_294_967_000;
 
 /// Writes the words of an event of the jury, and makes room for its entry.
 pub fn make_entry(

@@ -4,10 +4,13 @@ ghost use Rattle.farm_model.specs.State.{SettingsValue, start, public_of};
 ghost use Rattle.farm_model.specs.Farm.{Stepped};
 ghost use Rattle.farm_laws.specs.Laws.{KeepsPromise};
 
-mod entering;
+mod hosts;
 mod judged;
+mod problems;
 mod reading;
 mod rejudgings;
+mod submissions;
+mod verifying;
 
 use crate::places::submission_at;
 use audit_log::Audit;

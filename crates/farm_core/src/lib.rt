@@ -2,11 +2,12 @@
 //! event.
 #![tactic(auto)]
 
+mod book;
 mod entries;
 mod farm;
+mod limits;
 mod lists;
 mod places;
-mod rejudging;
 mod replies;
 #[cfg(test)]
 mod tests;

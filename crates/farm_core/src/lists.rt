@@ -1,15 +1,76 @@
-ghost use Rattle.std.specs.Prelude.{◌≡◌, ◌+◌, ◌++◌, ◌<◌, ◌≤◌, All, IsTrue, fold, length, vec_len, vec_capacity};
+ghost use Rattle.std.specs.Prelude.{◌≡◌, ◌+◌, ◌++◌, ◌<◌, ◌≤◌, All, IfOk, IsTrue, fold, length, map, vec_len, vec_capacity};
 ghost use Rattle.farm_kinds.specs.declared.outcomes.Class.TheVariants.{Low};
 ghost use Rattle.farm_model.specs.Judge.{add_judgings, drop_judging};
-ghost use Rattle.farm_model.specs.Numbered.{with_change};
+ghost use Rattle.farm_model.specs.Numbered.{item_of};
 ghost use Rattle.farm_model.specs.Rejudgings.{new_judgings};
-ghost use Rattle.farm_model.specs.Changes.{filings_for, mark_verified, with_current};
+ghost use Rattle.farm_model.specs.State.{current_of};
+ghost use Rattle.farm_model.specs.Changes.{cells_of_item, filings_for, with_current};
 ghost use Rattle.judging_core.specs.JudgeValue.{in_state, starts_with, with_judging};
-ghost use Rattle.farm_core.specs.FarmShape.{HasJudging, HasSubmission};
+ghost use Rattle.farm_core.specs.FarmShape.{AreShort, HasJudging, HasSubmission};
 
-use farm_kinds::{Class, NoMemory};
-use farm_model::{Filing, Member, Submission};
+use crate::places::{cells_for, submission_at};
+use farm_kinds::{Class, NoMemory, Numbers};
+use farm_model::{Filing, Member, Problem, Submission};
 use judging_core::Judge;
+use std::alloc::Global;
+
+/// The current judging of each submission of the list.
+pub fn currents_of(
+    alloc: Global,
+    submissions: &[Submission],
+    list: &[u32],
+) -> Result<Vec<u32>, NoMemory>
+    ensures { IfOk result (λ olds. olds.items ≡ map (current_of submissions.now) list.now) }
+{
+    let mut olds = Vec::new(alloc);
+    olds.reserve(list.len())?;
+    for submission in list {
+        olds.push_reserved(current_of(submissions, *submission));
+    }
+    Ok(olds)
+}
+
+/// The current judging of a submission, or 0 where no submission has the number.
+fn current_of(submissions: &[Submission], submission: u32) -> u32
+    ensures { result ≡ current_of submissions.now submission }
+{
+    match submission_at(submissions, submission) {
+        Some(submission) => submission.current,
+        None => 0,
+    }
+}
+
+/// How many cells a new judging of each submission of the list has.
+pub fn cells_of(
+    alloc: Global,
+    problems: &[Problem],
+    submissions: &[Submission],
+    list: &[u32],
+) -> Result<Numbers, NoMemory>
+    requires { AreShort problems.now }
+    ensures cells { IfOk result (λ tests. tests ≡ map (λ n. cells_of_item problems.now (item_of submissions.now n)) list.now) }
+    ensures count { IfOk result (λ tests. length tests ≡ length list.now) }
+    ensures short { IfOk result (λ tests. All (λ n. n ≤ 1000) tests) }
+{
+    let mut tests = Vec::new(alloc);
+    tests.reserve(list.len())?;
+    for submission in list {
+        tests.push_reserved(cells_of_one(problems, submissions, *submission));
+    }
+    Ok(Numbers::from_vec(tests))
+}
+
+/// How many cells a new judging of the submission has.
+fn cells_of_one(problems: &[Problem], submissions: &[Submission], submission: u32) -> u32
+    requires { AreShort problems.now }
+    ensures cells { result ≡ cells_of_item problems.now (item_of submissions.now submission) }
+    ensures short { result ≤ 1000 }
+{
+    match submission_at(submissions, submission) {
+        Some(submission) => cells_for(problems, submission.problem, submission.broken) as u32,
+        None => 0,
+    }
+}
 
 /// Adds a judging for each of these numbers of tests, for which there is room.
 pub fn add_judgings(judge: &mut Judge, tests: &[u32])
@@ -52,16 +113,6 @@ pub fn file_judgings(filings: &mut Vec<Filing>, rejudging: u32, list: &[u32])
             verified: false,
         });
     }
-}
-
-/// Marks a judging as verified.
-pub fn mark_verified(filings: &mut [Filing], judging: u32)
-    ensures { filings.new ≡ with_change filings.old judging mark_verified }
-{
-    if judging == 0 || judging as usize > filings.len() {
-        return;
-    }
-    filings[judging as usize - 1].verified = true;
 }
 
 /// Makes the new judging of each member the current one of its submission.

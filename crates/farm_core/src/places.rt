@@ -1,13 +1,12 @@
-ghost use Rattle.std.specs.Prelude.{◌≡◌, ◌+◌, ◌<◌, ◌≤◌, ◌&&◌, length, position, IfSome, OnOk, OnErr, option_copied, None, true};
+ghost use Rattle.std.specs.Prelude.{◌≡◌, ◌<◌, ◌≤◌, ◌&&◌, length, position, IfSome, option_copied};
 ghost use Rattle.std.specs.Str.{bytes_eq};
-ghost use Rattle.farm_model.specs.Numbered.{item_of};
+ghost use Rattle.farm_model.specs.Numbered.{item_of, with_change};
 ghost use Rattle.farm_model.specs.State.{is_verified};
-ghost use Rattle.farm_model.specs.Changes.{cells_for};
+ghost use Rattle.farm_model.specs.Changes.{cells_for, mark_verified};
 ghost use Rattle.farm_core.specs.FarmShape.{AreShort};
 
-use farm_kinds::{Name, NoMemory};
+use farm_kinds::Name;
 use farm_model::{Filing, Host, Problem, Submission};
-use rejudge_book::RejudgeBook;
 
 /// Where the problem of this name stands.
 pub fn place_of(problems: &[Problem], name: &Name) -> Option<usize>
@@ -73,6 +72,16 @@ fn filing_at(filings: &[Filing], number: u32) -> Option<&Filing>
     filings.get(number as usize - 1)
 }
 
+/// Marks a judging as verified.
+pub fn mark_verified(filings: &mut [Filing], judging: u32)
+    ensures { filings.new ≡ with_change filings.old judging mark_verified }
+{
+    if judging == 0 || judging as usize > filings.len() {
+        return;
+    }
+    filings[judging as usize - 1].verified = true;
+}
+
 /// How many cells a judging of the problem has.
 pub fn cells_for(problems: &[Problem], problem: u32, broken: bool) -> u16
     ensures cells { result ≡ cells_for problems.now problem broken }
@@ -84,30 +93,5 @@ pub fn cells_for(problems: &[Problem], problem: u32, broken: bool) -> u16
     match problem_at(problems, problem) {
         Some(problem) => problem.tests,
         None => 0,
-    }
-}
-
-/// Makes room for one more submission of the rejudge book.
-pub fn make_place(book: &mut RejudgeBook) -> Result<(), NoMemory>
-    ensures room { OnOk result (1 ≤ book.new.spare) }
-    ensures submissions { book.new.submissions ≡ book.old.submissions }
-    ensures rejudgings { book.new.rejudgings ≡ book.old.rejudgings }
-{
-    match book.reserve(&[]) {
-        Ok(()) => Ok(()),
-        Err(_) => Err(NoMemory),
-    }
-}
-
-/// Adds a submission to the rejudge book, for which there is room.
-pub fn add_place(book: &mut RejudgeBook)
-    requires { 1 ≤ book.old.spare }
-    ensures submissions { book.new.submissions ≡ book.old.submissions + 1 }
-    ensures rejudgings { book.new.rejudgings ≡ book.old.rejudgings }
-{
-    match book.add_submission() {
-        Ok(()) => {}
-        // There is room for it.
-        Err(NoMemory) => {}
     }
 }

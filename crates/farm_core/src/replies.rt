@@ -3,11 +3,9 @@ ghost use Rattle.farm_kinds.specs.declared.events.Reply.TheVariants as reply;
 ghost use Rattle.farm_model.specs.Refusals.{claim_reply, count_reply, renewed_reply};
 ghost use Rattle.farm_core.specs.FarmShape.{fault_reply};
 
+use crate::limits::MAX_HELD;
 use farm_kinds::{Claim, Count, Renewed, Reply};
 use rejudge_book::BookFault;
-
-/// The most leases that a host may hold.
-const MAX_HELD: u32 = 64;
 
 /// What becomes of a result, as a reply.
 pub fn count_reply(judging: u32, test: u32, count: Count) -> Reply

@@ -6,6 +6,7 @@ use std::alloc::Global;
 use std::test::Fail;
 
 const CORRECT: Answer = Answer::Final(Verdict::Tests(Kind::Correct));
+
 const WRONG_ANSWER: Answer = Answer::Final(Verdict::Tests(Kind::WrongAnswer));
 
 /// A line, and what it is answered.
@@ -64,10 +65,7 @@ const REFUSALS: [Line; 41] = [
     ("apply 1", "applied 1"),
     ("apply 1", "closed applied"),
     ("cancel 1", "closed applied"),
-    (
-        "board",
-        "1 wrong-answer\n2 correct\n3 pending\nboard 3",
-    ),
+    ("board", "1 wrong-answer\n2 correct\n3 pending\nboard 3"),
     ("host h", "host h"),
     ("rejudge 2", "rejudging 2 judgings 5 to 5"),
     ("claim h", "task 3 1 until 60"),
@@ -77,10 +75,7 @@ const REFUSALS: [Line; 41] = [
     ("result h 5 1 correct", "no-host h"),
     ("verify 5", "dropped"),
     ("apply 2", "closed cancelled"),
-    (
-        "board",
-        "1 wrong-answer\n2 correct\n3 pending\nboard 3",
-    ),
+    ("board", "1 wrong-answer\n2 correct\n3 pending\nboard 3"),
     ("matrix 1", "correct wrong-answer 1\nmatrix 1"),
 ];
 
@@ -315,7 +310,10 @@ fn no_more_than_400_000_judgings(rt: HostRuntime) -> Result<(), Fail> {
     let reply = answer(rt.alloc(), &mut farm, "rejudge 1")?;
     assert_eq!(rt; reply.as_slice(), b"busy 1 39".as_slice());
     let reply = answer(rt.alloc(), &mut farm, "rejudge 10000")?;
-    assert_eq!(rt; reply.as_slice(), b"rejudging 40 judgings 400000 to 400000".as_slice());
+    assert_eq!(rt;
+        reply.as_slice(),
+        b"rejudging 40 judgings 400000 to 400000".as_slice()
+    );
     let reply = answer(rt.alloc(), &mut farm, "submit jury")?;
     assert_eq!(rt; reply.as_slice(), b"full 400000".as_slice());
     Ok(())

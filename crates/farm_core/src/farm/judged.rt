@@ -6,7 +6,7 @@ use crate::replies::{claim_reply, count_reply, renewed_reply};
 use farm_kinds::{Kind, Name, Reply};
 
 impl Farm {
-    pub fn claim(&mut self, host: Name) -> Reply
+    pub(super) fn claim(&mut self, host: Name) -> Reply
         ensures { Stepped self.old (events.Claim host) self.new result }
     {
         match self.up_number(&host) {
@@ -15,7 +15,7 @@ impl Farm {
         }
     }
 
-    pub fn result(&mut self, host: Name, judging: u32, test: u32, kind: Kind) -> Reply
+    pub(super) fn result(&mut self, host: Name, judging: u32, test: u32, kind: Kind) -> Reply
         ensures { Stepped self.old (events.Result host judging test kind) self.new result }
     {
         match self.up_number(&host) {
@@ -24,13 +24,13 @@ impl Farm {
         }
     }
 
-    pub fn enter(&mut self, judging: u32, test: u32, kind: Kind) -> Reply
+    pub(super) fn enter(&mut self, judging: u32, test: u32, kind: Kind) -> Reply
         ensures { Stepped self.old (events.Entry judging test kind) self.new result }
     {
         count_reply(judging, test, self.judge.enter(judging, test, kind))
     }
 
-    pub fn renew(&mut self, host: Name, judging: u32, test: u32) -> Reply
+    pub(super) fn renew(&mut self, host: Name, judging: u32, test: u32) -> Reply
         ensures { Stepped self.old (events.Renew host judging test) self.new result }
     {
         match self.up_number(&host) {
@@ -39,7 +39,7 @@ impl Farm {
         }
     }
 
-    pub fn tick(&mut self, moment: u64) -> Reply
+    pub(super) fn tick(&mut self, moment: u64) -> Reply
         ensures { Stepped self.old (events.Tick moment) self.new result }
     {
         Reply::Ended {

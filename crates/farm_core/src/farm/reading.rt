@@ -1,19 +1,14 @@
-ghost use Rattle.std.specs.Prelude.{◌≡◌, IfOk, IfSome, OnOk, OnErr};
+ghost use Rattle.std.specs.Prelude.{◌≡◌, IfOk};
 ghost use Rattle.farm_kinds.specs.declared.events.Event.TheVariants as events;
-ghost use Rattle.farm_model.specs.State.{answer_at, is_withheld, public_answer, public_answers};
-ghost use Rattle.farm_model.specs.Refusals.{verify_refusal};
-ghost use Rattle.farm_model.specs.Changes.{logged, verified};
+ghost use Rattle.farm_model.specs.State.{answer_at, public_answer, public_answers};
 ghost use Rattle.farm_model.specs.Farm.{Stepped};
-ghost use Rattle.farm_core.specs.FarmShape.{IsAnswer};
 
 use super::Farm;
-use crate::entries::{add_entry, make_entry};
-use crate::lists::mark_verified;
 use crate::places::is_verified;
-use farm_kinds::{Answer, Answers, Event, Name, NoMemory, Reply};
+use farm_kinds::{Answer, Answers, NoMemory, Reply};
 
 impl Farm {
-    pub fn show(&self, judging: u32) -> Reply
+    pub(super) fn show(&self, judging: u32) -> Reply
         ensures { Stepped self.now (events.Show judging) self.now result }
     {
         match self.judge.answer(judging) {
@@ -22,7 +17,7 @@ impl Farm {
         }
     }
 
-    pub fn board(&self) -> Reply
+    pub(super) fn board(&self) -> Reply
         ensures { Stepped self.now events.Board self.now result }
     {
         match self.public_answers() {
@@ -44,7 +39,7 @@ impl Farm {
     }
 
     /// What the public sees of a current judging.
-    pub fn public_answer(&self, judging: u32) -> Answer
+    pub(super) fn public_answer(&self, judging: u32) -> Answer
         ensures { result ≡ public_answer self.now judging }
     {
         if self.verification && !is_verified(&self.filings, judging) {
@@ -54,59 +49,14 @@ impl Farm {
     }
 
     /// What the jury sees of a judging. Pending where no judging has the number.
-    pub fn answer_at(&self, judging: u32) -> Answer
+    pub(super) fn answer_at(&self, judging: u32) -> Answer
         ensures { result ≡ answer_at self.now judging }
     {
         self.judge.answer(judging).unwrap_or(Answer::Pending)
     }
 
-    pub fn verify(&mut self, event: &Event, who: &Name, judging: u32) -> Reply
-        requires { event.now ≡ events.Verify who.now judging }
-        ensures { Stepped self.old event.now self.new result }
-    {
-        if let Some(refusal) = self.verify_refusal(judging) {
-            return refusal;
-        }
-        match self.mark_verified(event, who, judging) {
-            Ok(()) => Reply::Verified { judging },
-            Err(NoMemory) => Reply::NoMemory,
-        }
-    }
-
-    /// Why the judging is not verified.
-    fn verify_refusal(&self, judging: u32) -> Option<Reply>
-        ensures refusal { result ≡ verify_refusal self.now judging }
-        ensures answers { IfSome result IsAnswer }
-    {
-        let Some(answer) = self.judge.answer(judging) else {
-            return Some(Reply::NoJudging { judging });
-        };
-        if self.judge.dropped(judging) {
-            return Some(Reply::Dropped);
-        }
-        if answer == Answer::Pending {
-            return Some(Reply::NotFinal { number: judging });
-        }
-        if is_verified(&self.filings, judging) {
-            return Some(Reply::Already { judging });
-        }
-        None
-    }
-
-    /// Marks a judging as verified, and adds the entry of its event.
-    fn mark_verified(&mut self, event: &Event, who: &Name, judging: u32) -> Result<(), NoMemory>
-        requires { event.now ≡ events.Verify who.now judging }
-        ensures done { OnOk result (self.new ≡ logged (verified self.old judging) event.now) }
-        ensures unchanged { OnErr result (self.new ≡ self.old) }
-    {
-        let words = make_entry(&mut self.audit, self.alloc, who, event)?;
-        mark_verified(&mut self.filings, judging);
-        add_entry(&mut self.audit, who, &words);
-        Ok(())
-    }
-
     /// How many entries the audit log has, and its last digest.
-    pub fn audit_head(&self) -> Reply
+    pub(super) fn audit_head(&self) -> Reply
         ensures { Stepped self.now events.Audit self.now result }
     {
         Reply::Audit {

@@ -9,22 +9,20 @@ ghost use Rattle.rejudge_book.specs.Refusals.{AreKnown, IsFault, reserve_refusal
 ghost use Rattle.farm_core.specs.FarmShape.{IsAnswer, list_refusal};
 
 use super::Farm;
+use crate::book::{add_rejudging, close, members_in};
 use crate::entries::{add_entry, make_entry};
-use crate::lists::{add_judgings, drop_judgings, file_judgings, make_current};
+use crate::limits::{MAX_JUDGINGS, MAX_REJUDGINGS};
+use crate::lists::{
+    add_judgings, cells_of, currents_of, drop_judgings, file_judgings, make_current,
+};
 use crate::places::submission_at;
-use crate::rejudging::{add_rejudging, cells_of, close, currents_of, members_in};
 use crate::replies::fault_reply;
 use farm_kinds::{Answer, Event, How, Name, NoMemory, Numbers, Reply};
 use farm_model::{Member, RejudgeState};
 use rejudge_book::{BookFault, matrix};
 
-/// The most rejudgings there may be.
-const MAX_REJUDGINGS: u32 = 10_000;
-/// The most judgings there may be.
-const MAX_JUDGINGS: u32 = 400_000;
-
 impl Farm {
-    pub fn rejudge(&mut self, event: &Event, who: &Name, list: &Numbers) -> Reply
+    pub(super) fn rejudge(&mut self, event: &Event, who: &Name, list: &Numbers) -> Reply
         requires { event.now ≡ events.Rejudge who.now list.now }
         ensures { Stepped self.old event.now self.new result }
     {
@@ -132,15 +130,16 @@ impl Farm {
         ensures unchanged { OnErr result (self.new ≡ self.old) }
     {
         self.book.reserve(list)?;
-        let words = make_entry(&mut self.audit, self.alloc, who, event)
-            .map_err(|_| BookFault::NoMemory)?;
-        let olds = currents_of(self.alloc, &self.submissions, list)
-            .map_err(|_| BookFault::NoMemory)?;
-        let tests = cells_of(self.alloc, &self.problems, &self.submissions, list)
-            .map_err(|_| BookFault::NoMemory)?;
-        self.judge
-            .reserve(&tests)
-            .map_err(|_| BookFault::NoMemory)?;
+        let words = make_entry(&mut self.audit, self.alloc, who, event).map_err(
+            |_| BookFault::NoMemory,
+        )?;
+        let olds = currents_of(self.alloc, &self.submissions, list).map_err(
+            |_| BookFault::NoMemory,
+        )?;
+        let tests = cells_of(self.alloc, &self.problems, &self.submissions, list).map_err(
+            |_| BookFault::NoMemory,
+        )?;
+        self.judge.reserve(&tests).map_err(|_| BookFault::NoMemory)?;
         self.filings
             .reserve(list.len())
             .map_err(|_| BookFault::NoMemory)?;
@@ -153,7 +152,7 @@ impl Farm {
         Ok(())
     }
 
-    pub fn matrix(&self, rejudging: u32) -> Reply
+    pub(super) fn matrix(&self, rejudging: u32) -> Reply
         ensures { Stepped self.now (events.Matrix rejudging) self.now result }
     {
         if self.book.state(rejudging).is_none() {
@@ -186,7 +185,7 @@ impl Farm {
         Ok(pairs)
     }
 
-    pub fn apply(&mut self, event: &Event, who: &Name, rejudging: u32) -> Reply
+    pub(super) fn apply(&mut self, event: &Event, who: &Name, rejudging: u32) -> Reply
         requires { event.now ≡ events.Apply who.now rejudging }
         ensures { Stepped self.old event.now self.new result }
     {
@@ -257,7 +256,7 @@ impl Farm {
         Ok(count)
     }
 
-    pub fn cancel(&mut self, event: &Event, who: &Name, rejudging: u32) -> Reply
+    pub(super) fn cancel(&mut self, event: &Event, who: &Name, rejudging: u32) -> Reply
         requires { event.now ≡ events.Cancel who.now rejudging }
         ensures { Stepped self.old event.now self.new result }
     {

@@ -20,6 +20,6 @@ invariant_of-self-2 c =
       submissions = c.self.invariant.submissions;
       booked = c.close.ensures.submissions ∙ c.self.invariant.booked;
       rejudgings = subst (λ (n : ℕ). AreKept submissions n c.close.new.book.rejudgings) (sym count)
-        (subst (λ (rs : List Rejudging). AreKept submissions (length a.judge.state.judgings) rs) (sym c.close.ensures.rejudgings) closed);
+          (subst (λ (rs : List Rejudging). AreKept submissions (length a.judge.state.judgings) rs) (sym c.close.ensures.rejudgings) closed);
       entries = omega (arith, texts, c.in_ok-words.ensures.few);
     }

@@ -26,6 +26,6 @@ invariant_of-self-2 c =
       submissions = omega (arith, all, c.self.invariant.submissions);
       booked = c.close.ensures.submissions ∙ c.self.invariant.booked ∙ sym all;
       rejudgings = subst (λ (n : ℕ). AreKept n judgings c.close.new.book.rejudgings) (sym all)
-        (subst (λ (rs : List Rejudging). AreKept (length a.submissions.items) judgings rs) (sym c.close.ensures.rejudgings) closed);
+          (subst (λ (rs : List Rejudging). AreKept (length a.submissions.items) judgings rs) (sym c.close.ensures.rejudgings) closed);
       entries = omega (arith, texts, c.in_ok-words.ensures.few);
     }

@@ -28,7 +28,7 @@ invariant_of-self-2 c =
       submissions = c.self.invariant.submissions;
       booked = search rules;
       rejudgings = subst (λ (rs : List Rejudging). AreKept submissions (length c.add_judgings.new.judge.state.judgings) rs) (sym c.add_rejudging.ensures.rejudgings)
-        (prepared_kept submissions judgings (length c.add_judgings.new.judge.state.judgings) (c.judgings.result + 1) c.reserve.new.self.rejudgings list c.as_slice-2.result.now
-        (subst (λ (rs : List Rejudging). AreKept submissions judgings rs) (sym c.reserve.ensures.rejudgings) c.self.invariant.rejudgings) known next count (omega arith));
+          (prepared_kept submissions judgings (length c.add_judgings.new.judge.state.judgings) (c.judgings.result + 1) c.reserve.new.self.rejudgings list c.as_slice-2.result.now
+          (subst (λ (rs : List Rejudging). AreKept submissions judgings rs) (sym c.reserve.ensures.rejudgings) c.self.invariant.rejudgings) known next count (omega arith));
       entries = omega (arith, texts, few);
     }

@@ -1,7 +1,7 @@
 use Rattle.std.proofs.Common.{◌≡◌, ◌+◌, ◌++◌, ◌≤◌, All, drop, length, map, vec_len, vec_capacity}
 use Rattle.farm_model.specs.Numbered.{item_of}
 use Rattle.farm_model.specs.Changes.{cells_of_item}
-use Rattle.farm_core.proofs.rejudging.cells_of.Given as goal
+use Rattle.farm_core.proofs.lists.cells_of.Given as goal
 
 abbrev pub invariant-loop-submission : goal.invariant-loop-submission
 invariant-loop-submission l = record {

@@ -1,6 +1,6 @@
 use Rattle.std.proofs.Common.{◌≡◌, ◌+◌, ◌++◌, ◌≤◌, drop, length, map, vec_len, vec_capacity}
 use Rattle.farm_model.specs.State.{current_of}
-use Rattle.farm_core.proofs.rejudging.currents_of.Given as goal
+use Rattle.farm_core.proofs.lists.currents_of.Given as goal
 
 abbrev pub invariant-loop-submission : goal.invariant-loop-submission
 invariant-loop-submission l = record {
