@@ -1,9 +1,7 @@
 pub mod Actor
 pub mod Alone
-pub mod JuryWords
 pub mod Limited
 pub mod Listed
 pub mod NextWord
 pub mod Parts
-pub mod RefusalWords
 pub mod WordList

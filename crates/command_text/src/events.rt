@@ -2,9 +2,8 @@ ghost use Rattle.std.specs.Prelude.{◌≡◌, ◌++◌, ◌∷◌, [], ℕ, Lis
 ghost use Rattle.std.specs.Fmt.{decimal};
 ghost use Rattle.std.specs.List.{join_with_byte};
 ghost use Rattle.farm_kinds.specs.Kinds.{name_of};
-ghost use Rattle.farm_model.specs.Texts.{class_words, image_words, list_words, event_words, actor_of, event_text};
+ghost use Rattle.farm_model.specs.Texts.{class_words, image_words, list_words, jury_words, event_words, actor_of, event_text};
 ghost use Rattle.command_text.specs.Actor.{actor_text};
-ghost use Rattle.command_text.specs.JuryWords.{jury_words};
 ghost use Rattle.command_text.specs.WordList.{texts_of, spaced, commas};
 
 use crate::texts::{push, push_number, push_spaced, push_words};

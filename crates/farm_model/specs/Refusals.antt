@@ -1,5 +1,5 @@
 -- The refusals of each event, in their order.
-use Rattle.std.specs.Prelude.{ℕ, ◌+◌, List, [], ◌∷◌, map, length, find, Option, None, is_some, is_none, Bool, ◌&&◌, ◌==◌, not, nat_le, nat_lt}
+use Rattle.std.specs.Prelude.{ℕ, ◌+◌, List, [], ◌∷◌, ◌++◌, map, length, find, Option, None, is_some, is_none, Bool, ◌&&◌, ◌==◌, not, nat_le, nat_lt}
 use Rattle.std.specs.Option.{option_map}
 use Rattle.farm_kinds.specs.declared.outcomes.Claim.{Claim}
 use Rattle.farm_kinds.specs.declared.outcomes.Claim.TheVariants as claim
@@ -105,15 +105,20 @@ has_final s submission = is_final (answer_at s (current_of s.submissions submiss
 abbrev pub busy_reply : List Rejudging → ℕ → Option Reply
 busy_reply rejudgings submission = option_map (reply.Busy submission) (busy_with rejudgings submission)
 
--- each is looked for over the whole list, and names its first member
-abbrev pub rejudge_refusal : State → List ℕ → Option Reply
-rejudge_refusal s list = first_of (
+-- Each is looked for over the whole list, and names its first member.
+
+-- the refusals of a list but for those of submissions that stand in it twice or are busy
+abbrev pub list_refusals : State → List ℕ → List (Option Reply)
+list_refusals s list =
     when (length list == 0) reply.EmptySet
     ∷ refuse_first (is_submission s) reply.NoSubmission list
     ∷ refuse_first (has_final s) reply.NotFinal list
     ∷ when (is_full s.rejudgings 10000) (reply.Full 10000)
-    ∷ when (nat_lt 400000 (length s.judge.judgings + length list)) (reply.Full 400000)
-    ∷ option_map reply.Twice (first_twice list)
+    ∷ when (nat_lt 400000 (length s.judge.judgings + length list)) (reply.Full 400000) ∷ []
+
+abbrev pub rejudge_refusal : State → List ℕ → Option Reply
+rejudge_refusal s list = first_of (list_refusals s list
+    ++ option_map reply.Twice (first_twice list)
     ∷ first_of (map (busy_reply s.rejudgings) list) ∷ [])
 
 abbrev pub no_rejudging : List Rejudging → ℕ → Option Reply
