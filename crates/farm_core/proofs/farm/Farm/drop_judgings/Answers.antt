@@ -1,5 +1,4 @@
 use Rattle.std.proofs.Common.{ℕ, ◌≡◌, ◌+◌, List, sym, ap, ◌∙◌, subst, arith, length, length-append}
-use Rattle.farm_kinds.specs.declared.outcomes.How.TheVariants as how
 use Rattle.farm_model.specs.declared.records.Rejudging.{Rejudging}
 use Rattle.farm_core.specs.FarmShape.{AreKept}
 use Rattle.farm_core.proofs.Keeping.{closed_kept}
@@ -10,7 +9,6 @@ invariant_of-self-2 c =
     let a = c.self.inside in
     let submissions = length a.submissions.items in
     let count : length c.drop_judgings.new.judge.state.judgings ≡ length a.judge.state.judgings = c.drop_judgings.ensures.count in
-    let closed = closed_kept submissions (length a.judge.state.judgings) a.book.rejudgings c.args.rejudging how.Cancelled c.self.invariant.rejudgings in
     let texts : length c.add_entry.new.audit.texts ≡ length c.make_entry.new.audit.texts + 1 = ap length c.add_entry.ensures ∙ length-append _ _ in
     record {
       short = c.self.invariant.short;
@@ -20,6 +18,7 @@ invariant_of-self-2 c =
       submissions = c.self.invariant.submissions;
       booked = c.close.ensures.submissions ∙ c.self.invariant.booked;
       rejudgings = subst (λ (n : ℕ). AreKept submissions n c.close.new.book.rejudgings) (sym count)
-          (subst (λ (rs : List Rejudging). AreKept submissions (length a.judge.state.judgings) rs) (sym c.close.ensures.rejudgings) closed);
+          (subst (λ (rs : List Rejudging). AreKept submissions (length a.judge.state.judgings) rs) (sym c.close.ensures.rejudgings)
+        (closed_kept (length a.submissions.items) (length a.judge.state.judgings) a.book.rejudgings c.args.rejudging _ c.self.invariant.rejudgings));
       entries = omega (arith, texts, c.in_ok-words.ensures.few);
     }

@@ -1,7 +1,6 @@
 use Rattle.std.proofs.Common.{ℕ, ◌≡◌, ◌+◌, List, sym, ap, ◌∙◌, subst, arith, length, length-append}
 use Rattle.std.specs.Vec.{with_items}
 use Rattle.std.proofs.lemmas.List.{with_items_is}
-use Rattle.farm_kinds.specs.declared.outcomes.How.TheVariants as how
 use Rattle.farm_model.specs.declared.records.Rejudging.{Rejudging}
 use Rattle.farm_core.specs.FarmShape.{AreKept}
 use Rattle.farm_core.proofs.Keeping.{closed_kept, length_applied}
@@ -16,7 +15,6 @@ invariant_of-self-2 c =
     = ap length c.make_current.ensures ∙ length_applied c.deref_mut.result.now c.members_in-members.result.now ∙ ap length c.deref_mut.ensures.value in
     let all : length (with_items a.submissions new).items ≡ length a.submissions.items
     = ap length (with_items_is a.submissions new (count ∙ sym a.submissions.ok.0)) ∙ count in
-    let closed = closed_kept (length a.submissions.items) judgings a.book.rejudgings c.args.rejudging how.Applied c.self.invariant.rejudgings in
     let texts : length c.add_entry.new.audit.texts ≡ length c.make_entry.new.audit.texts + 1 = ap length c.add_entry.ensures ∙ length-append _ _ in
     record {
       short = c.self.invariant.short;
@@ -26,6 +24,7 @@ invariant_of-self-2 c =
       submissions = omega (arith, all, c.self.invariant.submissions);
       booked = c.close.ensures.submissions ∙ c.self.invariant.booked ∙ sym all;
       rejudgings = subst (λ (n : ℕ). AreKept n judgings c.close.new.book.rejudgings) (sym all)
-          (subst (λ (rs : List Rejudging). AreKept (length a.submissions.items) judgings rs) (sym c.close.ensures.rejudgings) closed);
+          (subst (λ (rs : List Rejudging). AreKept (length a.submissions.items) judgings rs) (sym c.close.ensures.rejudgings)
+        (closed_kept (length a.submissions.items) (length a.judge.state.judgings) a.book.rejudgings c.args.rejudging _ c.self.invariant.rejudgings));
       entries = omega (arith, texts, c.in_ok-words.ensures.few);
     }
