@@ -15,14 +15,14 @@ use Rattle.farm_model.specs.Numbered.{item_of}
 use Rattle.farm_model.specs.Refusing.{first_of}
 use Rattle.farm_model.specs.Rejudgings.{first_twice, busy_with}
 use Rattle.farm_model.specs.State.{State}
-use Rattle.farm_model.specs.Refusals.{is_submission, busy_reply, rejudge_refusal}
+use Rattle.farm_model.specs.Refusals.{is_submission, busy_reply, list_refusals, rejudge_refusal}
 use Rattle.farm_model.specs.Changes.{logged, rejudged, rejudging_reply}
 use Rattle.farm_model.specs.Farm.{Stepped}
 use Rattle.rejudge_book.specs.declared.faults.BookFault.{BookFault}
 use Rattle.rejudge_book.specs.declared.faults.BookFault.TheVariants as fault
 use Rattle.rejudge_book.specs.Refusals.{IsKnown, AreKnown, IsFault, twice_refusal, busy_fault, busy_refusal, reserve_refusal}
 use Rattle.rejudge_book.proofs.Closing.{item_place}
-use Rattle.farm_core.specs.FarmShape.{list_refusals, list_refusal, fault_reply}
+use Rattle.farm_core.specs.FarmShape.{list_refusal, fault_reply}
 use Rattle.farm_core.proofs.Stepping.{refused, done, wanting}
 
 -- Submissions that are there

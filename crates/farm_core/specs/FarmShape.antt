@@ -1,12 +1,12 @@
 -- What is true of the problems and of the rejudgings that a farm keeps, and the refusals of a list.
-use Rattle.std.specs.Prelude.{◌≡◌, ◌≢◌, ℕ, ◌+◌, ◌≤◌, ◌==◌, List, [], ◌∷◌, length, All, Option, nat_lt}
+use Rattle.std.specs.Prelude.{◌≡◌, ◌≢◌, ℕ, ◌≤◌, List, length, All, Option}
 use Rattle.farm_kinds.specs.declared.events.Reply.{Reply}
 use Rattle.farm_kinds.specs.declared.events.Reply.TheVariants as reply
 use Rattle.farm_model.specs.declared.records.Member.{Member}
 use Rattle.farm_model.specs.declared.records.Problem.{Problem}
 use Rattle.farm_model.specs.declared.records.Rejudging.{Rejudging}
-use Rattle.farm_model.specs.Refusing.{when, first_of}
-use Rattle.farm_model.specs.Refusals.{is_full, is_submission, has_final, refuse_first}
+use Rattle.farm_model.specs.Refusing.{first_of}
+use Rattle.farm_model.specs.Refusals.{list_refusals}
 use Rattle.farm_model.specs.State.{State}
 use Rattle.rejudge_book.specs.declared.faults.BookFault.{BookFault}
 use Rattle.rejudge_book.specs.declared.faults.BookFault.TheVariants as fault
@@ -42,15 +42,7 @@ AreKept submissions judgings rejudgings = All (IsKept submissions judgings) reju
 abbrev pub IsAnswer : Reply → Type 0
 IsAnswer r = r ≢ reply.NoMemory
 
--- the refusals of a list but for those of submissions that stand in it twice or are busy
-abbrev pub list_refusals : State → List ℕ → List (Option Reply)
-list_refusals s list =
-    when (length list == 0) reply.EmptySet
-    ∷ refuse_first (is_submission s) reply.NoSubmission list
-    ∷ refuse_first (has_final s) reply.NotFinal list
-    ∷ when (is_full s.rejudgings 10000) (reply.Full 10000)
-    ∷ when (nat_lt 400000 (length s.judge.judgings + length list)) (reply.Full 400000) ∷ []
-
+-- the first refusal of a list but for those of submissions that stand in it twice or are busy
 abbrev pub list_refusal : State → List ℕ → Option Reply
 list_refusal s list = first_of (list_refusals s list)
 
