@@ -1,7 +1,8 @@
-ghost use Rattle.std.specs.Prelude.{◌≡◌, ◌+◌, ◌<◌, ◌≤◌, ◌^◌, OnOk, None, length};
+ghost use Rattle.std.specs.Prelude.{◌≡◌, ◌+◌, ◌<◌, ◌≤◌, ◌^◌, ℕ, OnOk, None, length};
 ghost use Rattle.farm_model.specs.Refusals.{close_refusal};
 ghost use Rattle.farm_model.specs.Rejudgings.{closed, members_in, prepared};
 ghost use Rattle.rejudge_book.specs.Refusals.{AreKnown, reserve_refusal};
+ghost use Rattle.farm_core.specs.FarmShape.{AreKept};
 
 use farm_kinds::{How, NoMemory};
 use farm_model::Member;
@@ -65,6 +66,7 @@ pub fn add_rejudging(book: &mut RejudgeBook, list: &[u32], olds: &[u32], first: 
 pub fn close(book: &mut RejudgeBook, rejudging: u32, how: How)
     requires { close_refusal book.old.rejudgings rejudging ≡ None }
     ensures rejudgings { book.new.rejudgings ≡ closed book.old.rejudgings rejudging how }
+    ensures kept { (s j : ℕ) → AreKept s j book.old.rejudgings → AreKept s j book.new.rejudgings }
     ensures submissions { book.new.submissions ≡ book.old.submissions }
 {
     match book.close(rejudging, how) {

@@ -1,8 +1,5 @@
-use Rattle.std.proofs.Common.{ℕ, ◌≡◌, ◌+◌, List, sym, ap, ◌∙◌, subst, arith, length, length-append}
-use Rattle.farm_kinds.specs.declared.outcomes.How.TheVariants as how
-use Rattle.farm_model.specs.declared.records.Rejudging.{Rejudging}
+use Rattle.std.proofs.Common.{ℕ, ◌≡◌, ◌+◌, sym, ap, ◌∙◌, subst, arith, length, length-append}
 use Rattle.farm_core.specs.FarmShape.{AreKept}
-use Rattle.farm_core.proofs.Keeping.{closed_kept}
 use Rattle.farm_core.proofs.farm.Farm.drop_judgings.Goals as goal
 
 pub invariant_of-self-2 : goal.invariant_of-self-2
@@ -19,7 +16,6 @@ invariant_of-self-2 c =
       submissions = c.self.invariant.submissions;
       booked = c.close.ensures.submissions ∙ c.self.invariant.booked;
       rejudgings = subst (λ (n : ℕ). AreKept submissions n c.close.new.book.rejudgings) (sym count)
-          (subst (λ (rs : List Rejudging). AreKept submissions (length a.judge.state.judgings) rs) (sym c.close.ensures.rejudgings)
-        (closed_kept (length a.submissions.items) (length a.judge.state.judgings) a.book.rejudgings c.args.rejudging how.Cancelled c.self.invariant.rejudgings));
+          (c.close.ensures.kept submissions (length a.judge.state.judgings) c.self.invariant.rejudgings);
       entries = omega (arith, texts, c.in_ok-words.ensures.few);
     }

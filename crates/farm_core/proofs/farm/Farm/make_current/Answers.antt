@@ -1,10 +1,8 @@
-use Rattle.std.proofs.Common.{ℕ, ◌≡◌, ◌+◌, List, sym, ap, ◌∙◌, subst, arith, length, length-append}
+use Rattle.std.proofs.Common.{ℕ, ◌≡◌, ◌+◌, sym, ap, ◌∙◌, subst, arith, length, length-append}
 use Rattle.std.specs.Vec.{with_items}
 use Rattle.std.proofs.lemmas.List.{with_items_is}
-use Rattle.farm_kinds.specs.declared.outcomes.How.TheVariants as how
-use Rattle.farm_model.specs.declared.records.Rejudging.{Rejudging}
 use Rattle.farm_core.specs.FarmShape.{AreKept}
-use Rattle.farm_core.proofs.Keeping.{closed_kept, length_applied}
+use Rattle.farm_core.proofs.Keeping.{length_applied}
 use Rattle.farm_core.proofs.farm.Farm.make_current.Goals as goal
 
 pub invariant_of-self-2 : goal.invariant_of-self-2
@@ -25,7 +23,6 @@ invariant_of-self-2 c =
       submissions = omega (arith, all, c.self.invariant.submissions);
       booked = c.close.ensures.submissions ∙ c.self.invariant.booked ∙ sym all;
       rejudgings = subst (λ (n : ℕ). AreKept n judgings c.close.new.book.rejudgings) (sym all)
-          (subst (λ (rs : List Rejudging). AreKept (length a.submissions.items) judgings rs) (sym c.close.ensures.rejudgings)
-        (closed_kept (length a.submissions.items) (length a.judge.state.judgings) a.book.rejudgings c.args.rejudging how.Applied c.self.invariant.rejudgings));
+          (c.close.ensures.kept (length a.submissions.items) judgings c.self.invariant.rejudgings);
       entries = omega (arith, texts, c.in_ok-words.ensures.few);
     }
