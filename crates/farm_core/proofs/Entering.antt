@@ -1,5 +1,5 @@
 -- New versions of problems, and hosts that come and go.
-use Rattle.std.proofs.Common.{ℕ, ◌≡◌, ◌≢◌, ◌+◌, ◌-◌, ◌<◌, ◌≤◌, List, [], ◌∷◌, ◌++◌, Option, Some, None, Bool, true, false, refl, sym, ap, ◌∙◌, subst, arith, length, get_or, set}
+use Rattle.std.proofs.Common.{ℕ, ◌≡◌, ◌+◌, ◌-◌, ◌<◌, ◌≤◌, List, [], ◌∷◌, ◌++◌, Some, None, true, false, refl, sym, ap, ◌∙◌, subst, arith, length, get_or, set}
 use Rattle.std.specs.Prelude.{nat_le, IsTrue}
 use Rattle.std.specs.List.{position}
 use Rattle.std.specs.Option.{is_none, option_map}
@@ -7,14 +7,13 @@ use Rattle.std.specs.Str.{bytes_eq}
 use Rattle.std.proofs.lemmas.Bool.Decides.{nat_tests}
 use Rattle.farm_kinds.specs.declared.events.Event.{Event}
 use Rattle.farm_kinds.specs.declared.events.Event.TheVariants as event
-use Rattle.farm_kinds.specs.declared.events.Reply.{Reply}
 use Rattle.farm_kinds.specs.declared.events.Reply.TheVariants as reply
 use Rattle.farm_model.specs.declared.records.Problem.{Problem}
 use Rattle.farm_model.specs.Numbered.{item_of, with_item, with_change, change_item, number_or_0}
 use Rattle.farm_model.specs.State.{State, problem_number, host_number, up_number}
 use Rattle.farm_model.specs.Refusals.{is_test_count, refusal_of, replace_refusal, version_of}
 use Rattle.farm_model.specs.Changes.{logged, next_version, with_version, host_as}
-use Rattle.farm_model.specs.Farm.{farm_step, Stepped}
+use Rattle.farm_model.specs.Farm.{Stepped}
 use Rattle.judging_core.proofs.Changed.{item_there}
 use Rattle.farm_core.proofs.Stepping.{stepped_by, done}
 

@@ -1,5 +1,5 @@
 -- Items that are numbered from 1, and what changing one of them makes.
-use Rattle.std.proofs.Common.{ℕ, ◌≡◌, ◌≢◌, ◌-◌, ◌<◌, ◌≤◌, List, Option, Some, None, refl, sym, ap, ◌∙◌, arith, length, get_or, set, length-set}
+use Rattle.std.proofs.Common.{ℕ, ◌≡◌, ◌≢◌, ◌-◌, ◌≤◌, List, Option, Some, None, refl, ap, length, get_or, set, length-set}
 use Rattle.farm_model.specs.Numbered.{item_of, with_change, change_item}
 use Rattle.judging_core.proofs.Changed.{item_there}
 

@@ -1,7 +1,7 @@
 -- The refusals of a list of submissions.
-use Rattle.std.proofs.Common.{ℕ, ◌≡◌, ◌≢◌, ◌-◌, ◌<◌, ◌≤◌, List, [], ◌∷◌, ◌++◌, Option, Some, None, Bool, true, false, cond, refl, sym, ap, ◌∙◌, subst, arith, rules, map, length, nat_lt}
-use Rattle.std.specs.Prelude.{not, ⊤, IsTrue}
-use Rattle.std.specs.List.{All, find, slice_get}
+use Rattle.std.proofs.Common.{ℕ, ◌≡◌, ◌≢◌, ◌-◌, ◌≤◌, List, [], ◌∷◌, ◌++◌, Option, Some, None, true, false, cond, refl, sym, ap, ◌∙◌, subst, arith, rules, map, length, nat_lt}
+use Rattle.std.specs.Prelude.{not, ⊤}
+use Rattle.std.specs.List.{find, slice_get}
 use Rattle.std.specs.Option.{option_map, is_some}
 use Rattle.std.proofs.lemmas.Bool.Decides.{nat_tests}
 use Rattle.std.proofs.lemmas.List.Elements.{All-nil, All-cons}

@@ -1,7 +1,6 @@
 use Rattle.std.proofs.Common.{◌≡◌, drop, fold, length}
 use Rattle.farm_model.specs.Judge.{drop_judging}
 use Rattle.farm_model.specs.Rejudgings.{new_judgings}
-use Rattle.judging_core.specs.JudgeValue.{in_state}
 use Rattle.farm_core.proofs.lists.drop_judgings.Given as goal
 
 abbrev pub invariant-loop-member : goal.invariant-loop-member

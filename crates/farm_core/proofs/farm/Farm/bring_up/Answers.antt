@@ -1,4 +1,4 @@
-use Rattle.std.proofs.Common.{rules, arith, sym, ap, ◌∙◌}
+use Rattle.std.proofs.Common.{rules}
 use Rattle.farm_core.proofs.Entering.{host_back, host_full, host_added}
 use Rattle.farm_core.proofs.farm.Farm.bring_up.Goals as goal
 

@@ -1,4 +1,4 @@
-use Rattle.std.proofs.Common.{rules, sym, ap, ◌∙◌}
+use Rattle.std.proofs.Common.{rules, sym, ◌∙◌}
 use Rattle.farm_core.proofs.Judged.{claim_stepped}
 use Rattle.farm_core.proofs.farm.Farm.claim.Goals as goal
 

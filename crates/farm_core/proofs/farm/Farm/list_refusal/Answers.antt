@@ -1,4 +1,4 @@
-use Rattle.std.proofs.Common.{rules, sym, ◌∙◌}
+use Rattle.std.proofs.Common.{rules}
 use Rattle.farm_core.proofs.Refusing.{all_known}
 use Rattle.farm_core.proofs.farm.Farm.list_refusal.Goals as goal
 

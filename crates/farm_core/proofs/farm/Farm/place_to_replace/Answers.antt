@@ -1,4 +1,4 @@
-use Rattle.std.proofs.Common.{◌≡◌, ◌+◌, Some, rules, arith, sym, ap, ◌∙◌}
+use Rattle.std.proofs.Common.{◌≡◌, ◌+◌, Some, rules, arith}
 use Rattle.farm_model.specs.State.{problem_number}
 use Rattle.farm_model.specs.Refusals.{version_of}
 use Rattle.farm_core.proofs.Entering.{version_there, refuses_version, takes_version}

@@ -1,4 +1,4 @@
-use Rattle.std.proofs.Common.{ℕ, ◌≡◌, ◌+◌, ◌<◌, ◌≤◌, List, rules, sym, ap, ◌∙◌, subst, arith, length, map, length-append}
+use Rattle.std.proofs.Common.{◌≡◌, ◌+◌, ◌<◌, ◌≤◌, List, rules, sym, ap, ◌∙◌, subst, arith, length, length-append}
 use Rattle.farm_model.specs.declared.records.Rejudging.{Rejudging}
 use Rattle.farm_model.specs.State.{State}
 use Rattle.rejudge_book.specs.Refusals.{AreKnown}

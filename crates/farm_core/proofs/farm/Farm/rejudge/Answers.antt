@@ -1,11 +1,10 @@
-use Rattle.std.proofs.Common.{◌≡◌, ◌≢◌, None, rules, refl, sym, ap, ◌∙◌, subst}
-use Rattle.std.specs.Option.{option_map}
+use Rattle.std.proofs.Common.{◌≡◌, None, rules, sym, subst}
 use Rattle.farm_kinds.specs.declared.events.Event.{Event}
 use Rattle.farm_kinds.specs.declared.events.Event.TheVariants as event
 use Rattle.farm_kinds.specs.declared.events.Reply.{Reply}
 use Rattle.farm_model.specs.Farm.{Stepped}
-use Rattle.farm_core.specs.FarmShape.{list_refusal, fault_reply}
-use Rattle.farm_core.proofs.Refusing.{list_refused, rest_refuses, faulted, rejudged_by}
+use Rattle.farm_core.specs.FarmShape.{list_refusal}
+use Rattle.farm_core.proofs.Refusing.{list_refused, faulted, rejudged_by}
 use Rattle.farm_core.proofs.farm.Farm.rejudge.Goals as goal
 
 pub returns-in-Some : goal.returns-in-Some

@@ -1,4 +1,4 @@
-use Rattle.std.proofs.Common.{rules, sym, ap, ◌∙◌, Some, ◌≡◌}
+use Rattle.std.proofs.Common.{rules, sym, ◌∙◌}
 use Rattle.farm_core.proofs.Judged.{result_stepped}
 use Rattle.farm_core.proofs.farm.Farm.result.Goals as goal
 

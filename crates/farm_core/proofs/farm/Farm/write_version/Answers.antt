@@ -1,4 +1,4 @@
-use Rattle.std.proofs.Common.{rules, sym, ap, ◌∙◌}
+use Rattle.std.proofs.Common.{rules}
 use Rattle.farm_core.proofs.Entering.{version_written}
 use Rattle.farm_core.proofs.farm.Farm.write_version.Goals as goal
 
