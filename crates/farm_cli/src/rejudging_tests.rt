@@ -6,7 +6,7 @@ use std::test::Fail;
 /// The line that rejudges the submissions from 1 to the last one.
 fn rejudge_to(alloc: Global, last: u32) -> Result<Vec<u8>, AllocError> {
     let mut line = b"rejudge 1".to_vec(alloc)?;
-    for submission in 2..last + 1 {
+    for submission in 2..=last {
         line.extend_from_slice(format!(in alloc; ",{submission}")?.as_bytes())?;
     }
     line.extend_from_slice(b"\n")?;
