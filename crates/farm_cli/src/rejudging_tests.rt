@@ -141,9 +141,15 @@ fn the_audit_log(rt: HostRuntime) -> Result<(), Fail> {
     )?;
     let bytes = out.bytes();
     assert!(rt;
-        bytes.starts_with(b"audit 0 e3b0c44298fc1c149afbf4c8996fb92427ae41e4649b934ca495991b7852b855\n")
+        bytes.starts_with(
+            b"audit 0 e3b0c44298fc1c149afbf4c8996fb92427ae41e4649b934ca495991b7852b855\n"
+        )
     );
-    assert!(rt; bytes.ends_with(b"audit 6 2cae1b569c9e314f82b46dd929da0974009c7090a79c8675ec63cdf29c320bc6\n"));
+    assert!(rt;
+        bytes.ends_with(
+            b"audit 6 2cae1b569c9e314f82b46dd929da0974009c7090a79c8675ec63cdf29c320bc6\n"
+        )
+    );
     Ok(())
 }
 
@@ -199,8 +205,9 @@ fn ten_thousand_rejudgings_and_the_next(rt: HostRuntime) -> Result<(), Fail> {
     input.extend_from_slice(b"rejudge 1,1\nrejudge 2\n")?;
     let (_, out) = script(alloc, input.as_slice())?;
     assert!(rt;
-        out.bytes()
-            .ends_with(b"rejudging 10000 judgings 10001 to 10001\napplied 1\nfull 10000\nno-submission 2\n")
+        out.bytes().ends_with(
+            b"rejudging 10000 judgings 10001 to 10001\napplied 1\nfull 10000\nno-submission 2\n"
+        )
     );
     Ok(())
 }
