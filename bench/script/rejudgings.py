@@ -54,53 +54,55 @@ class Drawer:
         size = self.random.choices([0, 1, 2, 3], [1, 6, 3, 2])[0]
         return ",".join(str(self.near(self.farm.submissions)) for _ in range(size))
 
+    def one_of(self, weighted):
+        """One of the lines, each by its weight."""
+        weights, lines = zip(*weighted)
+        return self.random.choices(lines, weights)[0]
+
+    def task(self):
+        """A host and a task: most often one that it holds."""
+        if self.farm.leases and self.random.random() < 0.7:
+            judging, test = self.random.choice(sorted(self.farm.leases))
+            return f"{self.farm.leases[judging, test][0]} {judging} {test}"
+        return f"{self.random.choice(HOSTS)} {self.near(self.farm.judgings)} {self.random.choice([1, 1, 1, 2, 2, 3])}"
+
     def jury_line(self):
-        who = self.random.choice(PEOPLE)
-        draw = self.random.random()
-        if draw < 0.1:
-            return f"{who}problem {self.random.choice(PROBLEMS)} {self.random.randrange(0, 4)}"
-        if draw < 0.2:
-            return f"{who}replace {self.random.choice(PROBLEMS)} {self.random.choice([0, 1, 1, 1, 2, 2, 3])}"
-        if draw < 0.5:
-            return f"{who}rejudge {self.numbers()}"
-        if draw < 0.7:
-            return f"{who}{self.random.choice(['apply', 'apply', 'cancel'])} {self.near(self.farm.rejudgings)}"
-        return f"{who}verify {self.near(self.farm.judgings)}"
+        problem, rejudging = self.random.choice(PROBLEMS), self.near(self.farm.rejudgings)
+        return self.random.choice(PEOPLE) + self.one_of([
+            (2, f"problem {problem} {self.random.randrange(0, 4)}"),
+            (2, f"replace {problem} {self.random.choice([0, 1, 1, 1, 2, 2, 3])}"),
+            (6, f"rejudge {self.numbers()}"),
+            (3, f"apply {rejudging}"),
+            (1, f"cancel {rejudging}"),
+            (6, f"verify {self.near(self.farm.judgings)}"),
+        ])
 
     def host_line(self):
-        host = self.random.choice(HOSTS)
-        draw = self.random.random()
-        task = f"{self.near(self.farm.judgings)} {self.random.choice([1, 1, 1, 2, 2, 3])}"
-        if self.farm.leases and self.random.random() < 0.7:
-            held = self.random.choice(sorted(self.farm.leases))
-            host, task = self.farm.leases[held][0], f"{held[0]} {held[1]}"
-        if draw < 0.4:
-            return f"result {host} {task} {self.kind()}"
-        if draw < 0.75:
-            return f"claim {host}"
-        if draw < 0.85:
-            return f"renew {host} {task}"
-        if draw < 0.95:
-            return f"host {host}"
-        return f"down {host}"
+        host, task = self.random.choice(HOSTS), self.task()
+        return self.one_of([
+            (8, f"result {task} {self.kind()}"),
+            (7, f"claim {host}"),
+            (2, f"renew {task}"),
+            (2, f"host {host}"),
+            (1, f"down {host}"),
+        ])
+
+    def question(self):
+        rejudging, judging = self.near(self.farm.rejudgings), self.near(self.farm.judgings)
+        return self.random.choice([f"matrix {rejudging}", f"show {judging}", "board", "audit"])
 
     def line(self):
-        draw = self.random.random()
-        if draw < 0.3:
-            return self.jury_line()
-        if draw < 0.5:
-            return self.host_line()
-        if draw < 0.7:
-            return f"record {self.near(self.farm.judgings)} {self.random.choice([0, 1, 1, 1, 1, 1, 2, 2, 2, 3])} {self.kind()}"
-        if draw < 0.78:
-            words = self.random.choice(["", "", " low", " high", " normal broken", " broken"])
-            return f"submit {self.random.choice(PROBLEMS)}{words}"
-        if draw < 0.83:
-            return f"tick {self.farm.now + self.random.randrange(0, 40)}"
-        if draw < 0.98:
-            number = self.near(self.farm.rejudgings if draw < 0.91 else self.farm.judgings)
-            return self.random.choice([f"matrix {number}", f"show {number}", "board", "audit"])
-        return self.random.choice(BAD_LINES)
+        judging, test = self.near(self.farm.judgings), self.random.choice([0, 1, 1, 1, 1, 1, 2, 2, 2, 3])
+        words = self.random.choice(["", "", " low", " high", " normal broken", " broken"])
+        return self.one_of([
+            (30, self.jury_line()),
+            (20, self.host_line()),
+            (20, f"record {judging} {test} {self.kind()}"),
+            (8, f"submit {self.random.choice(PROBLEMS)}{words}"),
+            (5, f"tick {self.farm.now + self.random.randrange(0, 40)}"),
+            (15, self.question()),
+            (2, self.random.choice(BAD_LINES)),
+        ])
 
 
 FIRST_LINES = ["problem A 1", "problem B 2", "host h1", "host h2"] + ["submit A", "submit A", "submit B"] * 2
