@@ -6,22 +6,22 @@ use Rattle.std.specs.List.{join_with_byte}
 use Rattle.std.specs.Borrow.{Bor}
 use Rattle.std.proofs.lemmas.List.{take_more, append-nil, length-append, take-take}
 use Rattle.std.proofs.Math.Seq.{take-append_seam}
-use Rattle.command_text.specs.WordList.{texts_of, spaced, commas}
+use Rattle.command_text.specs.WordList.{word_bytes, spaced, commas}
 use Rattle.farm_model.specs.Texts.{list_words}
 
 pub spaced-push : (words : List (List ℕ)) (next : List ℕ) → spaced (words ++ next ∷ []) ≡ spaced words ++ (32 ∷ next)
 spaced-push [] next = append-nil (32 ∷ next)
 spaced-push (w ∷ words) next = ap (λ t. (32 ∷ w) ++ t) (spaced-push words next) ∙ sym (append_assoc (32 ∷ w) (spaced words) (32 ∷ next))
 
-texts_of-push : (words : List (Bor (List ℕ))) (next : Bor (List ℕ)) → texts_of (words ++ next ∷ []) ≡ texts_of words ++ next.now ∷ []
-texts_of-push [] next = refl
-texts_of-push (w ∷ words) next = ap (λ t. w.now ∷ t) (texts_of-push words next)
+word_bytes-push : (words : List (Bor (List ℕ))) (next : Bor (List ℕ)) → word_bytes (words ++ next ∷ []) ≡ word_bytes words ++ next.now ∷ []
+word_bytes-push [] next = refl
+word_bytes-push (w ∷ words) next = ap (λ t. w.now ∷ t) (word_bytes-push words next)
 
 -- one word more of a slice of words
-pub spaced_more : (words : List (Bor (List ℕ))) (i : ℕ) (d : Bor (List ℕ)) → i < length words → spaced (texts_of (take (i + 1) words)) ≡ spaced (texts_of (take i words)) ++ (32 ∷ (get_or words i d).now)
+pub spaced_more : (words : List (Bor (List ℕ))) (i : ℕ) (d : Bor (List ℕ)) → i < length words → spaced (word_bytes (take (i + 1) words)) ≡ spaced (word_bytes (take i words)) ++ (32 ∷ (get_or words i d).now)
 spaced_more words i d h =
-    ap (λ ws. spaced (texts_of ws)) (take_more words i d h) ∙ ap spaced (texts_of-push (take i words) (get_or words i d))
-    ∙ spaced-push (texts_of (take i words)) (get_or words i d).now
+    ap (λ ws. spaced (word_bytes ws)) (take_more words i d h) ∙ ap spaced (word_bytes-push (take i words) (get_or words i d))
+    ∙ spaced-push (word_bytes (take i words)) (get_or words i d).now
 
 pub joined : (word : List ℕ) (words : List (List ℕ)) → join_with_byte 32 (word ∷ words) ≡ word ++ spaced words
 joined word [] = sym (append-nil word)
@@ -45,10 +45,10 @@ front_stays old added new h =
 
 -- the first word, and then each other word with a space before it
 pub words_pushed : (old mid : List ℕ) (word : Bor (List ℕ)) (words rest : List (Bor (List ℕ))) → mid ≡ old ++ word.now → words ≡ word ∷ rest
-    → mid ++ spaced (texts_of rest) ≡ old ++ join_with_byte 32 (texts_of words)
+    → mid ++ spaced (word_bytes rest) ≡ old ++ join_with_byte 32 (word_bytes words)
 words_pushed old mid word words rest m w =
-    ap (λ t. t ++ spaced (texts_of rest)) m ∙ append_assoc old word.now (spaced (texts_of rest))
-    ∙ ap (λ t. old ++ t) (sym (joined word.now (texts_of rest)) ∙ ap (λ ws. join_with_byte 32 (texts_of ws)) (sym w))
+    ap (λ t. t ++ spaced (word_bytes rest)) m ∙ append_assoc old word.now (spaced (word_bytes rest))
+    ∙ ap (λ t. old ++ t) (sym (joined word.now (word_bytes rest)) ∙ ap (λ ws. join_with_byte 32 (word_bytes ws)) (sym w))
 
 commas-push : (ns : List ℕ) (next : ℕ) → commas (ns ++ next ∷ []) ≡ commas ns ++ (44 ∷ decimal next)
 commas-push [] next = append-nil (44 ∷ decimal next)

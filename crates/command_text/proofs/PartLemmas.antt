@@ -5,7 +5,7 @@ use Rattle.std.specs.Option.{option_map}
 use Rattle.std.proofs.lemmas.List.{take_more, drop_more, take-append-drop, take_all, length-drop}
 use Rattle.std.proofs.lemmas.Bool.Decides.{nat_tests}
 use Rattle.farm_model.specs.Numbers.{number_of, comma_parts, onto_first_part, before_all, all_numbers, list_of}
-use Rattle.command_text.specs.Parts.{IsPart, counted, appended}
+use Rattle.command_text.specs.Parts.{IsPart, total_count, appended}
 
 not_comma : (b : ℕ) → b ≢ 44 → eqb b 44 ≡ false
 not_comma b h = grind (arith, nat_tests)
@@ -50,16 +50,16 @@ uncut text i h over = part_last text (subst IsPart (take_all i text over) h)
 -- One number more
 
 -- a part that is no number
-pub none_counted : (n : ℕ) (part : List ℕ) (parts : List (List ℕ)) → number_of part ≡ None → counted n (all_numbers (part ∷ parts)) ≡ None
-none_counted n part parts h = ap (λ o. counted n (before_all o (all_numbers parts))) h
+pub none_counted : (n : ℕ) (part : List ℕ) (parts : List (List ℕ)) → number_of part ≡ None → total_count n (all_numbers (part ∷ parts)) ≡ None
+none_counted n part parts h = ap (λ o. total_count n (before_all o (all_numbers parts))) h
 
-counted_step : (n number : ℕ) (others : Option (List ℕ)) → counted n (before_all (Some number) others) ≡ counted (n + 1) others
+counted_step : (n number : ℕ) (others : Option (List ℕ)) → total_count n (before_all (Some number) others) ≡ total_count (n + 1) others
 counted_step n number None = refl
 counted_step n number (Some ns) = let e : n + length (number ∷ ns) ≡ n + 1 + length ns = omega arith in ap Some e
 
 -- a part that is a number
-pub one_counted : (n number : ℕ) (part : List ℕ) (parts : List (List ℕ)) → number_of part ≡ Some number → counted n (all_numbers (part ∷ parts)) ≡ counted (n + 1) (all_numbers parts)
-one_counted n number part parts h = ap (λ o. counted n (before_all o (all_numbers parts))) h ∙ counted_step n number (all_numbers parts)
+pub one_counted : (n number : ℕ) (part : List ℕ) (parts : List (List ℕ)) → number_of part ≡ Some number → total_count n (all_numbers (part ∷ parts)) ≡ total_count (n + 1) (all_numbers parts)
+one_counted n number part parts h = ap (λ o. total_count n (before_all o (all_numbers parts))) h ∙ counted_step n number (all_numbers parts)
 
 pub none_appended : (ns part : List ℕ) (parts : List (List ℕ)) → number_of part ≡ None → appended ns (all_numbers (part ∷ parts)) ≡ None
 none_appended ns part parts h = ap (λ o. appended ns (before_all o (all_numbers parts))) h
@@ -79,11 +79,11 @@ nothing_before (Some ns) = refl
 pub none_yet : (list : List ℕ) → list_of list ≡ appended [] (all_numbers (comma_parts list))
 none_yet list = nothing_before (list_of list)
 
-none_counted_yet : (others : Option (List ℕ)) → option_map length others ≡ counted 0 others
+none_counted_yet : (others : Option (List ℕ)) → option_map length others ≡ total_count 0 others
 none_counted_yet None = refl
 none_counted_yet (Some ns) = let e : length ns ≡ 0 + length ns = omega arith in ap Some e
 
-pub count_none_yet : (list : List ℕ) → option_map length (list_of list) ≡ counted 0 (all_numbers (comma_parts list))
+pub count_none_yet : (list : List ℕ) → option_map length (list_of list) ≡ total_count 0 (all_numbers (comma_parts list))
 count_none_yet list = none_counted_yet (list_of list)
 
 -- How many numbers there are

@@ -5,3 +5,4 @@ pub mod Listed
 pub mod NextWord
 pub mod Parts
 pub mod WordList
+pub mod WordGroups

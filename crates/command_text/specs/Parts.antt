@@ -20,8 +20,8 @@ size_behind None = 0
 size_behind (Some text) = length text.now + 1
 
 -- how many numbers there are with so many before them
-abbrev pub counted : ℕ → Option (List ℕ) → Option ℕ
-counted n others = option_map (λ ns. n + length ns) others
+abbrev pub total_count : ℕ → Option (List ℕ) → Option ℕ
+total_count n others = option_map (λ ns. n + length ns) others
 
 -- the numbers with these before them
 abbrev pub appended : List ℕ → Option (List ℕ) → Option (List ℕ)

@@ -4,8 +4,8 @@ use Rattle.std.specs.Borrow.{Bor}
 use Rattle.std.specs.Fmt.{decimal}
 
 -- the bytes that each of the slices shows
-abbrev pub texts_of : List (Bor (List ℕ)) → List (List ℕ)
-texts_of words = map (λ word. word.now) words
+abbrev pub word_bytes : List (Bor (List ℕ)) → List (List ℕ)
+word_bytes words = map (λ word. word.now) words
 
 -- each word with a space before it
 abbrev pub spaced : List (List ℕ) → List ℕ

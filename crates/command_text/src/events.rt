@@ -2,26 +2,15 @@ ghost use Rattle.std.specs.Prelude.{◌≡◌, ◌++◌, ◌∷◌, [], ℕ, Lis
 ghost use Rattle.std.specs.Fmt.{decimal};
 ghost use Rattle.std.specs.List.{join_with_byte};
 ghost use Rattle.farm_kinds.specs.Kinds.{name_of};
-ghost use Rattle.farm_model.specs.Texts.{class_words, image_words, list_words, jury_words, event_words, actor_of, event_text};
+ghost use Rattle.farm_model.specs.Texts.{class_words, image_words, list_words, event_words, event_text};
 ghost use Rattle.command_text.specs.Actor.{actor_text};
-ghost use Rattle.command_text.specs.WordList.{texts_of, spaced, commas};
+ghost use Rattle.command_text.specs.WordGroups.{jury_words};
+ghost use Rattle.command_text.specs.WordList.{word_bytes, spaced, commas};
 
 use crate::texts::{push, push_number, push_spaced, push_words};
 use farm_kinds::{Class, Event, Kind, Name, NoMemory, Numbers, Text};
 use itoa::Buffer;
 use std::alloc::Global;
-
-/// Who acts in an event.
-fn actor_of(event: &Event) -> Name
-    ensures { result ≡ actor_of event.now }
-{
-    match event {
-        Event::Problem { who, .. } | Event::Replace { who, .. } => *who,
-        Event::Rejudge { who, .. } | Event::Verify { who, .. } => *who,
-        Event::Apply { who, .. } | Event::Cancel { who, .. } => *who,
-        _ => Name::jury(),
-    }
-}
 
 /// Puts who acts, with a space behind it, where it is not the jury.
 /// At `NoMemory` a part of it may be there.
@@ -40,7 +29,7 @@ fn push_actor(out: &mut Vec<u8>, who: Name) -> Result<(), NoMemory>
 
 /// The word that a class is written as.
 fn class_words(class: Class) -> &'static [&'static [u8]]
-    ensures { texts_of result.now ≡ class_words class }
+    ensures { word_bytes result.now ≡ class_words class }
 {
     match class {
         Class::High => &[b"high"],
@@ -51,7 +40,7 @@ fn class_words(class: Class) -> &'static [&'static [u8]]
 
 /// The word of a broken image.
 fn image_words(broken: bool) -> &'static [&'static [u8]]
-    ensures { texts_of result.now ≡ image_words broken }
+    ensures { word_bytes result.now ≡ image_words broken }
 {
     if broken { &[b"broken"] } else { &[] }
 }
@@ -259,7 +248,7 @@ fn push_actor_and_words(out: &mut Vec<u8>, event: &Event) -> Result<(), NoMemory
     ensures ok { OnOk result (out.new.items ≡ out.old.items ++ event_text event.now) }
     ensures err { OnErr result (take (length out.old.items) out.new.items ≡ out.old.items) }
 {
-    push_actor(out, actor_of(event))?;
+    push_actor(out, event.jury_actor().unwrap_or(Name::jury()))?;
     push_event_words(out, event)
 }
 

@@ -2,7 +2,8 @@ ghost use Rattle.std.specs.Prelude.{◌≡◌, ◌++◌, ◌∷◌, [], ℕ, Lis
 ghost use Rattle.std.specs.Fmt.{decimal};
 ghost use Rattle.std.specs.List.{join_with_byte};
 ghost use Rattle.hex.specs.Hex.{encode_lower};
-ghost use Rattle.farm_model.specs.Texts.{shown_words, how_text, refusal_words, reply_words, rows_text, reply_text, line_of, bad_line_words, too_long_words};
+ghost use Rattle.farm_model.specs.Texts.{shown_words, how_text, reply_words, rows_text, reply_text, line_of, bad_line_words, too_long_words};
+ghost use Rattle.command_text.specs.WordGroups.{refusal_words};
 
 use crate::rows::{push_rows, verdict_text};
 use crate::texts::{end_line, push, push_number, push_words};

@@ -2,7 +2,7 @@ ghost use Rattle.std.specs.Prelude.{◌≡◌, ◌++◌, ◌∷◌, [], ◌≤�
 ghost use Rattle.std.specs.Fmt.{decimal};
 ghost use Rattle.std.specs.List.{join_with_byte};
 ghost use Rattle.farm_model.specs.Texts.{line_of};
-ghost use Rattle.command_text.specs.WordList.{texts_of, spaced};
+ghost use Rattle.command_text.specs.WordList.{word_bytes, spaced};
 
 use farm_kinds::NoMemory;
 use itoa::Buffer;
@@ -19,7 +19,7 @@ pub fn push(out: &mut Vec<u8>, bytes: &[u8]) -> Result<(), NoMemory>
 /// At `NoMemory` a part of them may be there.
 #[tactic(auto, using(crate::proofs::Joining::spaced_more, crate::proofs::Joining::front_stays))]
 pub fn push_spaced(out: &mut Vec<u8>, words: &[&[u8]]) -> Result<(), NoMemory>
-    ensures ok { OnOk result (out.new.items ≡ out.old.items ++ spaced (texts_of words.now)) }
+    ensures ok { OnOk result (out.new.items ≡ out.old.items ++ spaced (word_bytes words.now)) }
     ensures err { OnErr result (take (length out.old.items) out.new.items ≡ out.old.items) }
 {
     for word in words {
@@ -34,7 +34,7 @@ pub fn push_spaced(out: &mut Vec<u8>, words: &[&[u8]]) -> Result<(), NoMemory>
 #[tactic(auto, using(crate::proofs::Joining::joined, crate::proofs::Joining::front_stays))]
 fn push_joined(out: &mut Vec<u8>, words: &[&[u8]]) -> Result<(), NoMemory>
     ensures ok { OnOk result (out.new.items ≡ out.old.items
-        ++ join_with_byte 32 (texts_of words.now)) }
+        ++ join_with_byte 32 (word_bytes words.now)) }
     ensures err { OnErr result (take (length out.old.items) out.new.items ≡ out.old.items) }
 {
     let Some((first, rest)) = words.split_first() else {
@@ -47,7 +47,7 @@ fn push_joined(out: &mut Vec<u8>, words: &[&[u8]]) -> Result<(), NoMemory>
 /// Puts the words, joined by single spaces, behind what is there. At `NoMemory` nothing changes.
 pub fn push_words(out: &mut Vec<u8>, words: &[&[u8]]) -> Result<(), NoMemory>
     ensures ok { OnOk result (out.new.items ≡ out.old.items
-        ++ join_with_byte 32 (texts_of words.now)) }
+        ++ join_with_byte 32 (word_bytes words.now)) }
     ensures err { OnErr result (out.new.items ≡ out.old.items) }
 {
     let kept = out.len();
@@ -62,7 +62,7 @@ pub fn push_words(out: &mut Vec<u8>, words: &[&[u8]]) -> Result<(), NoMemory>
 /// At `NoMemory` a part of them may be there.
 #[tactic(auto, using(crate::proofs::Joining::front_stays))]
 pub fn push_line(out: &mut Vec<u8>, words: &[&[u8]]) -> Result<(), NoMemory>
-    ensures ok { OnOk result (out.new.items ≡ out.old.items ++ line_of (texts_of words.now)) }
+    ensures ok { OnOk result (out.new.items ≡ out.old.items ++ line_of (word_bytes words.now)) }
     ensures err { OnErr result (take (length out.old.items) out.new.items ≡ out.old.items) }
 {
     push_joined(out, words)?;

@@ -6,8 +6,8 @@ use Rattle.std.proofs.lemmas.List.Sums.{fold-append}
 use Rattle.std.proofs.lemmas.Nat.{pow-add, mul-le}
 use Rattle.std.proofs.lemmas.Bool.{cases_lt}
 use Rattle.std.proofs.Math.Nat.{pow-le-pow_right, le-mul_of_pos_right}
-use Rattle.decimal_compare.specs.Digits.{is_digit, with_digit, number_of, scaled}
-use Rattle.decimal_compare.proofs.Numbers.{ten_pos, fold_digits, number_of-lt, append_are_digits, take_are_digits}
+use Rattle.decimal_compare.specs.Digits.{is_digit, with_digit, digits_number, scaled}
+use Rattle.decimal_compare.proofs.Numbers.{ten_pos, fold_digits, digits_number-lt, append_are_digits, take_are_digits}
 use Rattle.decimal_compare.proofs.Scales.{scaled_is, take_parts}
 
 pub min_all : (a w : ℕ) → w ≤ a → min a w ≡ w
@@ -52,22 +52,22 @@ zeros_step n w left h =
 
 -- four digits at most
 pub four_digits : (ds : List ℕ) (i n : ℕ) → n ≡ fold with_digit 0 (take i ds) → list_all is_digit (take i ds) ≡ true → length (take i ds) ≤ 4 → n < 10000
-four_digits ds i n is digits few = omega (arith, number_of-lt (take i ds) digits, pow-le-pow_right {n = 10} (omega arith) few)
+four_digits ds i n is digits few = omega (arith, digits_number-lt (take i ds) digits, pow-le-pow_right {n = 10} (omega arith) few)
 
 pub three_digits : (ds : List ℕ) (i n : ℕ) → n ≡ fold with_digit 0 (take i ds) → list_all is_digit (take i ds) ≡ true → length (take i ds) ≤ 3 → n < 1000
-three_digits ds i n is digits few = omega (arith, number_of-lt (take i ds) digits, pow-le-pow_right {n = 10} (omega arith) few)
+three_digits ds i n is digits few = omega (arith, digits_number-lt (take i ds) digits, pow-le-pow_right {n = 10} (omega arith) few)
 
 -- the digits that count, in two parts, and zeros where there are too few, stopped at the bound on the way
 pub size_parts : (whole fraction : List ℕ) (taken up down w : ℕ) → list_all is_digit whole ≡ true → list_all is_digit fraction ≡ true
     → taken ≡ length whole + up - down
     → min (min (fold with_digit (min (fold with_digit 0 (take taken whole)) w) (take (taken - length whole) fraction)) w * 10 ^ (taken - length whole - length fraction)) w
-    ≡ min (scaled (number_of (whole ++ fraction)) up (length fraction + down)) w
+    ≡ min (scaled (digits_number (whole ++ fraction)) up (length fraction + down)) w
 size_parts whole fraction taken up down w h k is =
     let len : length (whole ++ fraction) ≡ length whole + length fraction = length-append whole fraction in
     let kept : length (whole ++ fraction) + up - (length fraction + down) ≡ taken = omega arith in
     let zeros : taken - length whole - length fraction ≡ taken - length (whole ++ fraction) = omega arith in
-    let both : fold with_digit (fold with_digit 0 (take taken whole)) (take (taken - length whole) fraction) ≡ number_of (take taken (whole ++ fraction)) =
-    sym (ap number_of (take_parts taken whole fraction) ∙ fold-append with_digit 0 (take taken whole) (take (taken - length whole) fraction)) in
+    let both : fold with_digit (fold with_digit 0 (take taken whole)) (take (taken - length whole) fraction) ≡ digits_number (take taken (whole ++ fraction)) =
+    sym (ap digits_number (take_parts taken whole fraction) ∙ fold-append with_digit 0 (take taken whole) (take (taken - length whole) fraction)) in
     ap (λ m. min (m * 10 ^ (taken - length whole - length fraction)) w) (fold_min (fold with_digit 0 (take taken whole)) w (take (taken - length whole) fraction))
     ∙ min_times (fold with_digit (fold with_digit 0 (take taken whole)) (take (taken - length whole) fraction)) (10 ^ (taken - length whole - length fraction)) w (ten_pos (taken - length whole - length fraction))
     ∙ ap (λ m. min (m * 10 ^ (taken - length whole - length fraction)) w) both
@@ -84,18 +84,18 @@ zeros_fit n left small few = omega (arith, mul-le n (10 ^ left) (10 ^ 25) (10 ^ 
 pub few_digits : (ds : List ℕ) (i n : ℕ) → n ≡ fold with_digit 0 (take i ds) → list_all is_digit ds ≡ true → length ds ≤ 12 → n < 10 ^ 12
 few_digits ds i n is digits few =
     let le : length (take i ds) ≤ 12 = omega (arith, length-take i ds) in
-    omega (arith, number_of-lt (take i ds) (take_are_digits i ds digits), pow-le-pow_right {n = 10} (omega arith) le)
+    omega (arith, digits_number-lt (take i ds) (take_are_digits i ds digits), pow-le-pow_right {n = 10} (omega arith) le)
 
 -- a few digits behind a number, in one step
-pub append_few : (start : ℕ) (ds : List ℕ) → fold with_digit start ds ≡ start * 10 ^ length ds + number_of ds
+pub append_few : (start : ℕ) (ds : List ℕ) → fold with_digit start ds ≡ start * 10 ^ length ds + digits_number ds
 append_few start ds = fold_digits start ds
 
-pub append_fits : (start : ℕ) (ds : List ℕ) (n : ℕ) → start ≤ 10 ^ 25 → length ds ≤ 12 → n ≡ number_of ds → list_all is_digit ds ≡ true → start * 10 ^ length ds + n < 2 ^ 128
+pub append_fits : (start : ℕ) (ds : List ℕ) (n : ℕ) → start ≤ 10 ^ 25 → length ds ≤ 12 → n ≡ digits_number ds → list_all is_digit ds ≡ true → start * 10 ^ length ds + n < 2 ^ 128
 append_fits start ds n small few is digits =
     omega (
       arith,
       mul-le start (10 ^ length ds) (10 ^ 25) (10 ^ 12) small (pow-le-pow_right {n = 10} (omega arith) few),
-      number_of-lt ds digits,
+      digits_number-lt ds digits,
       pow-le-pow_right {n = 10} (omega arith) few,
     )
 

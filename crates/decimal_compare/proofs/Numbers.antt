@@ -6,7 +6,7 @@ use Rattle.std.proofs.lemmas.Bool.{cases_eq}
 use Rattle.std.proofs.lemmas.Bool.Decides.{nat_tests}
 use Rattle.std.proofs.lemmas.List.Folds.{list_all-append}
 use Rattle.std.proofs.Math.Nat.{pow-succ', mul-le-mul_right, le-mul_of_pos_right}
-use Rattle.decimal_compare.specs.Digits.{is_digit, with_digit, number_of}
+use Rattle.decimal_compare.specs.Digits.{is_digit, with_digit, digits_number}
 
 -- the first half of a conjunction that holds, and the second
 pub and_first : (a b : Bool) → (a && b) ≡ true → a ≡ true
@@ -39,18 +39,18 @@ fold_digits n (d ∷ ds) =
     ∙ ap (λ p. n * p + ((0 * 10 + (d - 48)) * 10 ^ length ds + fold with_digit 0 ds)) (sym (pow-succ' 10 (length ds)))
     ∙ ap (λ m. n * 10 ^ suc (length ds) + m) (sym (fold_digits (0 * 10 + (d - 48)) ds))
 
-pub number_of-append : (xs ys : List ℕ) → number_of (xs ++ ys) ≡ number_of xs * 10 ^ length ys + number_of ys
-number_of-append xs ys = fold-append with_digit 0 xs ys ∙ fold_digits (number_of xs) ys
+pub digits_number-append : (xs ys : List ℕ) → digits_number (xs ++ ys) ≡ digits_number xs * 10 ^ length ys + digits_number ys
+digits_number-append xs ys = fold-append with_digit 0 xs ys ∙ fold_digits (digits_number xs) ys
 
 below_power : (d p r : ℕ) → d ≤ 9 → r < p → (0 * 10 + d) * p + r < 10 * p
 below_power d p r small lt = omega (arith, mul-le-mul_right p small)
 
-pub number_of-lt : (ds : List ℕ) → list_all is_digit ds ≡ true → number_of ds < 10 ^ length ds
-number_of-lt [] h = omega arith
-number_of-lt (d ∷ ds) h =
+pub digits_number-lt : (ds : List ℕ) → list_all is_digit ds ≡ true → digits_number ds < 10 ^ length ds
+digits_number-lt [] h = omega arith
+digits_number-lt (d ∷ ds) h =
     let small : d - 48 ≤ 9 = digit_le d (and_first (is_digit d) (list_all is_digit ds) h) in
-    let rest : number_of ds < 10 ^ length ds = number_of-lt ds (and_second (is_digit d) (list_all is_digit ds) h) in
-    rw (fold_digits (0 * 10 + (d - 48)) ds, pow-succ' 10 (length ds)) (below_power (d - 48) (10 ^ length ds) (number_of ds) small rest)
+    let rest : digits_number ds < 10 ^ length ds = digits_number-lt ds (and_second (is_digit d) (list_all is_digit ds) h) in
+    rw (fold_digits (0 * 10 + (d - 48)) ds, pow-succ' 10 (length ds)) (below_power (d - 48) (10 ^ length ds) (digits_number ds) small rest)
 
 -- parts of digits are digits
 pub take_are_digits : (n : ℕ) (ds : List ℕ) → list_all is_digit ds ≡ true → list_all is_digit (take n ds) ≡ true
@@ -99,16 +99,16 @@ some_number d p r some power e = omega (arith, le-mul_of_pos_right {m = d} p som
 apart_above : (d : ℕ) → is_digit d ≡ true → (d ≡ 48 → ⊥) → 0 < d - 48
 apart_above d h ne = let ge : 48 ≤ d = digit_ge d h in omega arith
 
-zeros_first : (d : ℕ) (ds : List ℕ) → d ≡ 48 → list_all (λ b. eqb b 48) ds ≡ eqb (number_of ds) 0 → list_all (λ b. eqb b 48) (d ∷ ds) ≡ eqb (number_of (d ∷ ds)) 0
+zeros_first : (d : ℕ) (ds : List ℕ) → d ≡ 48 → list_all (λ b. eqb b 48) ds ≡ eqb (digits_number ds) 0 → list_all (λ b. eqb b 48) (d ∷ ds) ≡ eqb (digits_number (d ∷ ds)) 0
 zeros_first d ds e rest = rw e rest
 
-zeros_other : (d : ℕ) (ds : List ℕ) → is_digit d ≡ true → (d ≡ 48 → ⊥) → list_all (λ b. eqb b 48) (d ∷ ds) ≡ eqb (number_of (d ∷ ds)) 0
+zeros_other : (d : ℕ) (ds : List ℕ) → is_digit d ≡ true → (d ≡ 48 → ⊥) → list_all (λ b. eqb b 48) (d ∷ ds) ≡ eqb (digits_number (d ∷ ds)) 0
 zeros_other d ds h ne =
     rw (eq_apart d 48 ne, fold_digits (0 * 10 + (d - 48)) ds)
-    (sym (eq_apart ((0 * 10 + (d - 48)) * 10 ^ length ds + number_of ds) 0 (some_number (d - 48) (10 ^ length ds) (number_of ds) (apart_above d h ne) (ten_pos (length ds)))))
+    (sym (eq_apart ((0 * 10 + (d - 48)) * 10 ^ length ds + digits_number ds) 0 (some_number (d - 48) (10 ^ length ds) (digits_number ds) (apart_above d h ne) (ten_pos (length ds)))))
 
 -- digits are 0 exactly where each is a zero
-pub zeros_are : (ds : List ℕ) → list_all is_digit ds ≡ true → list_all (λ b. eqb b 48) ds ≡ eqb (number_of ds) 0
+pub zeros_are : (ds : List ℕ) → list_all is_digit ds ≡ true → list_all (λ b. eqb b 48) ds ≡ eqb (digits_number ds) 0
 zeros_are [] h = refl
 zeros_are (d ∷ ds) h =
     elim (cases_eq d 48) [

@@ -1,6 +1,6 @@
 -- Amounts: the decimals that a tolerance may be.
 use Rattle.std.specs.Prelude.{ℕ, ◌+◌, ◌*◌, ◌^◌, List, ◌++◌, length, Bool, ◌&&◌, not, nat_le, nat_lt, ◌==◌, if◌then◌else◌, Option, Some, None, ℤ, pos}
-use Rattle.decimal_compare.specs.Digits.{number_of}
+use Rattle.decimal_compare.specs.Digits.{digits_number}
 use Rattle.decimal_compare.specs.Decimal.{Numeral, numeral_of, size_of, raise_of, lower_of}
 use Rattle.decimal_compare.specs.declared.amount.Part.{Part}
 use Rattle.decimal_compare.specs.declared.amount.Part.TheVariants.{Relative, Absolute, Both}
@@ -9,7 +9,7 @@ use Rattle.decimal_compare.specs.declared.amount.Part.TheVariants.{Relative, Abs
 unfoldable pub is_exact : Numeral → Bool
 is_exact m =
     size_of m * 10 ^ (length m.fraction + lower_of m.exponent)
-    == number_of (m.whole ++ m.fraction) * 10 ^ (12 + raise_of m.exponent)
+    == digits_number (m.whole ++ m.fraction) * 10 ^ (12 + raise_of m.exponent)
 
 -- a relative amount is at most 1, an absolute one is below 10^12, and one for both is within both bounds
 abbrev pub is_in_bounds : Part → ℕ → Bool

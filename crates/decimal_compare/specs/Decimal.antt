@@ -2,7 +2,7 @@
 use Rattle.std.specs.Prelude.{ℕ, ◌+◌, ◌^◌, List, [], ◌∷◌, ◌++◌, length, drop, Bool, false, ◌&&◌, ◌||◌, nat_le, nat_lt, ◌==◌, if◌then◌else◌, Option, Some, None, ℤ, pos, neg_ℤ, unsigned_abs}
 use Rattle.std.specs.List.{list_all, take_while, prefix_len}
 use Rattle.std.specs.Option.{option_map}
-use Rattle.decimal_compare.specs.Digits.{is_digit, number_of, scaled}
+use Rattle.decimal_compare.specs.Digits.{is_digit, digits_number, scaled}
 use Rattle.decimal_compare.specs.declared.parts.Exponent.{Exponent}
 use Rattle.decimal_compare.specs.declared.token.Token.{Token}
 use Rattle.decimal_compare.specs.declared.token.Token.TheVariants.{NotDecimal, Whole, Float, WideWhole, WideFloat}
@@ -51,7 +51,7 @@ after_fraction text = if has_point text then after_digits (after_point text) els
 abbrev pub exponent_digits : Bool → List ℕ → Option Exponent
 exponent_digits negative digits =
     if list_all is_digit digits && (nat_le 1 (length digits) && nat_le (length digits) 4)
-    then Some (record { negative = negative; size = number_of digits }) else None
+    then Some (record { negative = negative; size = digits_number digits }) else None
 
 -- nothing, which is the exponent 0; or `e` or `E`, perhaps a sign, and one to four digits
 abbrev pub exponent_of : List ℕ → Option Exponent
@@ -99,7 +99,7 @@ lower_of e = if e.negative then e.size else 0
 
 -- n * 10^(e - f + 12) dropped to a whole number, for digits that are n, f of them after the point, and the exponent e
 unfoldable pub size_of : Numeral → ℕ
-size_of m = scaled (number_of (m.whole ++ m.fraction)) (12 + raise_of m.exponent) (length m.fraction + lower_of m.exponent)
+size_of m = scaled (digits_number (m.whole ++ m.fraction)) (12 + raise_of m.exponent) (length m.fraction + lower_of m.exponent)
 
 abbrev pub signed : Bool → ℕ → ℤ
 signed negative size = if negative then neg_ℤ (pos size) else pos size

@@ -10,8 +10,8 @@ abbrev pub with_digit : ℕ → ℕ → ℕ
 with_digit n b = n * 10 + (b - 48)
 
 -- the number that the digits are, read as one
-abbrev pub number_of : List ℕ → ℕ
-number_of digits = fold with_digit 0 digits
+abbrev pub digits_number : List ℕ → ℕ
+digits_number digits = fold with_digit 0 digits
 
 -- n * 10^(up - down), dropped to a whole number
 unfoldable pub scaled : ℕ → ℕ → ℕ → ℕ

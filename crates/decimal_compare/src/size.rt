@@ -1,6 +1,6 @@
 ghost use Rattle.std.specs.Prelude.{◌≡◌, ◌≤◌, ◌+◌, ◌-◌, ◌*◌, ◌^◌, ◌==◌, ◌&&◌, true, length, min, take, drop};
 ghost use Rattle.std.specs.List.{fold, list_all};
-ghost use Rattle.decimal_compare.specs.Digits.{is_digit, with_digit, number_of};
+ghost use Rattle.decimal_compare.specs.Digits.{is_digit, with_digit, digits_number};
 ghost use Rattle.decimal_compare.specs.Decimal.{size_of, raise_of, lower_of};
 ghost use Rattle.decimal_compare.specs.Amount.{is_exact};
 ghost use Rattle.decimal_compare.specs.PartsView.{numeral_of_parts};
@@ -83,7 +83,7 @@ fn append_each(start: u128, digits: &[u8]) -> u128
 fn small_number(digits: &[u8]) -> u64
     requires few { length digits.now ≤ 12 }
     requires digits { list_all is_digit digits.now ≡ true }
-    ensures { result ≡ number_of digits.now }
+    ensures { result ≡ digits_number digits.now }
 {
     let mut number = 0;
     for b in digits {

@@ -1,3 +1,4 @@
+pub mod Actors
 pub mod Kinds
 pub mod Limits
 pub mod Names

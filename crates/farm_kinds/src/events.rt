@@ -1,3 +1,6 @@
+ghost use Rattle.std.specs.Prelude.{◌≡◌};
+ghost use Rattle.farm_kinds.specs.Actors.{jury_actor};
+
 use crate::kinds::Kind;
 use crate::lists::{Answers, MatrixRows, Numbers};
 use crate::names::Name;
@@ -92,6 +95,24 @@ pub enum Event {
     },
     /// How many entries the audit log has, and its last digest.
     Audit,
+}
+
+impl Event {
+    /// Who acts, where the event is the jury's. Such an event is entered in the audit log where it is
+    /// accepted, and no other event is.
+    pub fn jury_actor(&self) -> Option<Name>
+        ensures { result ≡ jury_actor self.now }
+    {
+        match self {
+            Event::Problem { who, .. } | Event::Replace { who, .. } => Some(*who),
+            Event::Rejudge { who, .. } | Event::Verify { who, .. } => Some(*who),
+            Event::Apply { who, .. } | Event::Cancel { who, .. } => Some(*who),
+            Event::Host { .. } | Event::Submit { .. } | Event::Claim { .. } => None,
+            Event::Result { .. } | Event::Entry { .. } | Event::Renew { .. } => None,
+            Event::Tick { .. } | Event::Down { .. } | Event::Show { .. } => None,
+            Event::Board | Event::Matrix { .. } | Event::Audit => None,
+        }
+    }
 }
 
 /// What an event is answered.

@@ -15,7 +15,10 @@ mod worked;
 
 pub use events::{Event, LineFault, Reply};
 pub use kinds::Kind;
-pub use limits::{Limits, raw_image};
+pub use limits::{
+    Limits, MAX_HELD, MAX_HOSTS, MAX_JUDGINGS, MAX_PROBLEMS, MAX_REJUDGINGS, MAX_SUBMISSIONS,
+    MAX_TESTS, MAX_VERSIONS, raw_image,
+};
 pub use lists::{Answers, MatrixRows, Numbers, Text};
 pub use names::Name;
 pub use outcomes::{

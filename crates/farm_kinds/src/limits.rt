@@ -20,3 +20,20 @@ pub fn raw_image(bytes: &[u8]) -> bool
     let len = bytes.len();
     len >= 4 && len <= 1_048_576 && len % 4 == 0
 }
+
+/// The most problems that a farm has.
+pub const MAX_PROBLEMS: u32 = 1_000;
+/// The most versions of a problem.
+pub const MAX_VERSIONS: u32 = 1_000;
+/// The most tests of a problem, and so of a judging.
+pub const MAX_TESTS: u32 = 1_000;
+/// The most hosts of a farm.
+pub const MAX_HOSTS: u32 = 1_000;
+/// The most leases that a host holds.
+pub const MAX_HELD: u32 = 64;
+/// The most submissions of a farm.
+pub const MAX_SUBMISSIONS: u32 = 100_000;
+/// The most judgings of a farm.
+pub const MAX_JUDGINGS: u32 = 400_000;
+/// The most rejudgings of a farm.
+pub const MAX_REJUDGINGS: u32 = 10_000;

@@ -11,7 +11,7 @@ use Rattle.farm_kinds.specs.RuleValue.{RuleValue}
 use Rattle.farm_model.specs.declared.records.Submission.{Submission}
 use Rattle.farm_model.specs.Numbered.{item_of}
 use Rattle.farm_model.specs.Rows.{Row, answer_of}
-use Rattle.farm_model.specs.Judgings.{Judging, rows_of, answer_in}
+use Rattle.farm_model.specs.Judgings.{Judging, judging_rows, answer_in}
 use Rattle.farm_model.specs.Judge.{JudgeState}
 use Rattle.farm_model.specs.Rejudgings.{members_in, new_judgings}
 use Rattle.farm_model.specs.State.{State, is_withheld, public_answer}
@@ -30,11 +30,11 @@ answer_by_row : (rule : RuleValue) (mode : Mode) (o : Option Judging) → option
 answer_by_row rule mode None = refl
 answer_by_row rule mode (Some g) = refl
 
-answer_by_rows : (rule : RuleValue) (mode : Mode) (judgings : List Judging) (j : ℕ) → answer_in rule mode judgings j ≡ option_map (answer_of rule mode) (item_of (rows_of judgings) j)
+answer_by_rows : (rule : RuleValue) (mode : Mode) (judgings : List Judging) (j : ℕ) → answer_in rule mode judgings j ≡ option_map (answer_of rule mode) (item_of (judging_rows judgings) j)
 answer_by_rows rule mode judgings j =
     answer_by_row rule mode (item_of judgings j) ∙ ap (option_map (answer_of rule mode)) (sym (item_seen (λ (judging : Judging). judging.row) judgings j))
 
-answers_same : (rule : RuleValue) (mode : Mode) (new old : List Judging) (j : ℕ) → rows_of new ≡ rows_of old → answer_in rule mode new j ≡ answer_in rule mode old j
+answers_same : (rule : RuleValue) (mode : Mode) (new old : List Judging) (j : ℕ) → judging_rows new ≡ judging_rows old → answer_in rule mode new j ≡ answer_in rule mode old j
 answers_same rule mode new old j same =
     answer_by_rows rule mode new j ∙ ap (λ (rows : List Row). option_map (answer_of rule mode) (item_of rows j)) same ∙ sym (answer_by_rows rule mode old j)
 

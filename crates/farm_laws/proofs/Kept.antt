@@ -9,7 +9,7 @@ use Rattle.farm_kinds.specs.declared.outcomes.Task.{Task}
 use Rattle.farm_model.specs.Numbered.{item_of, change_item}
 use Rattle.farm_model.specs.Refusing.{refused_or}
 use Rattle.farm_model.specs.Rows.{Row}
-use Rattle.farm_model.specs.Judgings.{Judging, task_of, rows_of, mark_handed, mark_dropped}
+use Rattle.farm_model.specs.Judgings.{Judging, task_of, judging_rows, mark_handed, mark_dropped}
 use Rattle.farm_model.specs.Judge.{JudgeState, claim_refusal, claimed, first_open, judge_claim, renew_refusal, renew_lease, judge_renew, drop_judging}
 use Rattle.farm_laws.proofs.Items.{item_at}
 use Rattle.farm_laws.proofs.Cells.{cell_at}
@@ -31,11 +31,11 @@ changed_same view f h xs n (Some x) e = seen_same view f h xs (n - 1) x (item_at
 abbrev pub lengths_of : List Judging → List ℕ
 lengths_of judgings = map (λ judging. length judging.row) judgings
 
-row_lengths : (judgings : List Judging) → lengths_of judgings ≡ map (λ (row : Row). length row) (rows_of judgings)
+row_lengths : (judgings : List Judging) → lengths_of judgings ≡ map (λ (row : Row). length row) (judging_rows judgings)
 row_lengths [] = refl
 row_lengths (g ∷ judgings) = ap (λ ls. length g.row ∷ ls) (row_lengths judgings)
 
-pub lengths_same : (new old : List Judging) → rows_of new ≡ rows_of old → lengths_of new ≡ lengths_of old
+pub lengths_same : (new old : List Judging) → judging_rows new ≡ judging_rows old → lengths_of new ≡ lengths_of old
 lengths_same new old same = row_lengths new ∙ ap (map (λ (row : Row). length row)) same ∙ sym (row_lengths old)
 
 -- the kind in a cell of a row, where there is one
@@ -48,12 +48,12 @@ kind_by_row true None t = refl
 kind_by_row true (Some g) t = refl
 kind_by_row false o t = refl
 
-cell_by_rows : (judgings : List Judging) (j t : ℕ) → cell_at judgings j t ≡ kind_of_row (item_of (rows_of judgings) j) t
+cell_by_rows : (judgings : List Judging) (j t : ℕ) → cell_at judgings j t ≡ kind_of_row (item_of (judging_rows judgings) j) t
 cell_by_rows judgings j t =
     kind_by_row (nat_lt 0 j) (slice_get judgings (j - 1)) t
     ∙ ap (λ (o : Option Row). kind_of_row (cond (nat_lt 0 j) o None) t) (sym (slice_get-map (λ judging. judging.row) judgings (j - 1)))
 
-pub cells_same : (new old : List Judging) (j t : ℕ) → rows_of new ≡ rows_of old → cell_at new j t ≡ cell_at old j t
+pub cells_same : (new old : List Judging) (j t : ℕ) → judging_rows new ≡ judging_rows old → cell_at new j t ≡ cell_at old j t
 cells_same new old j t same = cell_by_rows new j t ∙ ap (λ (rows : List Row). kind_of_row (item_of rows j) t) same ∙ sym (cell_by_rows old j t)
 
 -- Changes of the judge
@@ -62,7 +62,7 @@ cells_same new old j t same = cell_by_rows new j t ∙ ap (λ (rows : List Row).
 pub record KeepsRows (old new : JudgeState) : Type 0 where
   pub rule : new.rule ≡ old.rule
   pub mode : new.mode ≡ old.mode
-  pub rows : rows_of new.judgings ≡ rows_of old.judgings
+  pub rows : judging_rows new.judgings ≡ judging_rows old.judgings
 
 pub same_rows : (s : JudgeState) → KeepsRows s s
 same_rows s = record { rule = refl; mode = refl; rows = refl }

@@ -16,9 +16,9 @@ use Rattle.farm_model.specs.declared.records.Member.{Member}
 use Rattle.farm_model.specs.declared.records.Rejudging.{Rejudging}
 use Rattle.farm_model.specs.Numbered.{item_of}
 use Rattle.farm_model.specs.Refusing.{when, first_of}
-use Rattle.farm_model.specs.Rejudgings.{first_twice_after, first_twice, members_from, members_in, closed, close_as}
+use Rattle.farm_model.specs.Rejudgings.{first_twice_after, first_twice, is_busy, members_from, members_in, closed, close_as}
 use Rattle.farm_model.specs.State.{State, SettingsValue, start, current_of}
-use Rattle.farm_model.specs.Refusals.{is_full, refuse_first, is_submission, has_final, busy_reply, rejudge_refusal, refusal_of}
+use Rattle.farm_model.specs.Refusals.{is_full, refuse_first, is_submission, has_final, rejudge_refusal, refusal_of}
 use Rattle.farm_model.specs.Changes.{make_current, with_current, accepted}
 use Rattle.farm_model.specs.Farm.{farm_step}
 use Rattle.farm_model.specs.Replay.{state_after}
@@ -145,7 +145,7 @@ prepared_members s first list olds h =
     let none = second_and_sixth (when (length list == 0) reply.EmptySet) (refuse_first (is_submission s) reply.NoSubmission list)
     (refuse_first (has_final s) reply.NotFinal list) (when (is_full s.rejudgings 10000) (reply.Full 10000))
     (when (nat_lt 400000 (length s.judge.judgings + length list)) (reply.Full 400000)) (option_map reply.Twice (first_twice list))
-    (first_of (map (busy_reply s.rejudgings) list) ∷ []) h in
+    (first_of (map (is_busy reply.Busy s.rejudgings) list) ∷ []) h in
     let known = all_pass (is_submission s) list (map_none reply.NoSubmission (find (λ n. not (is_submission s n)) list) none.0) in
     let apart = none_twice [] list (map_none reply.Twice (first_twice list) none.1) in
     (members_apart first list olds apart.0, each_member (λ n. IsSome (item_of s.submissions n)) first list olds known)

@@ -19,8 +19,8 @@ use Rattle.farm_model.specs.Refusing.{when, unless, first_of, refused_or}
 use Rattle.farm_model.specs.Judgings.{is_judging, is_dropped, entry_refusal, result_refusal}
 use Rattle.farm_model.specs.Judge.{judge_enter, judge_result, renew_refusal, judge_renew}
 use Rattle.farm_model.specs.State.{State, problem_number, host_number, up_number, answer_at, is_final, is_verified}
-use Rattle.farm_model.specs.Rejudgings.{first_twice, busy_with, closed_how, members_in, new_judgings}
-use Rattle.farm_model.specs.Refusals.{is_full, is_test_count, is_problem, problem_refusal, version_of, replace_refusal, host_refusal, submit_refusal, no_host, count_reply, renewed_reply, refuse_first, is_submission, has_final, busy_reply, rejudge_refusal, no_rejudging, close_refusal, apply_refusal, verify_refusal, refusal_of}
+use Rattle.farm_model.specs.Rejudgings.{first_twice, is_busy, busy_with, closed_how, members_in, new_judgings}
+use Rattle.farm_model.specs.Refusals.{is_full, is_test_count, is_problem, problem_refusal, version_of, replace_refusal, host_refusal, submit_refusal, no_host, count_reply, renewed_reply, refuse_first, is_submission, has_final, rejudge_refusal, no_rejudging, close_refusal, apply_refusal, verify_refusal, refusal_of}
 use Rattle.farm_model.specs.Changes.{accepted}
 use Rattle.farm_model.specs.Replay.{reply_to}
 
@@ -97,7 +97,7 @@ submit_quiet s problem =
 
 -- Refusals of rejudgings
 
-busy_quiet : (rejudgings : List Rejudging) (submission : ℕ) → Quiet (busy_reply rejudgings submission)
+busy_quiet : (rejudgings : List Rejudging) (submission : ℕ) → Quiet (is_busy reply.Busy rejudgings submission)
 busy_quiet rejudgings submission = map_quiet (reply.Busy submission) (λ r. refl) (busy_with rejudgings submission)
 
 first_fails_quiet : (passes : ℕ → Bool) (refusal : ℕ → Reply) → ((n : ℕ) → is_handed (refusal n) ≡ false) → (list : List ℕ) → Quiet (refuse_first passes refusal list)
@@ -111,13 +111,13 @@ rejudge_quiet s list =
     let full = is_full s.rejudgings 10000 in
     let many = nat_lt 400000 (length s.judge.judgings + length list) in
     let twice = option_map reply.Twice (first_twice list) in
-    let busy = first_of (map (busy_reply s.rejudgings) list) in
+    let busy = first_of (map (is_busy reply.Busy s.rejudgings) list) in
     first_quiet (when none reply.EmptySet) _ (when_quiet none reply.EmptySet refl)
     (first_quiet wanting _ (first_fails_quiet (is_submission s) reply.NoSubmission (λ n. refl) list)
     (first_quiet pending _ (first_fails_quiet (has_final s) reply.NotFinal (λ n. refl) list)
     (first_quiet (when full (reply.Full 10000)) _ (when_quiet full (reply.Full 10000) refl)
     (three_quiet (when many (reply.Full 400000)) twice busy (when_quiet many (reply.Full 400000) refl) (map_quiet reply.Twice (λ n. refl) (first_twice list))
-    (firsts_quiet (busy_reply s.rejudgings) (busy_quiet s.rejudgings) list)))))
+    (firsts_quiet (is_busy reply.Busy s.rejudgings) (busy_quiet s.rejudgings) list)))))
 
 no_rejudging_quiet : (rejudgings : List Rejudging) (r : ℕ) → Quiet (no_rejudging rejudgings r)
 no_rejudging_quiet rejudgings r = unless_quiet (is_some (item_of rejudgings r)) (reply.NoRejudging r) refl
@@ -137,7 +137,7 @@ verify_quiet : (s : State) (j : ℕ) → Quiet (verify_refusal s j)
 verify_quiet s j =
     let judging = is_judging s.judge.judgings j in
     let final = is_final (answer_at s j) in
-    let known = is_verified s.filings j in
+    let known = is_verified s.details j in
     first_quiet (unless judging (reply.NoJudging j)) _ (unless_quiet judging (reply.NoJudging j) refl) (
     three_quiet (when (is_dropped s.judge.judgings j) reply.Dropped) (unless final (reply.NotFinal j)) (when known (reply.Already j))
     (when_quiet (is_dropped s.judge.judgings j) reply.Dropped refl) (unless_quiet final (reply.NotFinal j) refl) (when_quiet known (reply.Already j) refl))

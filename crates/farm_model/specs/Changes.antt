@@ -9,7 +9,7 @@ use Rattle.farm_kinds.specs.declared.events.Event.{Event}
 use Rattle.farm_kinds.specs.declared.events.Event.TheVariants as event
 use Rattle.farm_kinds.specs.declared.events.Reply.{Reply}
 use Rattle.farm_kinds.specs.declared.events.Reply.TheVariants as reply
-use Rattle.farm_model.specs.declared.records.Filing.{Filing}
+use Rattle.farm_model.specs.declared.records.JudgingDetails.{JudgingDetails}
 use Rattle.farm_model.specs.declared.records.Problem.{Problem}
 use Rattle.farm_model.specs.declared.records.Host.{Host}
 use Rattle.farm_model.specs.declared.records.Submission.{Submission}
@@ -50,8 +50,8 @@ abbrev pub with_host : State → List ℕ → State
 with_host s name = record s { hosts = hosts_with s.hosts name (host_number s.hosts name) }
 
 -- the host of this number is down
-abbrev pub without_host : State → List ℕ → ℕ → State
-without_host s name n = record s { hosts = with_item s.hosts n (host_as name false) }
+abbrev pub with_host_down : State → List ℕ → ℕ → State
+with_host_down s name n = record s { hosts = with_item s.hosts n (host_as name false) }
 
 -- how many tests a problem has now
 abbrev pub tests_of : List Problem → ℕ → ℕ
@@ -61,12 +61,12 @@ tests_of problems problem = number_or_0 (option_map (λ p. p.tests) (item_of pro
 abbrev pub cells_for : List Problem → ℕ → Bool → ℕ
 cells_for problems problem broken = if broken then 0 else tests_of problems problem
 
-abbrev pub filing_of : ℕ → Option ℕ → Filing
-filing_of submission rejudging = record { submission = submission; rejudging = rejudging; verified = false }
+abbrev pub details_of : ℕ → Option ℕ → JudgingDetails
+details_of submission rejudging = record { submission = submission; rejudging = rejudging; verified = false }
 
-abbrev pub with_new_judging : State → Class → ℕ → Filing → State
-with_new_judging s class cells filing =
-    record s { judge = add_judging s.judge class cells; filings = s.filings ++ filing ∷ [] }
+abbrev pub with_new_judging : State → Class → ℕ → JudgingDetails → State
+with_new_judging s class cells judged =
+    record s { judge = add_judging s.judge class cells; details = s.details ++ judged ∷ [] }
 
 -- a submission whose current judging is the next one
 abbrev pub with_submission : State → ℕ → Bool → State
@@ -77,7 +77,7 @@ with_submission s problem broken = record s {
 -- a submission and its current judging
 abbrev pub submitted : State → ℕ → Class → Bool → State
 submitted s problem class broken =
-    with_new_judging (with_submission s problem broken) class (cells_for s.problems problem broken) (filing_of (length s.submissions + 1) None)
+    with_new_judging (with_submission s problem broken) class (cells_for s.problems problem broken) (details_of (length s.submissions + 1) None)
 
 -- Rejudgings
 
@@ -89,15 +89,15 @@ cells_of_item problems (Some submission) = cells_for problems submission.problem
 abbrev pub cells_of : State → ℕ → ℕ
 cells_of s submission = cells_of_item s.problems (item_of s.submissions submission)
 
--- the filings of judgings that belong to the rejudging of this number
-abbrev pub filings_for : ℕ → List ℕ → List Filing
-filings_for r list = map (λ submission. filing_of submission (Some r)) list
+-- the details of judgings that belong to the rejudging of this number
+abbrev pub details_for : ℕ → List ℕ → List JudgingDetails
+details_for r list = map (λ submission. details_of submission (Some r)) list
 
 -- a judging of each submission of the list, which the public does not see, and a rejudging of them
 abbrev pub rejudged : State → List ℕ → State
 rejudged s list = record s {
   judge = add_judgings s.judge Low (map (cells_of s) list);
-  filings = s.filings ++ filings_for (length s.rejudgings + 1) list;
+  details = s.details ++ details_for (length s.rejudgings + 1) list;
   rejudgings = prepared s.rejudgings list (map (current_of s.submissions) list) (length s.judge.judgings + 1);
 }
 
@@ -130,11 +130,11 @@ cancelled s r = record s {
 abbrev pub answer_pairs : State → ℕ → List (Answer × Answer)
 answer_pairs s r = map (λ member. (answer_at s member.old, answer_at s member.new)) (members_in s.rejudgings r)
 
-abbrev pub mark_verified : Filing → Filing
-mark_verified filing = record filing { verified = true }
+abbrev pub mark_verified : JudgingDetails → JudgingDetails
+mark_verified judged = record judged { verified = true }
 
 abbrev pub verified : State → ℕ → State
-verified s j = record s { filings = with_change s.filings j mark_verified }
+verified s j = record s { details = with_change s.details j mark_verified }
 
 -- the judge did this, and nothing else changed
 abbrev pub by_judge : {R : Type 0} → State → (R → Reply) → JudgeState × R → State × Reply
@@ -154,7 +154,7 @@ accepted s (event.Entry j test kind) = by_judge s (count_reply j test) (judge_en
 accepted s (event.Renew host j test) = by_judge s (renewed_reply j test) (judge_renew s.judge (number_or_0 (up_number s.hosts host)) j test)
 accepted s (event.Tick moment) = by_judge s reply.Ended (judge_tick s.judge moment)
 accepted s (event.Down host) = let n = number_or_0 (up_number s.hosts host) in
-    by_judge (without_host s host n) reply.Ended (judge_down s.judge n)
+    by_judge (with_host_down s host n) reply.Ended (judge_down s.judge n)
 accepted s (event.Show j) = (s, reply.Shown (answer_at s j))
 accepted s event.Board = (s, reply.Board (public_answers s))
 accepted s (event.Rejudge who list) = (logged (rejudged s list) (event.Rejudge who list), rejudging_reply s list)

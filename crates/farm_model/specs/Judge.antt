@@ -14,6 +14,7 @@ use Rattle.farm_kinds.specs.declared.outcomes.Renewed.TheVariants as lease
 use Rattle.farm_kinds.specs.RuleValue.{RuleValue}
 use Rattle.farm_kinds.specs.Rules.{remap_of}
 use Rattle.farm_model.specs.declared.records.Lease.{Lease}
+use Rattle.farm_model.specs.Limits.{max_held}
 use Rattle.farm_model.specs.Refusing.{when, unless, first_of, refused_or}
 use Rattle.farm_model.specs.Leases.{is_held_by, held_count, with_lease, without_task, without_host, without_judging, renewed, ended_at, left_after}
 use Rattle.farm_model.specs.Judgings.{Judging, empty_judging, task_of, answer_in, is_judging, has_test, entry_refusal, result_refusal, with_result, with_handed, with_dropped}
@@ -49,7 +50,7 @@ answer_of_judging s j = answer_in s.rule s.mode s.judgings j
 
 -- a host holds at most 64 leases
 abbrev pub claim_refusal : List Lease → ℕ → Option Claim
-claim_refusal leases host = when (nat_le 64 (held_count leases host)) claim.Holding
+claim_refusal leases host = when (nat_le max_held (held_count leases host)) claim.Holding
 
 -- the end of a lease that is granted or renewed now
 abbrev pub lease_end : JudgeState → ℕ

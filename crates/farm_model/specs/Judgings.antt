@@ -29,8 +29,8 @@ abbrev pub task_of : ℕ → ℕ → Task
 task_of judging test = record { judging = judging; test = test }
 
 -- the rows of the judgings, in order
-abbrev pub rows_of : List Judging → List Row
-rows_of judgings = map (λ judging. judging.row) judgings
+abbrev pub judging_rows : List Judging → List Row
+judging_rows judgings = map (λ judging. judging.row) judgings
 
 -- what is reported of the judging of this number, where there is one
 abbrev pub answer_in : RuleValue → Mode → List Judging → ℕ → Option Answer

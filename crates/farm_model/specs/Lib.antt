@@ -1,3 +1,4 @@
+pub mod Limits
 pub mod Numbered
 pub mod Rows
 pub mod Refusing

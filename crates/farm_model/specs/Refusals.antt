@@ -1,5 +1,5 @@
 -- The refusals of each event, in their order.
-use Rattle.std.specs.Prelude.{ℕ, ◌+◌, List, [], ◌∷◌, ◌++◌, map, length, find, Option, None, is_some, is_none, Bool, ◌&&◌, ◌==◌, not, nat_le, nat_lt}
+use Rattle.std.specs.Prelude.{ℕ, ◌+◌, List, [], ◌∷◌, ◌++◌, length, find, Option, None, is_some, is_none, Bool, ◌&&◌, ◌==◌, not, nat_le, nat_lt}
 use Rattle.std.specs.Option.{option_map}
 use Rattle.farm_kinds.specs.declared.outcomes.Claim.{Claim}
 use Rattle.farm_kinds.specs.declared.outcomes.Claim.TheVariants as claim
@@ -16,10 +16,11 @@ use Rattle.farm_model.specs.declared.records.Problem.{Problem}
 use Rattle.farm_model.specs.declared.records.Host.{Host}
 use Rattle.farm_model.specs.declared.records.Rejudging.{Rejudging}
 use Rattle.farm_model.specs.Numbered.{item_of, number_or_0}
+use Rattle.farm_model.specs.Limits.{max_problems, max_versions, max_tests, max_hosts, max_held, max_submissions, max_judgings, max_rejudgings}
 use Rattle.farm_model.specs.Refusing.{when, unless, first_of}
 use Rattle.farm_model.specs.Judgings.{entry_refusal, result_refusal, is_judging, is_dropped}
 use Rattle.farm_model.specs.Judge.{claim_refusal, renew_refusal}
-use Rattle.farm_model.specs.Rejudgings.{first_twice, busy_with, closed_how, members_in, new_judgings}
+use Rattle.farm_model.specs.Rejudgings.{twice_refusal, busy_refusal, absent_refusal, closing_refusal, members_in, new_judgings}
 use Rattle.farm_model.specs.State.{State, problem_number, host_number, up_number, answer_at, is_final, current_of, is_verified}
 
 -- as many as the limit are there
@@ -28,7 +29,7 @@ is_full xs limit = nat_le limit (length xs)
 
 -- a problem has from 1 to 1,000 tests
 abbrev pub is_test_count : ℕ → Bool
-is_test_count tests = nat_le 1 tests && nat_le tests 1000
+is_test_count tests = nat_le 1 tests && nat_le tests max_tests
 
 abbrev pub is_problem : List Problem → List ℕ → Bool
 is_problem problems name = is_some (problem_number problems name)
@@ -37,7 +38,7 @@ abbrev pub problem_refusal : List Problem → List ℕ → ℕ → Option Reply
 problem_refusal problems name tests = first_of (
     unless (is_test_count tests) (reply.BadTests tests)
     ∷ when (is_problem problems name) (reply.Known name)
-    ∷ when (is_full problems 1000) (reply.Full 1000) ∷ [])
+    ∷ when (is_full problems max_problems) (reply.Full max_problems) ∷ [])
 
 -- the version of the problem of this number
 abbrev pub version_of : List Problem → ℕ → ℕ
@@ -48,19 +49,19 @@ abbrev pub replace_refusal : List Problem → List ℕ → ℕ → Option Reply
 replace_refusal problems name tests = first_of (
     unless (is_test_count tests) (reply.BadTests tests)
     ∷ unless (is_problem problems name) (reply.NoProblem name)
-    ∷ when (nat_le 1000 (version_of problems (number_or_0 (problem_number problems name)))) (reply.Full 1000) ∷ [])
+    ∷ when (nat_le max_versions (version_of problems (number_or_0 (problem_number problems name)))) (reply.Full max_versions) ∷ [])
 
 -- a host is known while it is up, and a new name needs a place
 abbrev pub host_refusal : List Host → List ℕ → Option Reply
 host_refusal hosts name = first_of (
     when (is_some (up_number hosts name)) (reply.Known name)
-    ∷ when (is_none (host_number hosts name) && is_full hosts 1000) (reply.Full 1000) ∷ [])
+    ∷ when (is_none (host_number hosts name) && is_full hosts max_hosts) (reply.Full max_hosts) ∷ [])
 
 abbrev pub submit_refusal : State → List ℕ → Option Reply
 submit_refusal s problem = first_of (
     unless (is_problem s.problems problem) (reply.NoProblem problem)
-    ∷ when (is_full s.submissions 100000) (reply.Full 100000)
-    ∷ when (is_full s.judge.judgings 400000) (reply.Full 400000) ∷ [])
+    ∷ when (is_full s.submissions max_submissions) (reply.Full max_submissions)
+    ∷ when (is_full s.judge.judgings max_judgings) (reply.Full max_judgings) ∷ [])
 
 -- a host that is down, or was never entered, is none
 abbrev pub no_host : List Host → List ℕ → Option Reply
@@ -68,7 +69,7 @@ no_host hosts host = unless (is_some (up_number hosts host)) (reply.NoHost host)
 
 -- what a claim is answered, as a reply
 abbrev pub claim_reply : Claim → Reply
-claim_reply claim.Holding = reply.Holding 64
+claim_reply claim.Holding = reply.Holding max_held
 claim_reply claim.Nothing = reply.Nothing
 claim_reply (claim.Handed task until) = reply.Handed task until
 
@@ -102,9 +103,6 @@ is_submission s n = is_some (item_of s.submissions n)
 abbrev pub has_final : State → ℕ → Bool
 has_final s submission = is_final (answer_at s (current_of s.submissions submission))
 
-abbrev pub busy_reply : List Rejudging → ℕ → Option Reply
-busy_reply rejudgings submission = option_map (reply.Busy submission) (busy_with rejudgings submission)
-
 -- Each is looked for over the whole list, and names its first member.
 
 -- the refusals of a list but for those of submissions that stand in it twice or are busy
@@ -113,22 +111,19 @@ list_refusals s list =
     when (length list == 0) reply.EmptySet
     ∷ refuse_first (is_submission s) reply.NoSubmission list
     ∷ refuse_first (has_final s) reply.NotFinal list
-    ∷ when (is_full s.rejudgings 10000) (reply.Full 10000)
-    ∷ when (nat_lt 400000 (length s.judge.judgings + length list)) (reply.Full 400000) ∷ []
+    ∷ when (is_full s.rejudgings max_rejudgings) (reply.Full max_rejudgings)
+    ∷ when (nat_lt max_judgings (length s.judge.judgings + length list)) (reply.Full max_judgings) ∷ []
 
 abbrev pub rejudge_refusal : State → List ℕ → Option Reply
 rejudge_refusal s list = first_of (list_refusals s list
-    ++ option_map reply.Twice (first_twice list)
-    ∷ first_of (map (busy_reply s.rejudgings) list) ∷ [])
+    ++ twice_refusal reply.Twice list
+    ∷ busy_refusal reply.Busy s.rejudgings list ∷ [])
 
 abbrev pub no_rejudging : List Rejudging → ℕ → Option Reply
-no_rejudging rejudgings r = unless (is_some (item_of rejudgings r)) (reply.NoRejudging r)
+no_rejudging rejudgings r = absent_refusal (reply.NoRejudging r) rejudgings r
 
--- there is no such rejudging, or it is closed
 abbrev pub close_refusal : List Rejudging → ℕ → Option Reply
-close_refusal rejudgings r = first_of (
-    no_rejudging rejudgings r
-    ∷ option_map reply.Closed (closed_how rejudgings r) ∷ [])
+close_refusal rejudgings r = closing_refusal (reply.NoRejudging r) reply.Closed rejudgings r
 
 abbrev pub apply_refusal : State → ℕ → Option Reply
 apply_refusal s r = first_of (
@@ -140,7 +135,7 @@ verify_refusal s j = first_of (
     unless (is_judging s.judge.judgings j) (reply.NoJudging j)
     ∷ when (is_dropped s.judge.judgings j) reply.Dropped
     ∷ unless (is_final (answer_at s j)) (reply.NotFinal j)
-    ∷ when (is_verified s.filings j) (reply.Already j) ∷ [])
+    ∷ when (is_verified s.details j) (reply.Already j) ∷ [])
 
 -- the refusal of an event, where it is refused
 abbrev pub refusal_of : State → Event → Option Reply

@@ -1,5 +1,5 @@
 -- Rejudgings, numbered from 1: their members, their states, and which of them a submission is in.
-use Rattle.std.specs.Prelude.{ℕ, ◌+◌, List, [], ◌∷◌, ◌++◌, map, Option, Some, None, Bool, true, false, ◌&&◌, ◌==◌, if◌then◌else◌, unwrap_or}
+use Rattle.std.specs.Prelude.{ℕ, ◌+◌, List, [], ◌∷◌, ◌++◌, map, Option, Some, None, is_some, Bool, true, false, ◌&&◌, ◌==◌, if◌then◌else◌, unwrap_or}
 use Rattle.std.specs.List.{list_any}
 use Rattle.std.specs.Option.{option_map, option_and_then}
 use Rattle.farm_kinds.specs.declared.outcomes.How.{How}
@@ -9,18 +9,19 @@ use Rattle.farm_model.specs.declared.records.Rejudging.{Rejudging}
 use Rattle.farm_model.specs.declared.records.RejudgeState.{RejudgeState}
 use Rattle.farm_model.specs.declared.records.RejudgeState.TheVariants as state
 use Rattle.farm_model.specs.Numbered.{item_of, with_change, number_where}
+use Rattle.farm_model.specs.Refusing.{unless, first_of}
 
-abbrev pub is_pending : RejudgeState → Bool
-is_pending state.Open = true
-is_pending state.Applied = false
-is_pending state.Cancelled = false
+abbrev pub is_open_state : RejudgeState → Bool
+is_open_state state.Open = true
+is_open_state state.Applied = false
+is_open_state state.Cancelled = false
 
 abbrev pub has_member : ℕ → List Member → Bool
 has_member submission members = list_any (λ member. member.submission == submission) members
 
 -- the rejudging is neither applied nor cancelled, and the submission is in it
 abbrev pub holds_open : ℕ → Rejudging → Bool
-holds_open submission rejudging = is_pending rejudging.state && has_member submission rejudging.members
+holds_open submission rejudging = is_open_state rejudging.state && has_member submission rejudging.members
 
 -- the number of the rejudging, neither applied nor cancelled, that the submission is in
 abbrev pub busy_with : List Rejudging → ℕ → Option ℕ
@@ -75,3 +76,27 @@ close_as h rejudging = record rejudging { state = state_when h }
 -- the rejudging of this number is closed
 abbrev pub closed : List Rejudging → ℕ → How → List Rejudging
 closed rejudgings number h = with_change rejudgings number (close_as h)
+
+-- Refusals, which each caller tells in its own type
+
+-- the list has a submission that stood earlier in it
+abbrev pub twice_refusal : {R : Type 0} → (ℕ → R) → List ℕ → Option R
+twice_refusal twice list = option_map twice (first_twice list)
+
+-- the submission is in an open rejudging
+abbrev pub is_busy : {R : Type 0} → (ℕ → ℕ → R) → List Rejudging → ℕ → Option R
+is_busy busy rejudgings submission = option_map (busy submission) (busy_with rejudgings submission)
+
+-- the list has a submission that is in an open rejudging
+abbrev pub busy_refusal : {R : Type 0} → (ℕ → ℕ → R) → List Rejudging → List ℕ → Option R
+busy_refusal busy rejudgings list = first_of (map (is_busy busy rejudgings) list)
+
+-- there is no such rejudging
+abbrev pub absent_refusal : {R : Type 0} → R → List Rejudging → ℕ → Option R
+absent_refusal absent rejudgings number = unless (is_some (item_of rejudgings number)) absent
+
+-- there is no such rejudging, or it is closed
+abbrev pub closing_refusal : {R : Type 0} → R → (How → R) → List Rejudging → ℕ → Option R
+closing_refusal absent done rejudgings number = first_of (
+    absent_refusal absent rejudgings number
+    ∷ option_map done (closed_how rejudgings number) ∷ [])

@@ -11,7 +11,7 @@ use Rattle.farm_kinds.specs.Rules.{standard}
 use Rattle.farm_model.specs.declared.records.Problem.{Problem}
 use Rattle.farm_model.specs.declared.records.Host.{Host}
 use Rattle.farm_model.specs.declared.records.Submission.{Submission}
-use Rattle.farm_model.specs.declared.records.Filing.{Filing}
+use Rattle.farm_model.specs.declared.records.JudgingDetails.{JudgingDetails}
 use Rattle.farm_model.specs.declared.records.Rejudging.{Rejudging}
 use Rattle.farm_model.specs.Numbered.{item_of, number_where, number_or_0}
 use Rattle.farm_model.specs.Judge.{JudgeState, first_state, answer_of_judging}
@@ -40,7 +40,7 @@ pub record State : Type 0 where
   pub hosts : List Host
   pub submissions : List Submission
   -- one for each judging
-  pub filings : List Filing
+  pub details : List JudgingDetails
   pub rejudgings : List Rejudging
   -- the audit log's texts
   pub texts : List (List ℕ)
@@ -53,7 +53,7 @@ start s = record {
   problems = [];
   hosts = [];
   submissions = [];
-  filings = [];
+  details = [];
   rejudgings = [];
   texts = [];
 }
@@ -80,12 +80,12 @@ is_final Pending = false
 abbrev pub current_of : List Submission → ℕ → ℕ
 current_of submissions n = number_or_0 (option_map (λ submission. submission.current) (item_of submissions n))
 
-abbrev pub is_verified : List Filing → ℕ → Bool
-is_verified filings j = unwrap_or (option_map (λ filing. filing.verified) (item_of filings j)) false
+abbrev pub is_verified : List JudgingDetails → ℕ → Bool
+is_verified details j = unwrap_or (option_map (λ judged. judged.verified) (item_of details j)) false
 
 -- the judging waits to be verified
 abbrev pub is_withheld : State → ℕ → Bool
-is_withheld s j = s.verification && not (is_verified s.filings j)
+is_withheld s j = s.verification && not (is_verified s.details j)
 
 -- what the public sees of a current judging: pending while it waits to be verified
 abbrev pub public_answer : State → ℕ → Answer

@@ -1,5 +1,5 @@
 -- The texts of events and of replies.
-use Rattle.std.specs.Prelude.{ℕ, ◌+◌, List, [], ◌∷◌, ◌++◌, length, map, Bool, true, false, if◌then◌else◌, codes}
+use Rattle.std.specs.Prelude.{ℕ, ◌+◌, List, [], ◌∷◌, ◌++◌, length, map, Bool, true, false, if◌then◌else◌, unwrap_or, codes}
 use Rattle.std.specs.Fmt.{decimal}
 use Rattle.std.specs.List.{flat_map, join_with_byte}
 use Rattle.std.specs.Str.{bytes_eq}
@@ -17,6 +17,7 @@ use Rattle.farm_kinds.specs.declared.events.Event.{Event}
 use Rattle.farm_kinds.specs.declared.events.Event.TheVariants as event
 use Rattle.farm_kinds.specs.declared.events.Reply.{Reply}
 use Rattle.farm_kinds.specs.declared.events.Reply.TheVariants as reply
+use Rattle.farm_kinds.specs.Actors.{jury_actor}
 use Rattle.farm_kinds.specs.Kinds.{name_of}
 use Rattle.farm_kinds.specs.Names.{jury}
 use Rattle.farm_model.specs.Chain.{audit_text}
@@ -42,18 +43,10 @@ abbrev pub list_words : List ℕ → List (List ℕ)
 list_words [] = []
 list_words (n ∷ ns) = join_with_byte 44 (map decimal (n ∷ ns)) ∷ []
 
--- the words of an event of the jury, without the name of who acts; none of another event
-abbrev pub jury_words : Event → List (List ℕ)
-jury_words (event.Problem who name tests) = codes "problem" ∷ name ∷ decimal tests ∷ []
-jury_words (event.Replace who name tests) = codes "replace" ∷ name ∷ decimal tests ∷ []
-jury_words (event.Rejudge who list) = codes "rejudge" ∷ list_words list
-jury_words (event.Apply who r) = codes "apply" ∷ decimal r ∷ []
-jury_words (event.Cancel who r) = codes "cancel" ∷ decimal r ∷ []
-jury_words (event.Verify who j) = codes "verify" ∷ decimal j ∷ []
-jury_words e = []
-
 -- the words of an event, without the name of who acts
 abbrev pub event_words : Event → List (List ℕ)
+event_words (event.Problem who name tests) = codes "problem" ∷ name ∷ decimal tests ∷ []
+event_words (event.Replace who name tests) = codes "replace" ∷ name ∷ decimal tests ∷ []
 event_words (event.Host name) = codes "host" ∷ name ∷ []
 event_words (event.Submit problem class broken) = codes "submit" ∷ problem ∷ class_words class ++ image_words broken
 event_words (event.Claim host) = codes "claim" ∷ host ∷ []
@@ -64,19 +57,16 @@ event_words (event.Tick moment) = codes "tick" ∷ decimal moment ∷ []
 event_words (event.Down host) = codes "down" ∷ host ∷ []
 event_words (event.Show j) = codes "show" ∷ decimal j ∷ []
 event_words event.Board = codes "board" ∷ []
+event_words (event.Rejudge who list) = codes "rejudge" ∷ list_words list
 event_words (event.Matrix r) = codes "matrix" ∷ decimal r ∷ []
+event_words (event.Apply who r) = codes "apply" ∷ decimal r ∷ []
+event_words (event.Cancel who r) = codes "cancel" ∷ decimal r ∷ []
+event_words (event.Verify who j) = codes "verify" ∷ decimal j ∷ []
 event_words event.Audit = codes "audit" ∷ []
-event_words e = jury_words e
 
--- who acts in an event of the jury
+-- who acts; the jury where the event is none of the jury's
 abbrev pub actor_of : Event → List ℕ
-actor_of (event.Problem who name tests) = who
-actor_of (event.Replace who name tests) = who
-actor_of (event.Rejudge who list) = who
-actor_of (event.Apply who r) = who
-actor_of (event.Cancel who r) = who
-actor_of (event.Verify who j) = who
-actor_of e = jury
+actor_of e = unwrap_or (jury_actor e) jury
 
 -- who acts is written where it is not `jury`
 abbrev pub actor_words : List ℕ → List (List ℕ)
@@ -116,29 +106,6 @@ bad_line_words = codes "bad-line" ∷ []
 abbrev pub too_long_words : ℕ → List (List ℕ)
 too_long_words len = codes "too-long" ∷ decimal len ∷ []
 
--- the words of a reply that only refuses; none of another reply
-abbrev pub refusal_words : Reply → List (List ℕ)
-refusal_words (reply.BadTests tests) = codes "bad-tests" ∷ decimal tests ∷ []
-refusal_words (reply.Known name) = codes "known" ∷ name ∷ []
-refusal_words (reply.NoProblem name) = codes "no-problem" ∷ name ∷ []
-refusal_words (reply.NoHost name) = codes "no-host" ∷ name ∷ []
-refusal_words (reply.Full limit) = codes "full" ∷ decimal limit ∷ []
-refusal_words (reply.Holding limit) = codes "holding" ∷ decimal limit ∷ []
-refusal_words (reply.NoJudging j) = codes "no-judging" ∷ decimal j ∷ []
-refusal_words (reply.NoTest test) = codes "no-test" ∷ decimal test ∷ []
-refusal_words reply.NotHanded = codes "not-handed" ∷ []
-refusal_words reply.NoLease = codes "no-lease" ∷ []
-refusal_words reply.EmptySet = codes "empty-set" ∷ []
-refusal_words (reply.NoSubmission s) = codes "no-submission" ∷ decimal s ∷ []
-refusal_words (reply.Twice s) = codes "twice" ∷ decimal s ∷ []
-refusal_words (reply.NotFinal n) = codes "not-final" ∷ decimal n ∷ []
-refusal_words (reply.Busy s r) = codes "busy" ∷ decimal s ∷ decimal r ∷ []
-refusal_words (reply.NoRejudging r) = codes "no-rejudging" ∷ decimal r ∷ []
-refusal_words (reply.Closed h) = codes "closed" ∷ how_text h ∷ []
-refusal_words (reply.Unfinished j) = codes "unfinished" ∷ decimal j ∷ []
-refusal_words (reply.Already j) = codes "already" ∷ decimal j ∷ []
-refusal_words r = []
-
 -- the words of a reply, of the last line where it has several
 abbrev pub reply_words : Reply → List (List ℕ)
 reply_words (reply.Problem name version) = codes "problem" ∷ name ∷ codes "version" ∷ decimal version ∷ []
@@ -160,8 +127,27 @@ reply_words (reply.Applied members) = codes "applied" ∷ decimal members ∷ []
 reply_words (reply.Cancelled members) = codes "cancelled" ∷ decimal members ∷ []
 reply_words (reply.Verified j) = codes "verified" ∷ decimal j ∷ []
 reply_words (reply.Audit count head) = codes "audit" ∷ decimal count ∷ encode_lower head ∷ []
+reply_words (reply.BadTests tests) = codes "bad-tests" ∷ decimal tests ∷ []
+reply_words (reply.Known name) = codes "known" ∷ name ∷ []
+reply_words (reply.NoProblem name) = codes "no-problem" ∷ name ∷ []
+reply_words (reply.NoHost name) = codes "no-host" ∷ name ∷ []
+reply_words (reply.Full limit) = codes "full" ∷ decimal limit ∷ []
+reply_words (reply.Holding limit) = codes "holding" ∷ decimal limit ∷ []
+reply_words (reply.NoJudging j) = codes "no-judging" ∷ decimal j ∷ []
+reply_words (reply.NoTest test) = codes "no-test" ∷ decimal test ∷ []
+reply_words reply.NotHanded = codes "not-handed" ∷ []
+reply_words reply.NoLease = codes "no-lease" ∷ []
+reply_words reply.EmptySet = codes "empty-set" ∷ []
+reply_words (reply.NoSubmission s) = codes "no-submission" ∷ decimal s ∷ []
+reply_words (reply.Twice s) = codes "twice" ∷ decimal s ∷ []
+reply_words (reply.NotFinal n) = codes "not-final" ∷ decimal n ∷ []
+reply_words (reply.Busy s r) = codes "busy" ∷ decimal s ∷ decimal r ∷ []
+reply_words (reply.NoRejudging r) = codes "no-rejudging" ∷ decimal r ∷ []
+reply_words (reply.Closed h) = codes "closed" ∷ how_text h ∷ []
+reply_words (reply.Unfinished j) = codes "unfinished" ∷ decimal j ∷ []
+reply_words (reply.Already j) = codes "already" ∷ decimal j ∷ []
+-- no line is answered so
 reply_words reply.NoMemory = []
-reply_words r = refusal_words r
 
 -- a line for each answer, behind the number of its submission
 abbrev pub board_lines : ℕ → List Answer → List ℕ

@@ -7,13 +7,17 @@
 
 mod leases;
 mod members;
+mod numbered;
 mod records;
 mod rejudgings;
 mod worked;
 
 pub use leases::worked_leases;
 pub use members::Members;
-pub use records::{Filing, Host, Lease, Member, Problem, RejudgeState, Rejudging, Submission};
+pub use numbered::item_of;
+pub use records::{
+    Host, JudgingDetails, Lease, Member, Problem, RejudgeState, Rejudging, Submission,
+};
 pub use rejudgings::{
     apply_is_one_change, audit_chain, audit_texts, cancel_changes_nothing, empty_audit,
     lines_of_the_jury, refusals_of_rejudgings, rejudging_of_a_broken_image,

@@ -31,7 +31,7 @@ pub struct Submission {
 
 /// What is known of a judging beside its row.
 #[derive(Clone, Copy, Debug)]
-pub struct Filing {
+pub struct JudgingDetails {
     /// The number of its submission.
     pub submission: u32,
     /// The number of the rejudging that it belongs to.

@@ -1,5 +1,5 @@
 -- The computed test whether a cell matters.
-use Rattle.std.proofs.Common.{ℕ, suc, zero, ◌+◌, ◌-◌, ◌≡◌, ◌≢◌, ◌↔◌, List, [], ◌∷◌, Option, Some, None, true, false, refl, sym, ap, ◌∙◌, subst, arith, set}
+use Rattle.std.proofs.Common.{ℕ, suc, zero, ◌+◌, ◌-◌, ◌≡◌, ◌≢◌, ◌↔◌, ◌≤◌, Bool, IsTrue, List, [], ◌∷◌, Option, Some, None, true, false, refl, sym, ap, ◌∙◌, subst, arith, set}
 use Rattle.std.specs.Prelude.{not}
 use Rattle.std.specs.List.{slice_get}
 use Rattle.std.proofs.lemmas.Bool.Decides.{nat_tests}
@@ -8,7 +8,7 @@ use Rattle.farm_kinds.specs.RuleValue.{RuleValue}
 use Rattle.farm_kinds.specs.Rules.{verdict_of, possible_kinds}
 use Rattle.farm_model.specs.Numbered.{item_of}
 use Rattle.farm_model.specs.Rows.{Row, completions_of, is_verdict, same_verdict, depends_on, matters_at, matters}
-use Rattle.lazy_stop.specs.Matters.{Matters}
+use Rattle.lazy_stop.specs.Matters.{Matters, SomeMatters}
 use Rattle.lazy_stop.proofs.Filling.{filled_at, Fills-set, get-set_other}
 use Rattle.lazy_stop.proofs.Listing.{listed, fills_listed, list_any-one, list_any-some}
 use Rattle.lazy_stop.proofs.Answering.{verdict_is, is_verdict-same}
@@ -91,3 +91,24 @@ matters_computed rule row at = (
   λ t. matters_from rule row at (slice_get row at) refl (ap (matters_at rule row (at + 1)) (sym (item_next row at)) ∙ t),
   λ m. ap (matters_at rule row (at + 1)) (item_next row at ∙ m.empty) ∙ matters_to rule row at m,
 )
+
+-- Two tests of one thing
+
+same_test : {P : Type 0} (a b : Bool) → (a ≡ true) ↔ P → (b ≡ true) ↔ P → a ≡ b
+same_test true b f g = sym (g.1 (f.0 refl))
+same_test false true f g = f.1 (g.0 refl)
+same_test false false f g = refl
+
+pub matters_said : (rule : RuleValue) (row : Row) (test : ℕ) (answer : Bool) → 1 ≤ test → (answer ≡ true) ↔ Matters rule row (test - 1) → answer ≡ matters rule row test
+matters_said rule row test answer low h =
+    let place : test - 1 + 1 ≡ test = omega arith in
+    same_test answer (matters rule row test) h (subst (λ (n : ℕ). (matters rule row n ≡ true) ↔ Matters rule row (test - 1)) place (matters_computed rule row (test - 1)))
+
+test_matters : (rule : RuleValue) (row : Row) (test : ℕ) → IsTrue (matters rule row test) → SomeMatters rule row
+test_matters rule row zero t = cc
+test_matters rule row (suc at) t =
+    let next : suc at ≡ at + 1 = omega arith in
+    (at, (matters_computed rule row at).0 (subst (λ (n : ℕ). matters rule row n ≡ true) next t))
+
+pub some_test : (rule : RuleValue) (row : Row) → SomeMatters rule row ↔ ((test : ℕ) × IsTrue (matters rule row test))
+some_test rule row = (λ m. (m.0 + 1, (matters_computed rule row m.0).1 m.1), λ t. test_matters rule row t.0 t.1)

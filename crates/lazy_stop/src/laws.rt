@@ -8,7 +8,7 @@ ghost use Rattle.farm_kinds.specs.declared.outcomes.Mode.TheVariants.{Lazy, Full
 ghost use Rattle.farm_kinds.specs.declared.outcomes.Verdict.TheVariants.{Tests, CompilerError};
 ghost use Rattle.farm_kinds.specs.declared.outcomes.Answer.TheVariants.{Final, Pending};
 ghost use Rattle.farm_model.specs.Rows.{Row, completions_of, is_settled, kinds_of, answer_of, matters};
-ghost use Rattle.lazy_stop.specs.Matters.{IsPossible, IsCompletion, Matters, SomeMatters, Extends};
+ghost use Rattle.lazy_stop.specs.Matters.{IsPossible, IsCompletion, Matters, Extends};
 
 use farm_kinds::{Kind, Rule};
 
@@ -41,9 +41,9 @@ pub fn final_iff_settled()
         → (answer_of rule Lazy row ≡ Final (Tests v)) ↔ IsTrue (is_settled rule row v) }
 {}
 
-/// The computed test whether a cell matters finds just the cells that do. It counts tests from 1,
-/// and [`crate::Row::matters`] counts places from 0.
-pub fn matters_is_computed()
+/// A cell matters exactly where it is empty and two ways to fill the row that differ there alone have
+/// different verdicts.
+pub fn matters_iff_verdicts_differ()
     ensures { (rule : RuleValue) (row : Row) (at : ℕ)
         → IsTrue (matters rule row (at + 1)) ↔ Matters rule row at }
 {}
@@ -51,13 +51,13 @@ pub fn matters_is_computed()
 /// A row with cells has no settled verdict exactly where some empty cell matters.
 pub fn unsettled_iff_matters()
     ensures { (rule : RuleValue) (row : Row) → row ≢ []
-        → ((v : Kind) → ¬ IsTrue (is_settled rule row v)) ↔ SomeMatters rule row }
+        → ((v : Kind) → ¬ IsTrue (is_settled rule row v)) ↔ ((test : ℕ) × IsTrue (matters rule row test)) }
 {}
 
 /// Lazily, the answer to a row with cells is pending exactly where some empty cell matters.
 pub fn pending_iff_matters()
     ensures { (rule : RuleValue) (row : Row) → row ≢ []
-        → (answer_of rule Lazy row ≡ Pending) ↔ SomeMatters rule row }
+        → (answer_of rule Lazy row ≡ Pending) ↔ ((test : ℕ) × IsTrue (matters rule row test)) }
 {}
 
 /// In full mode the answer to a row with cells is pending exactly where a cell is empty.

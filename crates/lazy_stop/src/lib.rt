@@ -14,8 +14,8 @@ mod tests;
 
 pub use laws::{
     completions_are_all, filling_keeps_final, filling_keeps_settled, final_iff_settled,
-    final_is_the_full_answer, full_pending_iff_empty, matters_is_computed, pending_iff_matters,
-    remapped_is_possible, settled_is_every_completion, settled_is_the_full_verdict,
-    unsettled_iff_matters, worked_rows,
+    final_is_the_full_answer, full_pending_iff_empty, matters_iff_verdicts_differ,
+    pending_iff_matters, remapped_is_possible, settled_is_every_completion,
+    settled_is_the_full_verdict, unsettled_iff_matters, worked_rows,
 };
 pub use row::{Put, Row};

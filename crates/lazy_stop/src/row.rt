@@ -1,7 +1,7 @@
 ghost use Rattle.std.specs.Prelude.{ℕ, ◌≡◌, ◌≢◌, ◌<◌, ◌≤◌, ◌-◌, ◌↔◌, IsTrue, Some, None, length, replicate, slice_get, slice_set, List, Option, IfOk};
 ghost use Rattle.farm_kinds.specs.declared.kinds.Kind.{Kind};
 ghost use Rattle.farm_kinds.specs.RuleValue.{RuleValue};
-ghost use Rattle.farm_model.specs.Rows.{answer_of, is_settled};
+ghost use Rattle.farm_model.specs.Rows.{answer_of, is_settled, matters};
 ghost use Rattle.lazy_stop.specs.Matters.{IsPossible, Matters};
 ghost use Rattle.lazy_stop.specs.RowFacts.{IsFirstEmpty, BestIs, IsRow};
 
@@ -105,7 +105,7 @@ impl Row {
     pub fn matters(&self, rank: u16) -> bool
         requires low { 0 < rank }
         requires empty { slice_get self.now.cells (rank - 1) ≡ Some None }
-        ensures { IsTrue result ↔ Matters self.now.rule self.now.cells (rank - 1) }
+        ensures { result ≡ matters self.now.rule self.now.cells rank }
     {
         may_change_verdict(&self.rule, self.extremes, self.best, rank as usize - 1)
     }
