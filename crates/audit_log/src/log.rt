@@ -85,16 +85,23 @@ impl Audit {
         ensures unchanged { OnErr result (self.new ≡ self.old) }
         ensures needed { OnErr result (self.old.reserved < length (audit_text who.now what.now)) }
     {
-        let who = who.as_bytes();
-        self.make_room(who.len() + 1 + what.len())?;
+        self.make_room(who.as_bytes().len() + 1 + what.len())?;
+        self.add_reserved(who, what);
+        Ok(())
+    }
+
+    /// Adds an entry, as `add` does, for which there is room.
+    pub fn add_reserved(&mut self, who: &Name, what: &[u8])
+        requires { length (audit_text who.now what.now) ≤ self.old.reserved }
+        ensures { self.new ≡ with_text self.old (audit_text who.now what.now) }
+    {
         let mut text = mem::replace(&mut self.ready, Vec::new(self.alloc));
-        write_text(&mut text, who, what);
+        write_text(&mut text, who.as_bytes(), what);
         self.head = digest_after(&self.head, text.as_slice());
         self.entries.push_reserved(Entry {
             text: Text::from_vec(text),
             digest: self.head,
         });
-        Ok(())
     }
 
     /// How many entries there are.

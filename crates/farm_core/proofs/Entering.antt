@@ -1,21 +1,21 @@
 -- New versions of problems, and hosts that come and go.
-use Rattle.std.proofs.Common.{ℕ, ◌≡◌, ◌+◌, ◌-◌, ◌<◌, ◌≤◌, List, [], ◌∷◌, ◌++◌, Some, None, true, false, refl, sym, ap, ◌∙◌, subst, arith, length, get_or, set}
+use Rattle.std.proofs.Common.{ℕ, ◌≡◌, ◌+◌, ◌-◌, ◌<◌, ◌≤◌, List, [], ◌∷◌, ◌++◌, Option, Some, None, Bool, true, false, refl, sym, ap, ◌∙◌, arith, length, get_or, set}
 use Rattle.std.specs.Prelude.{nat_le, IsTrue}
 use Rattle.std.specs.List.{position}
 use Rattle.std.specs.Option.{is_none, option_map}
 use Rattle.std.specs.Str.{bytes_eq}
 use Rattle.std.proofs.lemmas.Bool.Decides.{nat_tests}
-use Rattle.farm_kinds.specs.declared.events.Event.{Event}
 use Rattle.farm_kinds.specs.declared.events.Event.TheVariants as event
 use Rattle.farm_kinds.specs.declared.events.Reply.TheVariants as reply
 use Rattle.farm_model.specs.declared.records.Problem.{Problem}
 use Rattle.farm_model.specs.Numbered.{item_of, with_item, with_change, change_item, number_or_0}
 use Rattle.farm_model.specs.State.{State, problem_number, host_number, up_number}
-use Rattle.farm_model.specs.Refusals.{is_test_count, refusal_of, replace_refusal, version_of}
-use Rattle.farm_model.specs.Changes.{logged, next_version, with_version, host_as}
+use Rattle.farm_model.specs.Refusing.{first_of, when, unless}
+use Rattle.farm_model.specs.Refusals.{is_test_count, is_problem, refusal_of, replace_refusal, version_of}
+use Rattle.farm_model.specs.Changes.{next_version, with_version, host_as}
 use Rattle.farm_model.specs.Farm.{Stepped}
 use Rattle.judging_core.proofs.Changed.{item_there}
-use Rattle.farm_core.proofs.Stepping.{stepped_by, done}
+use Rattle.farm_core.proofs.Stepping.{stepped_by}
 
 -- Versions
 
@@ -49,21 +49,30 @@ pub takes_version : (problems : List Problem) (name : List ℕ) (tests place : �
 takes_version problems name tests place found low high few =
     rw (test_count tests low high, found, not_full 1000 (version_of problems (place + 1)) few) refl
 
-pub version_written : (s : State) (e : Event) (who name : List ℕ) (tests place : ℕ) (p : Problem) (new : State) → e ≡ event.Replace who name tests
-    → replace_refusal s.problems name tests ≡ None → problem_number s.problems name ≡ Some (place + 1) → place < length s.problems → p ≡ get_or s.problems place p
-    → new ≡ logged (record s { problems = set s.problems place (next_version tests p) }) e → Stepped s e new (reply.Problem name (p.version + 1))
-version_written s e who name tests place p new is let_in found lt here change =
-    let asked = event.Replace who name tests in
+third : {R : Type 0} (a b : Option R) (full : Bool) (r : R) → first_of (a ∷ b ∷ when full r ∷ []) ≡ None → full ≡ false
+third None None true r e = cc
+third None None false r e = refl
+third None (Some x) full r e = cc
+third (Some x) b full r e = cc
+
+below : (limit n : ℕ) → nat_le limit n ≡ false → n < limit
+below limit n h = grind (arith, nat_tests)
+
+-- a problem whose replacement is not refused has a version below the limit
+pub version_few : (problems : List Problem) (name : List ℕ) (tests place : ℕ)
+    → problem_number problems name ≡ Some (place + 1) → replace_refusal problems name tests ≡ None → version_of problems (place + 1) < 1000
+version_few problems name tests place found h =
+    let full = third (unless (is_test_count tests) (reply.BadTests tests)) (unless (is_problem problems name) (reply.NoProblem name)) _ _ h in
+    below 1000 (version_of problems (place + 1)) (sym (ap (λ o. nat_le 1000 (version_of problems (number_or_0 o))) found) ∙ full)
+
+-- the problem at the place that the name has is in its next version
+pub version_written : (s : State) (name : List ℕ) (tests place : ℕ) (p : Problem) (new : State)
+    → problem_number s.problems name ≡ Some (place + 1) → place < length s.problems → p ≡ get_or s.problems place p
+    → new ≡ record s { problems = set s.problems place (next_version tests p) } → new ≡ with_version s (number_or_0 (problem_number s.problems name)) tests
+version_written s name tests place p new found lt here change =
     let changes : with_change s.problems (place + 1) (next_version tests) ≡ set s.problems place (next_version tests p)
     = ap (change_item s.problems (place + 1) (next_version tests)) (at_place s.problems place p lt here) ∙ sym (set_place s.problems place (next_version tests p)) in
-    subst (λ (f : Event). Stepped s f new (reply.Problem name (p.version + 1))) (sym is)
-    (done s asked new (reply.Problem name (p.version + 1)) let_in
-    (ap (λ o. (logged (with_version s (number_or_0 o) tests) asked, reply.Problem name (version_of s.problems (number_or_0 o) + 1))) found
-    ∙ ap (λ (problems : List Problem). (logged (record s { problems = problems }) asked, reply.Problem name (version_of s.problems (place + 1) + 1))) changes
-    ∙ ap (λ v. (logged (record s { problems = set s.problems place (next_version tests p) }) asked, reply.Problem name (v + 1))) (version_there s.problems place p lt here)
-    ∙ ap (λ f. (logged (record s { problems = set s.problems place (next_version tests p) }) f, reply.Problem name (p.version + 1))) (sym is)
-    ∙ ap (λ t. (t, reply.Problem name (p.version + 1))) (sym change))
-    (λ no. cc))
+    change ∙ sym (ap (λ o. with_version s (number_or_0 o) tests) found ∙ ap (λ (problems : List Problem). record s { problems = problems }) changes)
 
 -- Hosts
 

@@ -5,3 +5,4 @@ pub mod Judged
 pub mod Entering
 pub mod Keeping
 pub mod Refusing
+mod Aside

@@ -5,6 +5,7 @@ use Rattle.farm_kinds.specs.declared.events.Reply.TheVariants as reply
 use Rattle.farm_model.specs.declared.records.Member.{Member}
 use Rattle.farm_model.specs.declared.records.Problem.{Problem}
 use Rattle.farm_model.specs.declared.records.Rejudging.{Rejudging}
+use Rattle.farm_model.specs.Limits.{max_tests, max_judgings}
 use Rattle.farm_model.specs.Refusing.{first_of}
 use Rattle.farm_model.specs.Refusals.{list_refusals}
 use Rattle.farm_model.specs.State.{State}
@@ -13,7 +14,7 @@ use Rattle.rejudge_book.specs.declared.faults.BookFault.TheVariants as fault
 
 -- no problem has more than 1,000 tests
 abbrev pub AreShort : List Problem → Type 0
-AreShort problems = All (λ problem. problem.tests ≤ 1000) problems
+AreShort problems = All (λ problem. problem.tests ≤ max_tests) problems
 
 -- Rejudgings
 
@@ -31,7 +32,7 @@ pub record HasJudging (judgings : ℕ) (member : Member) : Type 0 where
 pub record IsKept (submissions judgings : ℕ) (rejudging : Rejudging) : Type 0 where
   pub known : All (HasSubmission submissions) rejudging.members
   pub judged : All (HasJudging judgings) rejudging.members
-  pub few : length rejudging.members ≤ 400000
+  pub few : length rejudging.members ≤ max_judgings
 
 abbrev pub AreKept : ℕ → ℕ → List Rejudging → Type 0
 AreKept submissions judgings rejudgings = All (IsKept submissions judgings) rejudgings
@@ -39,8 +40,8 @@ AreKept submissions judgings rejudgings = All (IsKept submissions judgings) reju
 -- Replies
 
 -- memory was not wanting
-abbrev pub IsAnswer : Reply → Type 0
-IsAnswer r = r ≢ reply.NoMemory
+abbrev pub HadMemory : Reply → Type 0
+HadMemory r = r ≢ reply.NoMemory
 
 -- the first refusal of a list but for those of submissions that stand in it twice or are busy
 abbrev pub list_refusal : State → List ℕ → Option Reply

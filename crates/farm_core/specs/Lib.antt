@@ -1,2 +1,3 @@
 pub mod FarmShape
+pub mod ContestLayout
 pub mod FarmLayout

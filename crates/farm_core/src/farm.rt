@@ -1,24 +1,19 @@
-ghost use Rattle.std.specs.Prelude.{◌≡◌, length, List};
+ghost use Rattle.std.specs.Prelude.{◌≡◌, ◌≢◌, List, None, IsSome, IfOk, OnErr, length};
+ghost use Rattle.farm_kinds.specs.Actors.{jury_actor};
 ghost use Rattle.farm_kinds.specs.declared.events.Event.{Event};
+ghost use Rattle.farm_kinds.specs.declared.events.Event.TheVariants as events;
 ghost use Rattle.farm_model.specs.State.{SettingsValue, start, public_of};
+ghost use Rattle.farm_model.specs.Refusals.{refusal_of};
+ghost use Rattle.farm_model.specs.Changes.{accepted};
 ghost use Rattle.farm_model.specs.Farm.{Stepped};
 ghost use Rattle.farm_laws.specs.Laws.{KeepsPromise};
+ghost use Rattle.farm_core.specs.FarmShape.{HadMemory};
 
-mod hosts;
-mod judged;
-mod problems;
-mod reading;
-mod rejudgings;
-mod submissions;
-mod verifying;
-
-use crate::places::submission_at;
+use crate::contest::Contest;
+use crate::entries::make_entry;
 use audit_log::Audit;
-use farm_kinds::{Answer, Event, Reply};
-use farm_model::{Filing, Host, Problem, Submission};
+use farm_kinds::{Answer, Event, NoMemory, Reply};
 use farm_settings::Settings;
-use judging_core::Judge;
-use rejudge_book::RejudgeBook;
 use std::alloc::Global;
 use std::marker::Model;
 
@@ -26,14 +21,7 @@ use std::marker::Model;
 #[derive(Drop)]
 pub struct Farm {
     alloc: Global,
-    judge: Judge,
-    verification: bool,
-    problems: Vec<Problem>,
-    hosts: Vec<Host>,
-    submissions: Vec<Submission>,
-    /// One for each judging.
-    filings: Vec<Filing>,
-    book: RejudgeBook,
+    contest: Contest,
     audit: Audit,
 }
 
@@ -56,13 +44,7 @@ impl Farm {
     {
         Farm {
             alloc,
-            judge: Judge::new(alloc, settings.rule(), settings.mode(), settings.lease()),
-            verification: settings.verification(),
-            problems: Vec::new(alloc),
-            hosts: Vec::new(alloc),
-            submissions: Vec::new(alloc),
-            filings: Vec::new(alloc),
-            book: RejudgeBook::new(alloc),
+            contest: Contest::new(alloc, settings),
             audit: Audit::new(alloc),
         }
     }
@@ -81,15 +63,14 @@ impl Farm {
     pub fn submissions(&self) -> u32
         ensures { result ≡ length self.now.submissions }
     {
-        self.submissions.len() as u32
+        self.contest.submissions()
     }
 
     /// What the public sees of a submission. None where no submission has the number.
     pub fn public(&self, submission: u32) -> Option<Answer>
         ensures { result ≡ public_of self.now submission }
     {
-        let submission = submission_at(&self.submissions, submission)?;
-        Some(self.public_answer(submission.current))
+        self.contest.public(submission)
     }
 
     /// The audit log: what the jury did, in order.
@@ -104,41 +85,79 @@ impl Farm {
         ensures { Stepped self.old event.now self.new result }
     {
         match event {
-            Event::Problem { who, name, tests } => self.add_problem(event, who, *name, *tests),
-            Event::Replace { who, name, tests } => self.replace(event, who, *name, *tests),
-            Event::Host { name } => self.bring_up(*name),
+            Event::Problem { .. } | Event::Replace { .. } | Event::Rejudge { .. } =>
+                self.answer_jury(event),
+            Event::Apply { .. } | Event::Cancel { .. } | Event::Verify { .. } => self.answer_jury(
+                event,
+            ),
+            Event::Host { name } => self.contest.bring_up(*name),
             Event::Submit {
                 problem,
                 class,
                 broken,
-            } => self.submit(*problem, *class, *broken),
-            Event::Claim { host } => self.claim(*host),
+            } => self.contest.submit(*problem, *class, *broken),
+            Event::Claim { host } => self.contest.claim(*host),
             Event::Result {
                 host,
                 judging,
                 test,
                 kind,
-            } => self.result(*host, *judging, *test, *kind),
+            } => self.contest.result(*host, *judging, *test, *kind),
             Event::Entry {
                 judging,
                 test,
                 kind,
-            } => self.enter(*judging, *test, *kind),
+            } => self.contest.enter(*judging, *test, *kind),
             Event::Renew {
                 host,
                 judging,
                 test,
-            } => self.renew(*host, *judging, *test),
-            Event::Tick { moment } => self.tick(*moment),
-            Event::Down { host } => self.bring_down(*host),
-            Event::Show { judging } => self.show(*judging),
-            Event::Board => self.board(),
-            Event::Rejudge { who, list } => self.rejudge(event, who, list),
-            Event::Matrix { rejudging } => self.matrix(*rejudging),
-            Event::Apply { who, rejudging } => self.apply(event, who, *rejudging),
-            Event::Cancel { who, rejudging } => self.cancel(event, who, *rejudging),
-            Event::Verify { who, judging } => self.verify(event, who, *judging),
+            } => self.contest.renew(*host, *judging, *test),
+            Event::Tick { moment } => self.contest.tick(*moment),
+            Event::Down { host } => self.contest.bring_down(*host),
+            Event::Show { judging } => self.contest.show(*judging),
+            Event::Board => self.contest.board(),
+            Event::Matrix { rejudging } => self.contest.matrix(*rejudging),
             Event::Audit => self.audit_head(),
+        }
+    }
+
+    /// Answers an event of the jury: it is refused, or it is done and entered in the audit log.
+    fn answer_jury(&mut self, event: &Event) -> Reply
+        requires { IsSome (jury_actor event.now) }
+        ensures { Stepped self.old event.now self.new result }
+    {
+        if let Some(refusal) = self.contest.jury_refusal(event) {
+            return refusal;
+        }
+        match self.change(event) {
+            Ok(reply) => reply,
+            Err(NoMemory) => Reply::NoMemory,
+        }
+    }
+
+    /// Does what an event of the jury asks, which is not refused, and enters it in the audit log. Its entry
+    /// is made ready first, so that nothing can fail any more once the contest has changed.
+    fn change(&mut self, event: &Event) -> Result<Reply, NoMemory>
+        requires jurys { IsSome (jury_actor event.now) }
+        requires accepted { refusal_of self.old event.now ≡ None }
+        ensures done { IfOk result (λ reply. accepted self.old event.now ≡ (self.new, reply)) }
+        ensures answers { IfOk result HadMemory }
+        ensures unchanged { OnErr result (self.new ≡ self.old) }
+    {
+        let entry = make_entry(&mut self.audit, self.alloc, event)?;
+        let reply = self.contest.change(event)?;
+        self.audit.add_reserved(&entry.who, entry.words.as_slice());
+        Ok(reply)
+    }
+
+    /// How many entries the audit log has, and its last digest.
+    fn audit_head(&self) -> Reply
+        ensures { Stepped self.now events.Audit self.now result }
+    {
+        Reply::Audit {
+            count: self.audit.len() as u32,
+            head: self.audit.head(),
         }
     }
 }

@@ -2,10 +2,9 @@
 //! event.
 #![tactic(auto)]
 
-mod book;
+mod contest;
 mod entries;
 mod farm;
-mod limits;
 mod lists;
 mod places;
 mod replies;

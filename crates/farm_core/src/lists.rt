@@ -1,16 +1,17 @@
 ghost use Rattle.std.specs.Prelude.{◌≡◌, ◌+◌, ◌++◌, ◌<◌, ◌≤◌, All, IfOk, IsTrue, fold, length, map, vec_len, vec_capacity};
 ghost use Rattle.farm_kinds.specs.declared.outcomes.Class.TheVariants.{Low};
+ghost use Rattle.farm_model.specs.Limits.{max_judgings, max_tests};
 ghost use Rattle.farm_model.specs.Judge.{add_judgings, drop_judging};
 ghost use Rattle.farm_model.specs.Numbered.{item_of};
 ghost use Rattle.farm_model.specs.Rejudgings.{new_judgings};
 ghost use Rattle.farm_model.specs.State.{current_of};
-ghost use Rattle.farm_model.specs.Changes.{cells_of_item, filings_for, with_current};
+ghost use Rattle.farm_model.specs.Changes.{cells_of_item, details_for, with_current};
 ghost use Rattle.judging_core.specs.JudgeValue.{in_state, starts_with, with_judging};
 ghost use Rattle.farm_core.specs.FarmShape.{AreShort, HasJudging, HasSubmission};
 
-use crate::places::{cells_for, submission_at};
+use crate::places::cells_for;
 use farm_kinds::{Class, NoMemory, Numbers};
-use farm_model::{Filing, Member, Problem, Submission};
+use farm_model::{JudgingDetails, Member, Problem, Submission, item_of};
 use judging_core::Judge;
 use std::alloc::Global;
 
@@ -34,7 +35,7 @@ pub fn currents_of(
 fn current_of(submissions: &[Submission], submission: u32) -> u32
     ensures { result ≡ current_of submissions.now submission }
 {
-    match submission_at(submissions, submission) {
+    match item_of(submissions, submission) {
         Some(submission) => submission.current,
         None => 0,
     }
@@ -50,7 +51,7 @@ pub fn cells_of(
     requires { AreShort problems.now }
     ensures cells { IfOk result (λ tests. tests ≡ map (λ n. cells_of_item problems.now (item_of submissions.now n)) list.now) }
     ensures count { IfOk result (λ tests. length tests ≡ length list.now) }
-    ensures short { IfOk result (λ tests. All (λ n. n ≤ 1000) tests) }
+    ensures short { IfOk result (λ tests. All (λ n. n ≤ max_tests) tests) }
 {
     let mut tests = Vec::new(alloc);
     tests.reserve(list.len())?;
@@ -64,9 +65,9 @@ pub fn cells_of(
 fn cells_of_one(problems: &[Problem], submissions: &[Submission], submission: u32) -> u32
     requires { AreShort problems.now }
     ensures cells { result ≡ cells_of_item problems.now (item_of submissions.now submission) }
-    ensures short { result ≤ 1000 }
+    ensures short { result ≤ max_tests }
 {
-    match submission_at(submissions, submission) {
+    match item_of(submissions, submission) {
         Some(submission) => cells_for(problems, submission.problem, submission.broken) as u32,
         None => 0,
     }
@@ -75,39 +76,25 @@ fn cells_of_one(problems: &[Problem], submissions: &[Submission], submission: u3
 /// Adds a judging for each of these numbers of tests, for which there is room.
 pub fn add_judgings(judge: &mut Judge, tests: &[u32])
     requires reserved { judge.old.reserved ≡ tests.now }
-    requires few { length judge.old.state.judgings + length tests.now ≤ 400000 }
-    requires short { All (λ n. n ≤ 1000) tests.now }
+    requires few { length judge.old.state.judgings + length tests.now ≤ max_judgings }
+    requires short { All (λ n. n ≤ max_tests) tests.now }
     ensures state { judge.new.state ≡ add_judgings judge.old.state Low tests.now }
     ensures count { length judge.new.state.judgings ≡ length judge.old.state.judgings + length tests.now }
     ensures hosts { judge.new.hosts ≡ judge.old.hosts }
 {
     for count in tests {
-        add_reserved(judge, *count as u16);
+        judge.add_reserved(Class::Low, *count as u16);
     }
 }
 
-/// Adds a judging, for which there is room.
-fn add_reserved(judge: &mut Judge, tests: u16)
-    requires reserved { IsTrue (starts_with judge.old.reserved tests) }
-    requires few { length judge.old.state.judgings < 400000 }
-    requires short { tests ≤ 1000 }
-    ensures { judge.new ≡ with_judging judge.old Low tests }
-{
-    match judge.add_judging(Class::Low, tests) {
-        Ok(_) => {}
-        // There is room for it.
-        Err(NoMemory) => {}
-    }
-}
-
-/// Adds the filings of judgings that belong to the rejudging of this number, one for each submission of the
+/// Adds the details of judgings that belong to the rejudging of this number, one for each submission of the
 /// list, for which there is room.
-pub fn file_judgings(filings: &mut Vec<Filing>, rejudging: u32, list: &[u32])
-    requires { vec_len filings.old + length list.now ≤ vec_capacity filings.old }
-    ensures { filings.new.items ≡ filings.old.items ++ filings_for rejudging list.now }
+pub fn add_details(details: &mut Vec<JudgingDetails>, rejudging: u32, list: &[u32])
+    requires { vec_len details.old + length list.now ≤ vec_capacity details.old }
+    ensures { details.new.items ≡ details.old.items ++ details_for rejudging list.now }
 {
     for submission in list {
-        filings.push_reserved(Filing {
+        details.push_reserved(JudgingDetails {
             submission: *submission,
             rejudging: Some(rejudging),
             verified: false,

@@ -1,12 +1,13 @@
-ghost use Rattle.std.specs.Prelude.{◌≡◌, ◌<◌, ◌≤◌, ◌&&◌, length, position, IfSome, option_copied};
+ghost use Rattle.std.specs.Prelude.{◌≡◌, ◌<◌, ◌≤◌, ◌&&◌, length, position, IfSome};
 ghost use Rattle.std.specs.Str.{bytes_eq};
-ghost use Rattle.farm_model.specs.Numbered.{item_of, with_change};
+ghost use Rattle.farm_model.specs.Limits.{max_tests};
+ghost use Rattle.farm_model.specs.Numbered.{with_change};
 ghost use Rattle.farm_model.specs.State.{is_verified};
 ghost use Rattle.farm_model.specs.Changes.{cells_for, mark_verified};
 ghost use Rattle.farm_core.specs.FarmShape.{AreShort};
 
 use farm_kinds::Name;
-use farm_model::{Filing, Host, Problem, Submission};
+use farm_model::{Host, JudgingDetails, Problem, item_of};
 
 /// Where the problem of this name stands.
 pub fn place_of(problems: &[Problem], name: &Name) -> Option<usize>
@@ -32,65 +33,35 @@ pub fn up_place(hosts: &[Host], name: &Name) -> Option<usize>
     hosts.iter().position(|host| host.name == *name && host.up)
 }
 
-/// The problem of this number.
-fn problem_at(problems: &[Problem], number: u32) -> Option<&Problem>
-    ensures { option_copied result ≡ item_of problems.now number }
-{
-    if number == 0 {
-        return None;
-    }
-    problems.get(number as usize - 1)
-}
-
-/// The submission of this number.
-pub fn submission_at(submissions: &[Submission], number: u32) -> Option<&Submission>
-    ensures { option_copied result ≡ item_of submissions.now number }
-{
-    if number == 0 {
-        return None;
-    }
-    submissions.get(number as usize - 1)
-}
-
 /// Whether the judging of this number is verified.
-pub fn is_verified(filings: &[Filing], judging: u32) -> bool
-    ensures { result ≡ is_verified filings.now judging }
+pub fn is_verified(details: &[JudgingDetails], judging: u32) -> bool
+    ensures { result ≡ is_verified details.now judging }
 {
-    match filing_at(filings, judging) {
-        Some(filing) => filing.verified,
+    match item_of(details, judging) {
+        Some(judged) => judged.verified,
         None => false,
     }
 }
 
-/// The filing of the judging of this number.
-fn filing_at(filings: &[Filing], number: u32) -> Option<&Filing>
-    ensures { option_copied result ≡ item_of filings.now number }
-{
-    if number == 0 {
-        return None;
-    }
-    filings.get(number as usize - 1)
-}
-
 /// Marks a judging as verified.
-pub fn mark_verified(filings: &mut [Filing], judging: u32)
-    ensures { filings.new ≡ with_change filings.old judging mark_verified }
+pub fn mark_verified(details: &mut [JudgingDetails], judging: u32)
+    ensures { details.new ≡ with_change details.old judging mark_verified }
 {
-    if judging == 0 || judging as usize > filings.len() {
+    if judging == 0 || judging as usize > details.len() {
         return;
     }
-    filings[judging as usize - 1].verified = true;
+    details[judging as usize - 1].verified = true;
 }
 
 /// How many cells a judging of the problem has.
 pub fn cells_for(problems: &[Problem], problem: u32, broken: bool) -> u16
     ensures cells { result ≡ cells_for problems.now problem broken }
-    ensures short { AreShort problems.now → result ≤ 1000 }
+    ensures short { AreShort problems.now → result ≤ max_tests }
 {
     if broken {
         return 0;
     }
-    match problem_at(problems, problem) {
+    match item_of(problems, problem) {
         Some(problem) => problem.tests,
         None => 0,
     }

@@ -3,8 +3,7 @@ ghost use Rattle.farm_kinds.specs.declared.events.Reply.TheVariants as reply;
 ghost use Rattle.farm_model.specs.Refusals.{claim_reply, count_reply, renewed_reply};
 ghost use Rattle.farm_core.specs.FarmShape.{fault_reply};
 
-use crate::limits::MAX_HELD;
-use farm_kinds::{Claim, Count, Renewed, Reply};
+use farm_kinds::{Claim, Count, MAX_HELD, Renewed, Reply};
 use rejudge_book::BookFault;
 
 /// What becomes of a result, as a reply.

@@ -5,8 +5,6 @@ use farm_settings::{Settings, read_settings};
 use std::alloc::Global;
 use std::test::Fail;
 
-const CORRECT: Answer = Answer::Final(Verdict::Tests(Kind::Correct));
-
 const WRONG_ANSWER: Answer = Answer::Final(Verdict::Tests(Kind::WrongAnswer));
 
 /// A line, and what it is answered.
@@ -79,13 +77,6 @@ const REFUSALS: [Line; 41] = [
     ("matrix 1", "correct wrong-answer 1\nmatrix 1"),
 ];
 
-#[test]
-fn refusals_of_rejudgings_come_in_their_order(rt: HostRuntime) -> Result<(), Fail> {
-    let mut farm = Farm::new(rt.alloc(), Settings::standard());
-    assert_eq!(rt; first_other(rt.alloc(), &mut farm, &REFUSALS)?, None);
-    Ok(())
-}
-
 const AUDITED: [Line; 14] = [
     (
         "audit",
@@ -120,19 +111,7 @@ const TEXTS: [&str; 4] = [
     "bob replace A 2",
 ];
 
-#[test]
-fn what_the_jury_does_is_audited(rt: HostRuntime) -> Result<(), Fail> {
-    let mut farm = Farm::new(rt.alloc(), Settings::standard());
-    assert_eq!(rt; first_other(rt.alloc(), &mut farm, &AUDITED)?, None);
-    let entries = farm.audit().entries();
-    assert_eq!(rt; entries.len(), TEXTS.len());
-    for (entry, text) in entries.iter().zip(TEXTS) {
-        assert_eq!(rt; entry.text.as_slice(), text.as_bytes());
-    }
-    Ok(())
-}
-
-const VERIFIED: [Line; 14] = [
+const VERIFIED: [Line; 15] = [
     ("problem A 1", "problem A version 1"),
     ("submit A", "submission 1 judging 1"),
     ("record 1 1 correct", "counted"),
@@ -147,30 +126,26 @@ const VERIFIED: [Line; 14] = [
     ("board", "1 pending\nboard 1"),
     ("show 2", "final wrong-answer"),
     ("matrix 1", "correct wrong-answer 1\nmatrix 1"),
+    ("verify 2", "verified 2"),
 ];
 
 #[test]
-fn the_public_sees_what_is_verified(rt: HostRuntime) -> Result<(), Fail> {
-    let Ok(settings) = read_settings(rt.alloc(), b"{\"verification_required\": true}") else {
+fn lines_of_the_jury_are_answered_as_they_should_be(rt: HostRuntime) -> Result<(), Fail> {
+    let alloc = rt.alloc();
+    let mut refusing = Farm::new(alloc, Settings::standard());
+    assert_eq!(rt; first_other(alloc, &mut refusing, &REFUSALS)?, None);
+    let mut audited = Farm::new(alloc, Settings::standard());
+    assert_eq!(rt; first_other(alloc, &mut audited, &AUDITED)?, None);
+    for (entry, text) in audited.audit().entries().iter().zip(TEXTS) {
+        assert_eq!(rt; entry.text.as_slice(), text.as_bytes());
+    }
+    let Ok(settings) = read_settings(alloc, b"{\"verification_required\": true}") else {
         panic!(rt; "the settings are refused");
     };
-    let mut farm = Farm::new(rt.alloc(), settings);
-    assert_eq!(rt; first_other(rt.alloc(), &mut farm, &VERIFIED)?, None);
-    assert_eq!(rt; farm.submissions(), 1);
-    assert_eq!(rt; farm.public(1), Some(Answer::Pending));
-    let last = [("verify 2", "verified 2")];
-    assert_eq!(rt; first_other(rt.alloc(), &mut farm, &last)?, None);
-    assert_eq!(rt; farm.public(1), Some(WRONG_ANSWER));
-    assert_eq!(rt; (farm.public(0), farm.public(2)), (None, None));
-    Ok(())
-}
-
-#[test]
-fn the_public_sees_all_where_none_verifies(rt: HostRuntime) -> Result<(), Fail> {
-    let farm = farm_of(rt.alloc(), 2);
-    assert_eq!(rt; (farm.public(0), farm.public(3)), (None, None));
-    assert_eq!(rt; farm.public(1), Some(CORRECT));
-    assert_eq!(rt; farm.public(2), Some(CORRECT));
+    let mut verified = Farm::new(alloc, settings);
+    assert_eq!(rt; first_other(alloc, &mut verified, &VERIFIED)?, None);
+    assert_eq!(rt; verified.public(1), Some(WRONG_ANSWER));
+    assert_eq!(rt; (verified.public(0), verified.public(2)), (None, None));
     Ok(())
 }
 
@@ -232,89 +207,26 @@ fn enter_all(farm: &mut Farm, first: u32, last: u32, kind: Kind) {
     }
 }
 
+/// Has 10,000 submissions judged anew, and closes that rejudging: what is answered, and how many of the
+/// submissions are seen as wrong then.
+fn close_ten_thousand(alloc: Global, close: &Event) -> Result<(Reply, u32), NoMemory> {
+    let mut farm = farm_of(alloc, 10_000);
+    let _ = rejudge(alloc, &mut farm, 10_000)?;
+    enter_all(&mut farm, 10_001, 20_000, Kind::WrongAnswer);
+    let reply = farm.step(close);
+    Ok((reply, seen(&farm, WRONG_ANSWER)))
+}
+
 #[test]
-fn ten_thousand_judgings_are_applied_at_once(rt: HostRuntime) -> Result<(), Fail> {
-    let mut farm = farm_of(rt.alloc(), 10_000);
+fn ten_thousand_judgings_are_closed_at_once(rt: HostRuntime) -> Result<(), Fail> {
     let who = Name::jury();
-    let prepared = Reply::Rejudging {
-        number: 1,
-        first: 10_001,
-        last: 20_000,
-    };
-    let reply = rejudge(rt.alloc(), &mut farm, 10_000)?;
-    assert!(rt; is_same(rt.alloc(), &reply, &prepared)?);
-    enter_all(&mut farm, 10_001, 19_999, Kind::WrongAnswer);
-    let unfinished = farm.step(&Event::Apply { who, rejudging: 1 });
-    assert!(rt; matches!(&unfinished, Reply::Unfinished { judging: 20_000 }));
-    assert_eq!(rt; seen(&farm, CORRECT), 10_000);
-    enter_all(&mut farm, 20_000, 20_000, Kind::WrongAnswer);
-    assert_eq!(rt; seen(&farm, CORRECT), 10_000);
-    let applied = farm.step(&Event::Apply { who, rejudging: 1 });
+    let apply = Event::Apply { who, rejudging: 1 };
+    let (applied, wrong) = close_ten_thousand(rt.alloc(), &apply)?;
     assert!(rt; matches!(&applied, Reply::Applied { members: 10_000 }));
-    assert_eq!(rt; seen(&farm, WRONG_ANSWER), 10_000);
-    Ok(())
-}
-
-#[test]
-fn ten_thousand_judgings_are_dropped(rt: HostRuntime) -> Result<(), Fail> {
-    let mut farm = farm_of(rt.alloc(), 10_000);
-    let who = Name::jury();
-    let _ = rejudge(rt.alloc(), &mut farm, 10_000)?;
-    enter_all(&mut farm, 10_001, 15_000, Kind::WrongAnswer);
-    let cancelled = farm.step(&Event::Cancel { who, rejudging: 1 });
+    assert_eq!(rt; wrong, 10_000);
+    let cancel = Event::Cancel { who, rejudging: 1 };
+    let (cancelled, wrong) = close_ten_thousand(rt.alloc(), &cancel)?;
     assert!(rt; matches!(&cancelled, Reply::Cancelled { members: 10_000 }));
-    assert_eq!(rt; seen(&farm, CORRECT), 10_000);
-    let late = farm.step(&Event::Entry {
-        judging: 20_000,
-        test: 1,
-        kind: Kind::WrongAnswer,
-    });
-    assert!(rt; matches!(&late, Reply::Dropped));
-    let again = rejudge(rt.alloc(), &mut farm, 10_000)?;
-    assert!(rt; matches!(&again, Reply::Rejudging { number: 2, .. }));
-    Ok(())
-}
-
-/// Whether the replies have the same text.
-fn is_same(alloc: Global, one: &Reply, other: &Reply) -> Result<bool, NoMemory> {
-    let one = write_reply(alloc, one)?;
-    let other = write_reply(alloc, other)?;
-    Ok(one.as_slice() == other.as_slice())
-}
-
-#[test]
-fn no_more_than_10_000_rejudgings(rt: HostRuntime) -> Result<(), Fail> {
-    let mut farm = farm_of(rt.alloc(), 1);
-    let who = Name::jury();
-    for rejudging in 1..=10_000 {
-        let reply = rejudge(rt.alloc(), &mut farm, 1)?;
-        assert!(rt; matches!(&reply, Reply::Rejudging { .. }));
-        let _ = farm.step(&Event::Cancel { who, rejudging });
-    }
-    let reply = answer(rt.alloc(), &mut farm, "rejudge 1,1")?;
-    assert_eq!(rt; reply.as_slice(), b"full 10000".as_slice());
-    Ok(())
-}
-
-#[test]
-fn no_more_than_400_000_judgings(rt: HostRuntime) -> Result<(), Fail> {
-    let mut farm = farm_of(rt.alloc(), 10_000);
-    let who = Name::jury();
-    for rejudging in 1..=38 {
-        let _ = rejudge(rt.alloc(), &mut farm, 10_000)?;
-        let _ = farm.step(&Event::Cancel { who, rejudging });
-    }
-    let _ = rejudge(rt.alloc(), &mut farm, 9_999)?;
-    let reply = answer(rt.alloc(), &mut farm, "rejudge 1,1")?;
-    assert_eq!(rt; reply.as_slice(), b"full 400000".as_slice());
-    let reply = answer(rt.alloc(), &mut farm, "rejudge 1")?;
-    assert_eq!(rt; reply.as_slice(), b"busy 1 39".as_slice());
-    let reply = answer(rt.alloc(), &mut farm, "rejudge 10000")?;
-    assert_eq!(rt;
-        reply.as_slice(),
-        b"rejudging 40 judgings 400000 to 400000".as_slice()
-    );
-    let reply = answer(rt.alloc(), &mut farm, "submit jury")?;
-    assert_eq!(rt; reply.as_slice(), b"full 400000".as_slice());
+    assert_eq!(rt; wrong, 0);
     Ok(())
 }

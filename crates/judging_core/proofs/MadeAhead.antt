@@ -6,23 +6,23 @@ use Rattle.std.proofs.lemmas.Bool.Decides.{nat_tests}
 use Rattle.farm_kinds.specs.declared.outcomes.Class.{Class}
 use Rattle.farm_model.specs.Judgings.{Judging, empty_judging}
 use Rattle.judging_core.specs.JudgeValue.{starts_with, left_reserved}
-use Rattle.judging_core.specs.JudgeShape.{judging_value, tests_of, reserved_of, IsPrepared}
+use Rattle.judging_core.specs.JudgeShape.{judging_value, cell_count, reserved_of, IsPrepared}
 use Rattle.judging_core.specs.declared.judgings.KeptJudging.{KeptJudging}
 
 -- the one that is pushed is the next one
-reserved_push : (prepared : List KeptJudging) (kept : KeptJudging) → reserved_of (prepared ++ kept ∷ []) ≡ tests_of kept ∷ reserved_of prepared
-reserved_push prepared kept = ap reverse (map-append tests_of prepared (kept ∷ [])) ∙ reverse-append (map tests_of prepared) (tests_of kept ∷ [])
+reserved_push : (prepared : List KeptJudging) (kept : KeptJudging) → reserved_of (prepared ++ kept ∷ []) ≡ cell_count kept ∷ reserved_of prepared
+reserved_push prepared kept = ap reverse (map-append cell_count prepared (kept ∷ [])) ∙ reverse-append (map cell_count prepared) (cell_count kept ∷ [])
 
 first_is : (next tests : ℕ) (others : List ℕ) → starts_with (next ∷ others) tests ≡ true → next ≡ tests
 first_is next tests others h = grind (arith, nat_tests, h)
 
 -- the one that is popped has the number of tests that was asked for
-pub next_tests : (all prepared : List KeptJudging) (kept : KeptJudging) (tests : ℕ) → all ≡ prepared ++ kept ∷ [] → starts_with (reserved_of all) tests ≡ true → tests_of kept ≡ tests
+pub next_tests : (all prepared : List KeptJudging) (kept : KeptJudging) (tests : ℕ) → all ≡ prepared ++ kept ∷ [] → starts_with (reserved_of all) tests ≡ true → cell_count kept ≡ tests
 next_tests all prepared kept tests e h =
-    first_is (tests_of kept) tests (reserved_of prepared) (ap (λ reserved. starts_with reserved tests) (sym (ap reserved_of e ∙ reserved_push prepared kept)) ∙ h)
+    first_is (cell_count kept) tests (reserved_of prepared) (ap (λ reserved. starts_with reserved tests) (sym (ap reserved_of e ∙ reserved_push prepared kept)) ∙ h)
 
 -- the class of what is made ahead is set when it is used
-pub other_class : (kept : KeptJudging) (class : Class) (tests : ℕ) → IsPrepared kept → tests_of kept ≡ tests → judging_value (record kept { class = class }) ≡ empty_judging class tests
+pub other_class : (kept : KeptJudging) (class : Class) (tests : ℕ) → IsPrepared kept → cell_count kept ≡ tests → judging_value (record kept { class = class }) ≡ empty_judging class tests
 other_class kept class tests h e = ap (λ (j : Judging). record j { class = class }) h.empty ∙ ap (empty_judging class) e
 
 pub none_left : (reserved : List ℕ) (tests : ℕ) → starts_with reserved tests ≡ false → left_reserved reserved tests ≡ []

@@ -28,15 +28,15 @@ abbrev pub is_served : Class → Judging → Bool
 is_served class judging = not judging.dropped && same_class judging.class class
 
 -- the first open task of the judging of this number, if it is of the class
-abbrev pub first_of : RuleValue → Mode → List Lease → Class → ℕ → Judging → Option Task
-first_of rule mode leases class n judging =
+abbrev pub first_open_in : RuleValue → Mode → List Lease → Class → ℕ → Judging → Option Task
+first_open_in rule mode leases class n judging =
     if is_served class judging then first_open_of (is_wanted rule mode judging.row) leases n 1 judging.row else None
 
 -- the first open task of the class, among judgings that are numbered from n on
 abbrev pub first_from : RuleValue → Mode → List Lease → Class → ℕ → List Judging → Option Task
 first_from rule mode leases class n [] = None
 first_from rule mode leases class n (judging ∷ judgings) =
-    option_or (first_of rule mode leases class n judging) (first_from rule mode leases class (n + 1) judgings)
+    option_or (first_open_in rule mode leases class n judging) (first_from rule mode leases class (n + 1) judgings)
 
 -- a free task on a cell of the judging
 pub record IsOpenIn (kept : KeptJudging) (leases : List Lease) (judging : ℕ) (task : Task) : Type 0 where

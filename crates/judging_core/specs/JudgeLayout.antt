@@ -1,9 +1,10 @@
 -- How a judge lies in memory.
 use Rattle.std.specs.Prelude.{◌≤◌, ◌<◌, ◌+◌, ◌*◌, ◌^◌, length, vec_len, vec_capacity}
+use Rattle.farm_model.specs.Limits.{max_hosts, max_judgings, max_held}
 use Rattle.farm_model.specs.Judge.{JudgeState}
 use Rattle.lease_book.specs.Book.{room}
 use Rattle.judging_core.specs.JudgeValue.{JudgeValue}
-use Rattle.judging_core.specs.JudgeShape.{judging_values, AreShort, AreRuledBy, reserved_of, ArePrepared}
+use Rattle.judging_core.specs.JudgeShape.{judging_values, AreWellKept, AreRuledBy, reserved_of, ArePrepared}
 use Rattle.judging_core.specs.Holding.{IsHeldWell}
 use Rattle.judging_core.specs.declared.judge.Judge.TheInside.{Inside}
 
@@ -17,14 +18,14 @@ pub record IsJudgeLayout (a : Inside) : Type 0 where
   pub some : 1 ≤ a.lease
   pub short : a.lease ≤ 1000000
   pub moment : a.moment < 10 ^ 18
-  pub few : length a.judgings.items ≤ 400000
-  pub rows : AreShort a.judgings.items
+  pub few : length a.judgings.items ≤ max_judgings
+  pub rows : AreWellKept a.judgings.items
   -- each row is judged by the judge's rule
   pub ruled : AreRuledBy a.rule a.judgings.items
-  pub few_hosts : a.hosts ≤ 1000
+  pub few_hosts : a.hosts ≤ max_hosts
   pub held : IsHeldWell a.hosts a.leases.leases
   -- 64 leases for each host
-  pub roomy : 64 * a.hosts ≤ room a.leases
+  pub roomy : max_held * a.hosts ≤ room a.leases
   -- what is made ahead
   pub prepared : ArePrepared a.prepared.items
   pub prepared_ruled : AreRuledBy a.rule a.prepared.items

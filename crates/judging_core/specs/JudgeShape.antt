@@ -2,6 +2,7 @@
 use Rattle.std.specs.Prelude.{◌≡◌, ℕ, ◌≤◌, List, map, reverse, length, All}
 use Rattle.farm_kinds.specs.declared.kinds.Kind.{Kind}
 use Rattle.farm_kinds.specs.RuleValue.{RuleValue}
+use Rattle.farm_model.specs.Limits.{max_tests}
 use Rattle.farm_model.specs.Judgings.{Judging, empty_judging}
 use Rattle.lazy_stop.specs.Matters.{IsPossible}
 use Rattle.judging_core.specs.declared.judgings.KeptJudging.{KeptJudging}
@@ -13,12 +14,12 @@ abbrev pub judging_values : List KeptJudging → List Judging
 judging_values judgings = map judging_value judgings
 
 -- at most 1,000 cells, and for each whether its task was ever handed out
-pub record IsShort (kept : KeptJudging) : Type 0 where
-  pub cells : length kept.row.cells ≤ 1000
+pub record IsWellKept (kept : KeptJudging) : Type 0 where
+  pub cells : length kept.row.cells ≤ max_tests
   pub marks : length kept.handed.items ≡ length kept.row.cells
 
-abbrev pub AreShort : List KeptJudging → Type 0
-AreShort judgings = All IsShort judgings
+abbrev pub AreWellKept : List KeptJudging → Type 0
+AreWellKept judgings = All IsWellKept judgings
 
 -- its row is judged by this rule
 abbrev pub IsRuledBy : RuleValue → KeptJudging → Type 0
@@ -36,17 +37,17 @@ CanAllHold kind judgings = All (CanHold kind) judgings
 
 -- Judgings that are made ahead, the next one last
 
-abbrev pub tests_of : KeptJudging → ℕ
-tests_of kept = length kept.row.cells
+abbrev pub cell_count : KeptJudging → ℕ
+cell_count kept = length kept.row.cells
 
 -- their numbers of tests, the next one first
 abbrev pub reserved_of : List KeptJudging → List ℕ
-reserved_of prepared = reverse (map tests_of prepared)
+reserved_of prepared = reverse (map cell_count prepared)
 
 -- nothing of it was handed out or judged
 pub record IsPrepared (kept : KeptJudging) : Type 0 where
-  pub empty : judging_value kept ≡ empty_judging kept.class (tests_of kept)
-  pub short : IsShort kept
+  pub empty : judging_value kept ≡ empty_judging kept.class (cell_count kept)
+  pub short : IsWellKept kept
 
 abbrev pub ArePrepared : List KeptJudging → Type 0
 ArePrepared prepared = All IsPrepared prepared

@@ -1,10 +1,11 @@
-ghost use Rattle.std.specs.Prelude.{◌≡◌, ◌+◌, ◌≤◌, ◌<◌, length, All, IfOk, IfNone, OnOk, OnErr, IsOk, IsTrue};
+ghost use Rattle.std.specs.Prelude.{◌≡◌, Some, None, ◌+◌, ◌≤◌, ◌<◌, length, All, IfOk, IfNone, OnOk, OnErr, IsOk, IsTrue};
 ghost use Rattle.farm_kinds.specs.Rules.{remap_of};
 ghost use Rattle.farm_model.specs.Leases.{left_after, ended_at, is_held_by};
-ghost use Rattle.farm_model.specs.Judge.{answer_of_judging, judge_claim, judge_enter, judge_result, judge_renew, judge_tick, judge_down, drop_judging, renew_refusal};
+ghost use Rattle.farm_model.specs.Limits.{max_tests, max_hosts, max_judgings};
+ghost use Rattle.farm_model.specs.Judge.{answer_of_judging, counted, judge_claim, judge_enter, judge_result, judge_renew, judge_tick, judge_down, drop_judging, renew_refusal};
 ghost use Rattle.lazy_stop.specs.Matters.{IsPossible};
 ghost use Rattle.lease_book.specs.Book.{room};
-ghost use Rattle.farm_model.specs.Judgings.{is_dropped};
+ghost use Rattle.farm_model.specs.Judgings.{cell_of, is_dropped};
 ghost use Rattle.judging_core.specs.JudgeValue.{first_judge, in_state, with_judging, starts_with};
 
 use crate::judgings::{
@@ -12,15 +13,15 @@ use crate::judgings::{
     mark_handed, result_refusal,
 };
 use crate::open::first_open;
-use crate::prepared::{prepared_judgings, take_prepared};
-use farm_kinds::{Answer, Claim, Class, Count, Kind, Mode, NoMemory, Numbers, Renewed, Rule, Task};
+use crate::prepared::{is_next, prepared_judgings, take_prepared};
+use farm_kinds::{
+    Answer, Claim, Class, Count, Kind, MAX_HELD, Mode, NoMemory, Numbers, Renewed, Rule, Task,
+};
 use lazy_stop::remapped_is_possible;
 use lease_book::LeaseBook;
 use std::alloc::Global;
 use std::marker::Model;
 
-/// The most leases that a host holds.
-const MAX_HELD: u32 = 64;
 /// The moment past which time does not go on, in seconds: 10^18 - 1.
 const LAST_MOMENT: u64 = 999_999_999_999_999_999;
 
@@ -82,7 +83,7 @@ impl Judge {
     /// Makes room ahead for judgings of these numbers of tests. The next calls of `add_judging`, the i-th of
     /// them with the i-th number, take no memory then. The new room replaces what was reserved before.
     pub fn reserve(&mut self, tests: &Numbers) -> Result<(), NoMemory>
-        requires { All (λ n. n ≤ 1000) tests.now }
+        requires { All (λ n. n ≤ max_tests) tests.now }
         ensures ok { OnOk result (self.new ≡ record self.old { reserved = tests.now }) }
         ensures err { OnErr result (self.new ≡ self.old) }
     {
@@ -95,16 +96,15 @@ impl Judge {
     /// Adds a judging of this many tests, none for a broken submission, and answers its number. Where the
     /// next judging for which there is room has another number of tests, no room is left after it.
     pub fn add_judging(&mut self, class: Class, tests: u16) -> Result<u32, NoMemory>
-        requires few { length self.old.state.judgings < 400000 }
-        requires short { tests ≤ 1000 }
+        requires few { length self.old.state.judgings < max_judgings }
+        requires short { tests ≤ max_tests }
         ensures number { IfOk result (λ j. j ≡ length self.old.state.judgings + 1) }
         ensures added { IfOk result (λ j. self.new ≡ with_judging self.old class tests) }
         ensures kept { IsTrue (starts_with self.old.reserved tests) → IsOk result }
         ensures unchanged { OnErr result (self.new ≡ self.old) }
     {
-        if let Some(judging) = take_prepared(&mut self.prepared, class, tests) {
-            self.judgings.push_reserved(judging);
-            return Ok(self.judgings.len() as u32);
+        if is_next(&self.prepared, tests) {
+            return Ok(self.add_reserved(class, tests));
         }
         let judging = empty_judging(self.alloc, self.rule, class, tests)?;
         self.judgings.push(judging).map_err(|_| NoMemory)?;
@@ -112,10 +112,25 @@ impl Judge {
         Ok(self.judgings.len() as u32)
     }
 
+    /// Adds a judging of this many tests, for which there is room, and answers its number.
+    pub fn add_reserved(&mut self, class: Class, tests: u16) -> u32
+        requires few { length self.old.state.judgings < max_judgings }
+        requires short { tests ≤ max_tests }
+        requires reserved { IsTrue (starts_with self.old.reserved tests) }
+        ensures number { result ≡ length self.old.state.judgings + 1 }
+        ensures added { self.new ≡ with_judging self.old class tests }
+    {
+        let Some(judging) = take_prepared(&mut self.prepared, class, tests) else {
+            return 0;
+        };
+        self.judgings.push_reserved(judging);
+        self.judgings.len() as u32
+    }
+
     /// Adds a host, and answers its number. There is room for 64 leases of each host then, so that no
     /// later call of a host takes memory.
     pub fn add_host(&mut self) -> Result<u32, NoMemory>
-        requires { self.old.hosts < 1000 }
+        requires { self.old.hosts < max_hosts }
         ensures number { IfOk result (λ host. host ≡ self.old.hosts + 1) }
         ensures added { IfOk result (λ host. self.new ≡ record self.old { hosts = self.old.hosts + 1 }) }
         ensures unchanged { OnErr result (self.new ≡ self.old) }
@@ -158,12 +173,7 @@ impl Judge {
         if let Some(refusal) = result_refusal(&self.judgings, judging, test, given) {
             return refusal;
         }
-        fill(&mut self.judgings, judging, test, given);
-        self.leases.end(Task {
-            judging,
-            test: test as u16,
-        });
-        Count::Counted
+        self.count(judging, test, given)
     }
 
     /// Enters a result from outside. It counts as its remapped kind, where its cell is empty. The lease on
@@ -176,6 +186,19 @@ impl Judge {
         if let Some(refusal) = entry_refusal(&self.judgings, judging, test, given) {
             return refusal;
         }
+        self.count(judging, test, given)
+    }
+
+    /// Fills the empty cell of the task, and ends the lease on it.
+    fn count(&mut self, judging: u32, test: u32, given: Kind) -> Count
+        requires numbered { 1 ≤ judging }
+        requires known { judging ≤ length self.old.state.judgings }
+        requires empty { cell_of self.old.state.judgings judging test ≡ Some None }
+        requires short { test ≤ max_tests }
+        requires possible { IsPossible self.old.state.rule given }
+        ensures state { self.new ≡ in_state self.old (counted self.old.state judging test given).0 }
+        ensures answer { result ≡ Count.Counted }
+    {
         fill(&mut self.judgings, judging, test, given);
         self.leases.end(Task {
             judging,
@@ -204,7 +227,7 @@ impl Judge {
     /// Why the host cannot renew the lease.
     fn renew_refusal(&self, host: u32, judging: u32, test: u32) -> Option<Renewed>
         ensures refusal { result ≡ renew_refusal self.now.state host judging test }
-        ensures short { IfNone result (test ≤ 1000) }
+        ensures short { IfNone result (test ≤ max_tests) }
     {
         let Some(kept) = judging_at(&self.judgings, judging) else {
             return Some(Renewed::NoJudging);

@@ -1,3 +1,4 @@
+ghost use Rattle.farm_model.specs.Limits.{max_tests};
 ghost use Rattle.std.specs.Prelude.{◌≡◌, ◌≤◌, ◌-◌, length, replicate, slice_get, slice_set, vec_len, vec_capacity, false, IfOk, IfNone, IfSome, OnSome, None, Some, IsSome};
 ghost use Rattle.farm_kinds.specs.RuleValue.{RuleValue};
 ghost use Rattle.farm_model.specs.Rows.{answer_of};
@@ -5,7 +6,7 @@ ghost use Rattle.farm_model.specs.Numbered.{item_of};
 ghost use Rattle.farm_model.specs.Judgings.{kept_count, cell_of, entry_refusal, result_refusal, with_result, with_handed, with_dropped, empty_judging};
 ghost use Rattle.lazy_stop.specs.Matters.{IsPossible};
 ghost use Rattle.judging_core.specs.Refusals.{cell_refusal, is_never_handed};
-ghost use Rattle.judging_core.specs.JudgeShape.{judging_value, judging_values, IsShort, AreShort, IsRuledBy, AreRuledBy, CanAllHold};
+ghost use Rattle.judging_core.specs.JudgeShape.{judging_value, judging_values, IsWellKept, AreWellKept, IsRuledBy, AreRuledBy, CanAllHold};
 
 use farm_kinds::{Answer, Class, Count, Kind, Mode, NoMemory, Rule, Task, Verdict};
 use lazy_stop::Row;
@@ -31,9 +32,9 @@ pub fn empty_judging(
     class: Class,
     tests: u16,
 ) -> Result<KeptJudging, NoMemory>
-    requires { tests ≤ 1000 }
+    requires { tests ≤ max_tests }
     ensures value { IfOk result (λ kept. judging_value kept ≡ empty_judging class tests) }
-    ensures short { IfOk result (λ kept. IsShort kept) }
+    ensures short { IfOk result (λ kept. IsWellKept kept) }
     ensures ruled { IfOk result (λ kept. IsRuledBy rule kept) }
 {
     let row = Row::new(alloc, rule, tests)?;
@@ -55,10 +56,10 @@ fn no_marks(alloc: Global, tests: u16) -> Result<Vec<bool>, NoMemory>
 
 /// The judging of this number.
 pub fn judging_at(judgings: &[KeptJudging], judging: u32) -> Option<&KeptJudging>
-    requires { AreShort judgings.now }
+    requires { AreWellKept judgings.now }
     ensures none { IfNone result (item_of (judging_values judgings.now) judging ≡ None) }
     ensures some { IfSome result (λ kept. item_of (judging_values judgings.now) judging ≡ Some (judging_value kept.now)) }
-    ensures short { IfSome result (λ kept. IsShort kept.now) }
+    ensures short { IfSome result (λ kept. IsWellKept kept.now) }
     ensures numbered { OnSome result (1 ≤ judging) }
     ensures ruled { (rule : RuleValue) → AreRuledBy rule judgings.now → IfSome result (λ kept. IsRuledBy rule kept.now) }
     ensures known { OnSome result (judging ≤ length judgings.now) }
@@ -71,7 +72,7 @@ pub fn judging_at(judgings: &[KeptJudging], judging: u32) -> Option<&KeptJudging
 
 /// The cell of this test.
 pub fn cell_at(kept: &KeptJudging, test: u32) -> Option<Option<Kind>>
-    requires { IsShort kept.now }
+    requires { IsWellKept kept.now }
     ensures cell { result ≡ item_of kept.now.row.cells test }
     ensures numbered { OnSome result (1 ≤ test) }
     ensures known { OnSome result (test ≤ length kept.now.row.cells) }
@@ -89,12 +90,12 @@ pub fn entry_refusal(
     test: u32,
     given: Kind,
 ) -> Option<Count>
-    requires { AreShort judgings.now }
+    requires { AreWellKept judgings.now }
     ensures refusal { result ≡ entry_refusal (judging_values judgings.now) judging test given }
     ensures numbered { IfNone result (1 ≤ judging) }
     ensures known { IfNone result (judging ≤ length judgings.now) }
     ensures empty { IfNone result (cell_of (judging_values judgings.now) judging test ≡ Some None) }
-    ensures short { IfNone result (test ≤ 1000) }
+    ensures short { IfNone result (test ≤ max_tests) }
 {
     let Some(kept) = judging_at(judgings, judging) else {
         return Some(Count::NoJudging);
@@ -112,12 +113,12 @@ pub fn result_refusal(
     test: u32,
     given: Kind,
 ) -> Option<Count>
-    requires { AreShort judgings.now }
+    requires { AreWellKept judgings.now }
     ensures refusal { result ≡ result_refusal (judging_values judgings.now) judging test given }
     ensures numbered { IfNone result (1 ≤ judging) }
     ensures known { IfNone result (judging ≤ length judgings.now) }
     ensures empty { IfNone result (cell_of (judging_values judgings.now) judging test ≡ Some None) }
-    ensures short { IfNone result (test ≤ 1000) }
+    ensures short { IfNone result (test ≤ max_tests) }
 {
     if is_never_handed(judgings, judging, test) {
         return Some(Count::NotHanded);
@@ -127,7 +128,7 @@ pub fn result_refusal(
 
 /// Whether there is such a task, and it was never handed out.
 fn is_never_handed(judgings: &[KeptJudging], judging: u32, test: u32) -> bool
-    requires { AreShort judgings.now }
+    requires { AreWellKept judgings.now }
     ensures { result ≡ is_never_handed (judging_values judgings.now) judging test }
 {
     let Some(kept) = judging_at(judgings, judging) else {
@@ -166,10 +167,10 @@ pub fn fill(judgings: &mut Vec<KeptJudging>, judging: u32, test: u32, given: Kin
     requires numbered { 1 ≤ judging }
     requires known { judging ≤ length judgings.old.items }
     requires empty { cell_of (judging_values judgings.old.items) judging test ≡ Some None }
-    requires short { AreShort judgings.old.items }
+    requires short { AreWellKept judgings.old.items }
     requires possible { CanAllHold given judgings.old.items }
     ensures value { judging_values judgings.new.items ≡ with_result (judging_values judgings.old.items) judging test given }
-    ensures short { AreShort judgings.new.items }
+    ensures short { AreWellKept judgings.new.items }
     ensures ruled { (rule : RuleValue) → AreRuledBy rule judgings.old.items → AreRuledBy rule judgings.new.items }
     ensures count { length judgings.new.items ≡ length judgings.old.items }
     ensures len { vec_len judgings.new ≡ vec_len judgings.old }
@@ -194,9 +195,9 @@ pub fn mark_handed(judgings: &mut Vec<KeptJudging>, task: Task)
     requires numbered { 1 ≤ task.judging }
     requires known { task.judging ≤ length judgings.old.items }
     requires cell { IsSome (cell_of (judging_values judgings.old.items) task.judging task.test) }
-    requires short { AreShort judgings.old.items }
+    requires short { AreWellKept judgings.old.items }
     ensures value { judging_values judgings.new.items ≡ with_handed (judging_values judgings.old.items) task }
-    ensures short { AreShort judgings.new.items }
+    ensures short { AreWellKept judgings.new.items }
     ensures ruled { (rule : RuleValue) → AreRuledBy rule judgings.old.items → AreRuledBy rule judgings.new.items }
     ensures count { length judgings.new.items ≡ length judgings.old.items }
     ensures len { vec_len judgings.new ≡ vec_len judgings.old }
@@ -211,7 +212,7 @@ pub fn mark_dropped(judgings: &mut Vec<KeptJudging>, judging: u32)
     requires numbered { 1 ≤ judging }
     requires known { judging ≤ length judgings.old.items }
     ensures value { judging_values judgings.new.items ≡ with_dropped (judging_values judgings.old.items) judging }
-    ensures short { AreShort judgings.old.items → AreShort judgings.new.items }
+    ensures short { AreWellKept judgings.old.items → AreWellKept judgings.new.items }
     ensures ruled { (rule : RuleValue) → AreRuledBy rule judgings.old.items → AreRuledBy rule judgings.new.items }
     ensures count { length judgings.new.items ≡ length judgings.old.items }
     ensures len { vec_len judgings.new ≡ vec_len judgings.old }
@@ -223,7 +224,7 @@ pub fn mark_dropped(judgings: &mut Vec<KeptJudging>, judging: u32)
 
 /// What is reported of a judging. One of no tests is of a broken submission.
 pub fn answer_of(kept: &KeptJudging, mode: Mode) -> Answer
-    requires { IsShort kept.now }
+    requires { IsWellKept kept.now }
     ensures { result ≡ answer_of kept.now.row.rule mode kept.now.row.cells }
 {
     if kept.handed.is_empty() {

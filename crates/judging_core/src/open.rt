@@ -1,3 +1,4 @@
+ghost use Rattle.farm_model.specs.Limits.{max_tests, max_judgings};
 ghost use Rattle.std.specs.Prelude.{◌≡◌, ◌≤◌, ◌-◌, length, slice_get, true, false, ◌↔◌, IfSome, Option, Some, None};
 ghost use Rattle.farm_kinds.specs.declared.kinds.Kind.{Kind};
 ghost use Rattle.farm_kinds.specs.declared.outcomes.Answer.TheVariants.{Pending};
@@ -5,8 +6,8 @@ ghost use Rattle.farm_kinds.specs.RuleValue.{RuleValue};
 ghost use Rattle.farm_model.specs.Leases.{lease_on};
 ghost use Rattle.farm_model.specs.Rows.{answer_of};
 ghost use Rattle.farm_model.specs.Open.{is_wanted, open_tasks};
-ghost use Rattle.judging_core.specs.FirstOpen.{is_open, first_open_of, first_of, first_from, IsOpenIn, IsOpenTask};
-ghost use Rattle.judging_core.specs.JudgeShape.{judging_value, judging_values, IsShort, AreShort, AreRuledBy};
+ghost use Rattle.judging_core.specs.FirstOpen.{is_open, first_open_of, first_open_in, first_from, IsOpenIn, IsOpenTask};
+ghost use Rattle.judging_core.specs.JudgeShape.{judging_value, judging_values, IsWellKept, AreWellKept, AreRuledBy};
 
 use crate::judgings::{KeptJudging, answer_of};
 use farm_kinds::{Answer, Class, Mode, Task};
@@ -16,8 +17,8 @@ use lease_book::LeaseBook;
 /// The least open task by class, judging and test: one on an empty cell, which lazily can change the
 /// verdict, with no lease.
 pub fn first_open(mode: Mode, judgings: &[KeptJudging], leases: &LeaseBook) -> Option<Task>
-    requires few { length judgings.now ≤ 400000 }
-    requires short { AreShort judgings.now }
+    requires few { length judgings.now ≤ max_judgings }
+    requires short { AreWellKept judgings.now }
     ensures first { (rule : RuleValue) → AreRuledBy rule judgings.now → result ≡ slice_get (open_tasks rule mode (judging_values judgings.now) leases.now.leases) 0 }
     ensures facts { IfSome result (IsOpenTask judgings.now leases.now.leases) }
 {
@@ -33,8 +34,8 @@ fn first_in_class(
     leases: &LeaseBook,
     class: Class,
 ) -> Option<Task>
-    requires few { length judgings.now ≤ 400000 }
-    requires short { AreShort judgings.now }
+    requires few { length judgings.now ≤ max_judgings }
+    requires short { AreWellKept judgings.now }
     ensures first { (rule : RuleValue) → AreRuledBy rule judgings.now → result ≡ first_from rule mode leases.now.leases class 1 (judging_values judgings.now) }
     ensures facts { IfSome result (IsOpenTask judgings.now leases.now.leases) }
 {
@@ -55,8 +56,8 @@ fn first_of_class(
     class: Class,
     judging: u32,
 ) -> Option<Task>
-    requires { IsShort kept.now }
-    ensures first { result ≡ first_of kept.now.row.rule mode leases.now.leases class judging (judging_value kept.now) }
+    requires { IsWellKept kept.now }
+    ensures first { result ≡ first_open_in kept.now.row.rule mode leases.now.leases class judging (judging_value kept.now) }
     ensures facts { IfSome result (IsOpenIn kept.now leases.now.leases judging) }
 {
     if kept.dropped || kept.class != class {
@@ -72,7 +73,7 @@ fn first_in_judging(
     leases: &LeaseBook,
     judging: u32,
 ) -> Option<Task>
-    requires { IsShort kept.now }
+    requires { IsWellKept kept.now }
     ensures first { result ≡ first_open_of (is_wanted kept.now.row.rule mode kept.now.row.cells) leases.now.leases judging 1 kept.now.row.cells }
     ensures facts { IfSome result (IsOpenIn kept.now leases.now.leases judging) }
 {
@@ -84,7 +85,7 @@ fn first_in_judging(
 
 /// Whether the verdict of a judging is reported.
 fn is_final(mode: Mode, kept: &KeptJudging) -> bool
-    requires { IsShort kept.now }
+    requires { IsWellKept kept.now }
     ensures { result ≡ false ↔ (answer_of kept.now.row.rule mode kept.now.row.cells ≡ Pending) }
 {
     match answer_of(kept, mode) {
@@ -95,7 +96,7 @@ fn is_final(mode: Mode, kept: &KeptJudging) -> bool
 
 /// The first open task of a row of this many tests.
 fn first_in_row(mode: Mode, row: &Row, tests: u16, leases: &LeaseBook, judging: u32) -> Option<Task>
-    requires short { tests ≤ 1000 }
+    requires short { tests ≤ max_tests }
     requires all { length row.now.cells ≡ tests }
     ensures first { result ≡ first_open_of (is_wanted row.now.rule mode row.now.cells) leases.now.leases judging 1 row.now.cells }
     ensures judging { IfSome result (λ task. task.judging ≡ judging) }

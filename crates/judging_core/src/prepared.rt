@@ -1,8 +1,9 @@
+ghost use Rattle.farm_model.specs.Limits.{max_tests};
 ghost use Rattle.std.specs.Prelude.{◌≡◌, ◌+◌, ◌++◌, ◌∷◌, ◌≤◌, vec_len, true, false, All, IfOk, IfNone, IfSome, OnOk, OnSome};
 ghost use Rattle.farm_kinds.specs.RuleValue.{RuleValue};
 ghost use Rattle.farm_model.specs.Judgings.{empty_judging};
 ghost use Rattle.judging_core.specs.JudgeValue.{starts_with, left_reserved};
-ghost use Rattle.judging_core.specs.JudgeShape.{judging_value, IsShort, IsRuledBy, AreRuledBy, reserved_of, ArePrepared};
+ghost use Rattle.judging_core.specs.JudgeShape.{judging_value, IsWellKept, IsRuledBy, AreRuledBy, reserved_of, ArePrepared};
 
 use crate::judgings::{KeptJudging, empty_judging};
 use farm_kinds::{Class, NoMemory, Rule};
@@ -14,7 +15,7 @@ pub fn prepared_judgings(
     rule: Rule,
     tests: &[u32],
 ) -> Result<Vec<KeptJudging>, NoMemory>
-    requires { All (λ n. n ≤ 1000) tests.now }
+    requires { All (λ n. n ≤ max_tests) tests.now }
     ensures reserved { IfOk result (λ prepared. reserved_of prepared.items ≡ tests.now) }
     ensures prepared { IfOk result (λ prepared. ArePrepared prepared.items) }
     ensures ruled { IfOk result (λ prepared. AreRuledBy rule prepared.items) }
@@ -35,7 +36,7 @@ fn prepare(
     tests: u16,
     alloc: Global,
 ) -> Result<(), NoMemory>
-    requires short { tests ≤ 1000 }
+    requires short { tests ≤ max_tests }
     requires prepared { ArePrepared prepared.old.items }
     requires ruled { AreRuledBy rule prepared.old.items }
     ensures reserved { OnOk result (reserved_of prepared.new.items ≡ tests ∷ reserved_of prepared.old.items) }
@@ -61,7 +62,7 @@ pub fn take_prepared(
     ensures prepared { OnSome result (ArePrepared prepared.new.items) }
     ensures ruled { (rule : RuleValue) → AreRuledBy rule prepared.old.items → OnSome result (AreRuledBy rule prepared.new.items) }
     ensures value { IfSome result (λ kept. judging_value kept ≡ empty_judging class tests) }
-    ensures short { IfSome result (λ kept. IsShort kept) }
+    ensures short { IfSome result (λ kept. IsWellKept kept) }
     ensures ruled_itself { (rule : RuleValue) → AreRuledBy rule prepared.old.items → IfSome result (λ kept. IsRuledBy rule kept) }
 {
     if !is_next(prepared, tests) {
@@ -73,7 +74,7 @@ pub fn take_prepared(
 }
 
 /// Whether the next judging that is made ahead has this number of tests.
-fn is_next(prepared: &[KeptJudging], tests: u16) -> bool
+pub fn is_next(prepared: &[KeptJudging], tests: u16) -> bool
     requires { ArePrepared prepared.now }
     ensures { result ≡ starts_with (reserved_of prepared.now) tests }
 {

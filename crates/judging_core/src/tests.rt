@@ -1,3 +1,4 @@
+ghost use Rattle.farm_model.specs.Limits.{max_tests};
 ghost use Rattle.std.specs.Prelude.{◌≡◌, ◌∷◌, [], ◌≤◌, ◌<◌, length, true, IfOk, OnOk, OnErr};
 
 use crate::Judge;
@@ -10,7 +11,7 @@ const FINAL_RUN_ERROR: Option<Answer> = Some(Answer::Final(Verdict::Tests(Kind::
 
 /// A judge of leases of a minute, with one judging and two hosts.
 fn judge_by(rt: &HostRuntime, rule: Rule, mode: Mode, tests: u16) -> Result<Judge, NoMemory>
-    requires { tests ≤ 1000 }
+    requires { tests ≤ max_tests }
     ensures { IfOk result (λ judge. judge.hosts ≡ 2) }
 {
     let mut judge = Judge::new(rt.alloc(), rule, mode, 60);
@@ -22,7 +23,7 @@ fn judge_by(rt: &HostRuntime, rule: Rule, mode: Mode, tests: u16) -> Result<Judg
 
 /// The same by the standard rule.
 fn judge_of(rt: &HostRuntime, mode: Mode, tests: u16) -> Result<Judge, NoMemory>
-    requires { tests ≤ 1000 }
+    requires { tests ≤ max_tests }
     ensures { IfOk result (λ judge. judge.hosts ≡ 2) }
 {
     judge_by(rt, Rule::standard(), mode, tests)
@@ -77,7 +78,7 @@ fn add_reserved(
 
 /// Adds a judging where there are not too many.
 fn add(judge: &mut Judge, class: Class, tests: u16) -> Result<u32, NoMemory>
-    requires { tests ≤ 1000 }
+    requires { tests ≤ max_tests }
 {
     if judge.judgings() >= 1000 {
         return Err(NoMemory);

@@ -1,4 +1,3 @@
--- What the marks of submissions say of rejudgings, and keep saying where one is prepared or closed.
 use Rattle.std.proofs.Common.{ℕ, suc, zero, ◌≡◌, ◌≢◌, ◌+◌, ◌-◌, ◌<◌, ◌≤◌, List, [], ◌∷◌, ◌++◌, Option, Some, None, true, false, cond, refl, sym, ap, ◌∙◌, subst, arith, length, map, get_or, set, eqb, inl, inr, ◌&&◌, ◌||◌}
 use Rattle.std.specs.List.{slice_get, All}
 use Rattle.std.specs.Option.{option_map, option_map_or}
@@ -10,13 +9,16 @@ use Rattle.farm_model.specs.declared.records.Member.{Member}
 use Rattle.farm_model.specs.declared.records.Rejudging.{Rejudging}
 use Rattle.farm_model.specs.declared.records.RejudgeState.TheVariants as state
 use Rattle.farm_model.specs.Refusing.{first_of}
-use Rattle.farm_model.specs.Rejudgings.{is_pending, has_member, holds_open, busy_with, members_from, close_as}
+use Rattle.farm_model.specs.Rejudgings.{is_open_state, has_member, holds_open, busy_with, members_from, close_as}
 use Rattle.rejudge_book.specs.declared.faults.BookFault.{BookFault}
 use Rattle.rejudge_book.specs.declared.faults.BookFault.TheVariants as fault
-use Rattle.rejudge_book.specs.Refusals.{IsKnown, AreKnown, busy_fault, busy_refusal}
+use Rattle.rejudge_book.specs.Refusals.{IsKnown, AreKnown}
 use Rattle.rejudge_book.specs.Marks.{mark_of, with_marks, submissions_of, marked, marked_fault, marked_refusal, IsIn, AreMarks}
 use Rattle.rejudge_book.proofs.Places.{passes, passes_before, passes_still, passes_last, passes_set_same, passes_set_other, none_passes, one_passes}
 use Rattle.rejudge_book.proofs.Twice.{has}
+use Rattle.farm_model.specs.Rejudgings.{is_busy, busy_refusal}
+
+-- What the marks of submissions say of rejudgings, and keep saying where one is prepared or closed.
 
 -- the submission's mark is that of the rejudging at a place
 mark_at : (rs : List Rejudging) (marks : List ℕ) (s j : ℕ) → AreMarks rs marks → 1 ≤ s → mark_of marks s ≡ j + 1 → IsIn rs j s
@@ -46,15 +48,15 @@ busy_is_mark rs marks s h some = busy_at rs marks s (mark_of marks s) h some ref
 tail : (n s : ℕ) (list : List ℕ) → AreKnown n (s ∷ list) → AreKnown n list
 tail n s list known = λ k d l. known (suc k) d (omega arith)
 
-faults_are : (rs : List Rejudging) (marks : List ℕ) (n : ℕ) (list : List ℕ) → AreMarks rs marks → AreKnown n list → map (marked_fault marks) list ≡ map (busy_fault rs) list
+faults_are : (rs : List Rejudging) (marks : List ℕ) (n : ℕ) (list : List ℕ) → AreMarks rs marks → AreKnown n list → map (marked_fault marks) list ≡ map (is_busy fault.Busy rs) list
 faults_are rs marks n [] h known = refl
 faults_are rs marks n (s ∷ list) h known =
     let own = known zero 0 (omega arith) in
-    let head : marked_fault marks s ≡ busy_fault rs s = sym (ap (option_map (fault.Busy s)) (busy_is_mark rs marks s h own.numbered)) in
-    ap (λ f. f ∷ map (marked_fault marks) list) head ∙ ap (λ fs. busy_fault rs s ∷ fs) (faults_are rs marks n list h (tail n s list known))
+    let head : marked_fault marks s ≡ is_busy fault.Busy rs s = sym (ap (option_map (fault.Busy s)) (busy_is_mark rs marks s h own.numbered)) in
+    ap (λ f. f ∷ map (marked_fault marks) list) head ∙ ap (λ fs. is_busy fault.Busy rs s ∷ fs) (faults_are rs marks n list h (tail n s list known))
 
 -- the first of the list that is in an open rejudging is the first that has a mark
-pub refusal_is : (rs : List Rejudging) (marks : List ℕ) (n : ℕ) (list : List ℕ) → AreMarks rs marks → AreKnown n list → marked_refusal marks list ≡ busy_refusal rs list
+pub refusal_is : (rs : List Rejudging) (marks : List ℕ) (n : ℕ) (list : List ℕ) → AreMarks rs marks → AreKnown n list → marked_refusal marks list ≡ busy_refusal fault.Busy rs list
 refusal_is rs marks n list h known = ap first_of (faults_are rs marks n list h known)
 
 pub last_of : (o : Option BookFault) → first_of (None ∷ o ∷ []) ≡ o
@@ -146,7 +148,7 @@ known_from n (m ∷ list) h = λ k. elim k as (λ k. (d : ℕ) → k < length (m
 -- the marks of submissions that had none say what they should where a rejudging of these is open
 pub opened : (rs : List Rejudging) (r : Rejudging) (marks list : List ℕ) → AreMarks rs marks → AreKnown (length marks) list → marked_refusal marks list ≡ None → r.state ≡ state.Open → ((s : ℕ) → has_member s r.members ≡ has list s) → AreMarks (rs ++ r ∷ []) (with_marks marks list (length rs + 1))
 opened rs r marks list h known free is_open of_list =
-    let holds_is : (s : ℕ) → holds_open s r ≡ has list s = λ s. ap (λ x. is_pending x && has_member s r.members) is_open ∙ of_list s in
+    let holds_is : (s : ℕ) → holds_open s r ≡ has list s = λ s. ap (λ x. is_open_state x && has_member s r.members) is_open ∙ of_list s in
     record {
       numbered = λ i s t. elim (cases_eq i (length rs)) [
         | inl e ↦ (known_of (length marks) s list known (sym (holds_is s) ∙ (sym (passes_last (holds_open s) rs r) ∙ subst (λ (x : ℕ). passes (holds_open s) (rs ++ r ∷ []) x ≡ true) e t.holds))).numbered
@@ -179,7 +181,7 @@ opened rs r marks list h known free is_open of_list =
 -- the rejudging at the place is open, and these are its members
 in_it : (rs : List Rejudging) (i s : ℕ) (r : Rejudging) → slice_get rs i ≡ Some r → r.state ≡ state.Open → has_member s r.members ≡ true → IsIn rs i s
 in_it rs i s r at is_open own = record {
-  holds = ap (λ o. option_map_or (holds_open s) o false) at ∙ (ap (λ x. is_pending x && has_member s r.members) is_open ∙ own);
+  holds = ap (λ o. option_map_or (holds_open s) o false) at ∙ (ap (λ x. is_open_state x && has_member s r.members) is_open ∙ own);
 }
 
 -- the members of an open rejudging are known
@@ -231,7 +233,7 @@ marks_closed rs marks i r w h at is_open =
                 let apart : j ≢ i
                 = λ same.
                 let there : passes (holds_open (k + 1)) rs i ≡ true = subst (λ (x : ℕ). passes (holds_open (k + 1)) rs x ≡ true) same was.holds in
-                let own : has_member (k + 1) r.members ≡ true = (and_parts (is_pending r.state) (has_member (k + 1) r.members) (sym (ap (λ o. option_map_or (holds_open (k + 1)) o false) at) ∙ there)).1 in
+                let own : has_member (k + 1) r.members ≡ true = (and_parts (is_open_state r.state) (has_member (k + 1) r.members) (sym (ap (λ o. option_map_or (holds_open (k + 1)) o false) at) ∙ there)).1 in
                 let listed = sym (has_submissions (k + 1) r.members) ∙ own in
                 cc in
                 record { holds = passes_set_other (holds_open (k + 1)) rs i j (close_as w r) apart ∙ was.holds }

@@ -9,12 +9,12 @@ abbrev pub pair_place : Answer × Answer → ℕ
 pair_place pair = 10 * answer_place pair.0 + answer_place pair.1
 
 -- a row by counts that stand at the places of their pairs
-abbrev pub counted_row : List ℕ → Answer → Answer → MatrixRow
-counted_row counts old new = record { old = old; new = new; count = slice_index counts (pair_place (old, new)) }
+abbrev pub matrix_row_at : List ℕ → Answer → Answer → MatrixRow
+matrix_row_at counts old new = record { old = old; new = new; count = slice_index counts (pair_place (old, new)) }
 
 -- the rows of an old answer whose count is above 0, for these new answers in order
-abbrev pub counted_rows : List ℕ → List Answer → Answer → List MatrixRow
-counted_rows counts answers old = filter is_counted (map (counted_row counts old) answers)
+abbrev pub matrix_rows_of : List ℕ → List Answer → Answer → List MatrixRow
+matrix_rows_of counts answers old = filter is_counted (map (matrix_row_at counts old) answers)
 
 -- each pair's count stands at its place
 pub record AreCounts (counts : List ℕ) (pairs : List (Answer × Answer)) : Type 0 where

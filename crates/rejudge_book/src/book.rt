@@ -1,13 +1,14 @@
 ghost use Rattle.std.specs.Prelude.{◌≡◌, ◌+◌, ◌-◌, ◌<◌, ◌≤◌, ◌^◌, length, IfOk, IfErr, OnOk, OnErr, None, Some, option_copied};
 ghost use Rattle.farm_model.specs.Numbered.{item_of};
-ghost use Rattle.farm_model.specs.Rejudgings.{how_closed, members_of, state_of, state_when};
-ghost use Rattle.rejudge_book.specs.Refusals.{AreKnown, IsFault, busy_refusal, close_refusal, prepare_refusal, reserve_refusal};
+ghost use Rattle.farm_model.specs.Rejudgings.{busy_refusal, how_closed, members_of, state_of, state_when};
+ghost use Rattle.rejudge_book.specs.declared.faults.BookFault.TheVariants as fault;
+ghost use Rattle.rejudge_book.specs.Refusals.{AreKnown, IsFault, close_refusal, prepare_refusal, reserve_refusal};
 ghost use Rattle.rejudge_book.specs.Book.{empty_book, with_closed, with_prepared};
 
 use crate::faults::{BookFault, CloseFault};
 use crate::lists::{first_marked, first_twice, mark, write_members};
 use farm_kinds::{How, NoMemory};
-use farm_model::{Member, Members, RejudgeState, Rejudging};
+use farm_model::{Member, Members, RejudgeState, Rejudging, item_of};
 use std::alloc::Global;
 use std::marker::Model;
 use std::mem;
@@ -96,10 +97,21 @@ impl RejudgeBook {
         ensures unchanged { OnErr result (self.new ≡ self.old) }
         ensures needed { OnErr result (self.old.spare ≡ 0) }
     {
-        self.make_place()?;
+        self.reserve_submission()?;
+        self.add_reserved_submission();
+        Ok(())
+    }
+
+    /// Adds a submission, for which there is room.
+    pub fn add_reserved_submission(&mut self)
+        requires room { 1 ≤ self.old.spare }
+        ensures added { self.new.submissions ≡ self.old.submissions + 1 }
+        ensures rejudgings { self.new.rejudgings ≡ self.old.rejudgings }
+        ensures reserved { self.new.reserved ≡ self.old.reserved }
+        ensures room { self.old.spare ≤ self.new.spare + 1 }
+    {
         self.marks.push_reserved(0);
         self.places.push_reserved(0);
-        Ok(())
     }
 
     /// Makes room for one more submission and for a rejudging of these submissions, where such a rejudging
@@ -118,10 +130,10 @@ impl RejudgeBook {
         if let Some(fault) = self.refusal(members) {
             return Err(fault);
         }
-        let Ok(()) = self.make_place() else {
+        let Ok(()) = self.reserve_submission() else {
             return Err(BookFault::NoMemory);
         };
-        let Ok(()) = self.make_room(members.len()) else {
+        let Ok(()) = self.reserve_members(members.len()) else {
             return Err(BookFault::NoMemory);
         };
         Ok(())
@@ -147,10 +159,10 @@ impl RejudgeBook {
         if let Some(fault) = self.refusal(members) {
             return Err(fault);
         }
-        let Ok(()) = self.make_room(members.len()) else {
+        let Ok(()) = self.reserve_members(members.len()) else {
             return Err(BookFault::NoMemory);
         };
-        Ok(self.open(members, olds, first))
+        Ok(self.prepare_reserved(members, olds, first))
     }
 
     /// Closes the rejudging of this number. It takes no memory. At a fault nothing changes.
@@ -160,33 +172,44 @@ impl RejudgeBook {
         ensures closed { OnOk result (self.new ≡ with_closed self.old number how) }
         ensures unchanged { OnErr result (self.new ≡ self.old) }
     {
-        let Some(rejudging) = rejudging_at(&self.rejudgings, number) else {
+        let Some(rejudging) = item_of(&self.rejudgings, number) else {
             return Err(CloseFault::NoRejudging);
         };
         if let Some(how) = how_closed(rejudging.state) {
             return Err(CloseFault::Closed { how });
         }
+        self.close_open(number, how);
+        Ok(())
+    }
+
+    /// Closes the open rejudging of this number.
+    pub fn close_open(&mut self, number: u32, how: How)
+        requires { close_refusal self.old.rejudgings number ≡ None }
+        ensures { self.new ≡ with_closed self.old number how }
+    {
+        let Some(rejudging) = item_of(&self.rejudgings, number) else {
+            return;
+        };
         mark(&mut self.marks, rejudging.members.as_slice(), 0);
         self.rejudgings[number as usize - 1].state = state_when(how);
-        Ok(())
     }
 
     /// The members of the rejudging of this number. None where no rejudging has it.
     pub fn members(&self, number: u32) -> Option<&Members>
         ensures { option_copied result ≡ members_of self.now.rejudgings number }
     {
-        rejudging_at(&self.rejudgings, number).map(|rejudging| &rejudging.members)
+        item_of(&self.rejudgings, number).map(|rejudging| &rejudging.members)
     }
 
     /// Where the rejudging of this number stands. None where no rejudging has it.
     pub fn state(&self, number: u32) -> Option<RejudgeState>
         ensures { result ≡ state_of self.now.rejudgings number }
     {
-        rejudging_at(&self.rejudgings, number).map(|rejudging| rejudging.state)
+        item_of(&self.rejudgings, number).map(|rejudging| rejudging.state)
     }
 
-    /// Why no rejudging of these submissions is prepared, but for the empty list and for want of memory.
-    fn refusal(&mut self, members: &[u32]) -> Option<BookFault>
+    /// Why no rejudging of these submissions can be prepared, but that the list is empty. Nothing changes.
+    pub fn refusal(&mut self, members: &[u32]) -> Option<BookFault>
         requires known { AreKnown self.old.submissions members.now }
         ensures refusal { result ≡ reserve_refusal self.old.rejudgings members.now }
         ensures unchanged { self.new ≡ self.old }
@@ -197,11 +220,12 @@ impl RejudgeBook {
         first_marked(&self.marks, members)
     }
 
-    /// Adds an open rejudging of these submissions, for which there is room, and answers its number.
-    fn open(&mut self, members: &[u32], olds: &[u32], first: u32) -> u32
+    /// Prepares a rejudging, as `prepare` does, for which there is room and no refusal, and answers its
+    /// number.
+    pub fn prepare_reserved(&mut self, members: &[u32], olds: &[u32], first: u32) -> u32
         requires known { AreKnown self.old.submissions members.now }
         requires some { 0 < length members.now }
-        requires free { busy_refusal self.old.rejudgings members.now ≡ None }
+        requires accepted { reserve_refusal self.old.rejudgings members.now ≡ None }
         requires enough { length members.now ≤ self.old.reserved }
         requires paired { length members.now ≡ length olds.now }
         requires few { length self.old.rejudgings < 10000 }
@@ -220,8 +244,8 @@ impl RejudgeBook {
         number
     }
 
-    /// Makes room for one more submission.
-    fn make_place(&mut self) -> Result<(), NoMemory>
+    /// Makes room for one more submission. At `NoMemory` nothing changes.
+    pub fn reserve_submission(&mut self) -> Result<(), NoMemory>
         ensures enough { OnOk result (1 ≤ self.new.spare) }
         ensures rejudgings { self.new.rejudgings ≡ self.old.rejudgings }
         ensures submissions { self.new.submissions ≡ self.old.submissions }
@@ -235,8 +259,8 @@ impl RejudgeBook {
         Ok(())
     }
 
-    /// Makes room for a rejudging of so many members.
-    fn make_room(&mut self, members: usize) -> Result<(), NoMemory>
+    /// Makes room for a rejudging of so many members. At `NoMemory` nothing changes.
+    pub fn reserve_members(&mut self, members: usize) -> Result<(), NoMemory>
         ensures enough { OnOk result (members ≤ self.new.reserved) }
         ensures rejudgings { self.new.rejudgings ≡ self.old.rejudgings }
         ensures submissions { self.new.submissions ≡ self.old.submissions }
@@ -254,16 +278,6 @@ impl RejudgeBook {
         self.rejudgings.reserve(1)?;
         Ok(())
     }
-}
-
-/// The rejudging of this number.
-fn rejudging_at(rejudgings: &[Rejudging], number: u32) -> Option<&Rejudging>
-    ensures { option_copied result ≡ item_of rejudgings.now number }
-{
-    if number == 0 {
-        return None;
-    }
-    rejudgings.get(number as usize - 1)
 }
 
 /// How a rejudging in this state was closed. None where it is open.

@@ -2,7 +2,7 @@ ghost use Rattle.std.specs.Prelude.{◌≡◌, ◌++◌, ◌<◌, ◌^◌, lengt
 ghost use Rattle.std.specs.List.{flat_map};
 ghost use Rattle.farm_kinds.specs.Rules.{place_of};
 ghost use Rattle.farm_model.specs.Matrix.{answer_place, matrix_of};
-ghost use Rattle.rejudge_book.specs.Counts.{AreCounts, counted_rows, pair_place};
+ghost use Rattle.rejudge_book.specs.Counts.{AreCounts, matrix_rows_of, pair_place};
 
 use farm_kinds::{Answer, Kind, MatrixRow, MatrixRows, NoMemory, Verdict};
 use std::alloc::Global;
@@ -36,7 +36,7 @@ pub fn matrix(alloc: Global, pairs: &[(Answer, Answer)]) -> Result<MatrixRows, N
 /// Adds the rows of each of the answers to each of them.
 fn push_all(rows: &mut MatrixRows, answers: &[Answer], counts: &[u32; 100]) -> Result<(), NoMemory>
     requires whole { length counts.now ≡ 100 }
-    ensures { OnOk result (rows.new ≡ rows.old ++ flat_map (counted_rows counts.now answers.now) answers.now) }
+    ensures { OnOk result (rows.new ≡ rows.old ++ flat_map (matrix_rows_of counts.now answers.now) answers.now) }
 {
     for old in answers {
         push_rows(rows, *old, answers, counts)?;
@@ -52,7 +52,7 @@ fn push_rows(
     counts: &[u32; 100],
 ) -> Result<(), NoMemory>
     requires whole { length counts.now ≡ 100 }
-    ensures { OnOk result (rows.new ≡ rows.old ++ counted_rows counts.now answers.now old) }
+    ensures { OnOk result (rows.new ≡ rows.old ++ matrix_rows_of counts.now answers.now old) }
 {
     for new in answers {
         let count = counts[pair_place(old, *new)];

@@ -1,0 +1,79 @@
+ghost use Rattle.std.specs.Prelude.{◌≡◌, length};
+ghost use Rattle.farm_model.specs.State.{start, public_of};
+
+mod hosts;
+mod judged;
+mod jury;
+mod problems;
+mod reading;
+mod rejudgings;
+mod submissions;
+mod verifying;
+
+use farm_kinds::Answer;
+use farm_model::{Host, JudgingDetails, Problem, Submission, item_of};
+use farm_settings::Settings;
+use judging_core::Judge;
+use rejudge_book::RejudgeBook;
+use std::alloc::Global;
+use std::marker::Model;
+
+/// All of a farm but its audit log: the problems, the hosts, the submissions with their judgings, and the
+/// rejudgings. Contracts see a farm whose audit log is empty.
+#[derive(Drop)]
+pub struct Contest {
+    alloc: Global,
+    judge: Judge,
+    verification: bool,
+    problems: Vec<Problem>,
+    hosts: Vec<Host>,
+    submissions: Vec<Submission>,
+    /// One for each judging.
+    details: Vec<JudgingDetails>,
+    book: RejudgeBook,
+}
+
+impl Model for Contest {
+    ghost use Rattle.farm_model.specs.State.{State};
+
+    ghost Value = { State };
+
+    ghost use Rattle.farm_core.specs.ContestLayout.{contest_value, IsContestLayout};
+
+    ghost view = { contest_value };
+
+    ghost invariant = { IsContestLayout };
+}
+
+impl Contest {
+    /// A contest of nothing, with these settings.
+    pub fn new(alloc: Global, settings: Settings) -> Contest
+        ensures { result ≡ start settings }
+    {
+        Contest {
+            alloc,
+            judge: Judge::new(alloc, settings.rule(), settings.mode(), settings.lease()),
+            verification: settings.verification(),
+            problems: Vec::new(alloc),
+            hosts: Vec::new(alloc),
+            submissions: Vec::new(alloc),
+            details: Vec::new(alloc),
+            book: RejudgeBook::new(alloc),
+        }
+    }
+
+    /// How many submissions there are.
+    pub fn submissions(&self) -> u32
+        ensures { result ≡ length self.now.submissions }
+    {
+        self.submissions.len() as u32
+    }
+
+    /// What the public sees of a submission. None where no submission has the number.
+    pub fn public(&self, submission: u32) -> Option<Answer>
+        ensures { result ≡ public_of self.now submission }
+    {
+        let submission = item_of(&self.submissions, submission)?;
+        Some(self.public_answer(submission.current))
+    }
+}

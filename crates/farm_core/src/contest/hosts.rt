@@ -1,0 +1,70 @@
+ghost use Rattle.std.specs.Prelude.{◌≡◌, ◌++◌, ◌∷◌, [], ◌<◌, ◌≤◌, length, IfOk, IfSome, OnErr, true};
+ghost use Rattle.farm_kinds.specs.declared.events.Event.TheVariants as events;
+ghost use Rattle.farm_model.specs.Limits.{max_hosts};
+ghost use Rattle.farm_model.specs.State.{up_number};
+ghost use Rattle.farm_model.specs.Changes.{host_as};
+ghost use Rattle.farm_model.specs.Farm.{Stepped};
+
+use super::Contest;
+use crate::places::{host_place, up_place};
+use farm_kinds::{MAX_HOSTS, Name, NoMemory, Reply};
+use farm_model::Host;
+
+impl Contest {
+    /// Brings a host up, under its old number where its name was entered before.
+    pub fn bring_up(&mut self, name: Name) -> Reply
+        ensures { Stepped self.old (events.Host name) self.new result }
+    {
+        if self.up_number(&name).is_some() {
+            return Reply::Known { name };
+        }
+        if let Some(place) = host_place(&self.hosts, &name) {
+            self.hosts[place] = Host { name, up: true };
+            return Reply::Host { name };
+        }
+        if self.hosts.len() >= MAX_HOSTS as usize {
+            return Reply::Full { limit: MAX_HOSTS };
+        }
+        match self.add_host(name) {
+            Ok(()) => Reply::Host { name },
+            Err(NoMemory) => Reply::NoMemory,
+        }
+    }
+
+    /// Adds a host, which is up.
+    fn add_host(&mut self, name: Name) -> Result<(), NoMemory>
+        requires { length self.old.hosts < max_hosts }
+        ensures added { IfOk result (λ done. self.new ≡ record self.old { hosts = self.old.hosts ++ host_as name true ∷ [] }) }
+        ensures unchanged { OnErr result (self.new ≡ self.old) }
+    {
+        self.hosts.reserve(1)?;
+        self.judge.add_host()?;
+        self.hosts.push_reserved(Host { name, up: true });
+        Ok(())
+    }
+
+    /// The number of the host of this name, where it is up.
+    pub fn up_number(&self, name: &Name) -> Option<u32>
+        ensures number { result ≡ up_number self.now.hosts name.now }
+        ensures known { IfSome result (λ number. (1 ≤ number) × (number ≤ length self.now.hosts)) }
+    {
+        let place = up_place(&self.hosts, name)?;
+        Some(place as u32 + 1)
+    }
+
+    /// Brings a host down, and ends its leases.
+    pub fn bring_down(&mut self, host: Name) -> Reply
+        ensures { Stepped self.old (events.Down host) self.new result }
+    {
+        let Some(number) = self.up_number(&host) else {
+            return Reply::NoHost { name: host };
+        };
+        self.hosts[number as usize - 1] = Host {
+            name: host,
+            up: false,
+        };
+        Reply::Ended {
+            count: self.judge.down(number),
+        }
+    }
+}

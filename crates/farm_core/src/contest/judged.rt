@@ -1,0 +1,49 @@
+ghost use Rattle.farm_kinds.specs.declared.events.Event.TheVariants as events;
+ghost use Rattle.farm_model.specs.Farm.{Stepped};
+
+use super::Contest;
+use crate::replies::{claim_reply, count_reply, renewed_reply};
+use farm_kinds::{Kind, Name, Reply};
+
+impl Contest {
+    pub fn claim(&mut self, host: Name) -> Reply
+        ensures { Stepped self.old (events.Claim host) self.new result }
+    {
+        match self.up_number(&host) {
+            Some(number) => claim_reply(self.judge.claim(number)),
+            None => Reply::NoHost { name: host },
+        }
+    }
+
+    pub fn result(&mut self, host: Name, judging: u32, test: u32, kind: Kind) -> Reply
+        ensures { Stepped self.old (events.Result host judging test kind) self.new result }
+    {
+        match self.up_number(&host) {
+            Some(_) => count_reply(judging, test, self.judge.result(judging, test, kind)),
+            None => Reply::NoHost { name: host },
+        }
+    }
+
+    pub fn enter(&mut self, judging: u32, test: u32, kind: Kind) -> Reply
+        ensures { Stepped self.old (events.Entry judging test kind) self.new result }
+    {
+        count_reply(judging, test, self.judge.enter(judging, test, kind))
+    }
+
+    pub fn renew(&mut self, host: Name, judging: u32, test: u32) -> Reply
+        ensures { Stepped self.old (events.Renew host judging test) self.new result }
+    {
+        match self.up_number(&host) {
+            Some(number) => renewed_reply(judging, test, self.judge.renew(number, judging, test)),
+            None => Reply::NoHost { name: host },
+        }
+    }
+
+    pub fn tick(&mut self, moment: u64) -> Reply
+        ensures { Stepped self.old (events.Tick moment) self.new result }
+    {
+        Reply::Ended {
+            count: self.judge.tick(moment),
+        }
+    }
+}
