@@ -1,6 +1,6 @@
 -- What an apply makes of the submissions.
-use Rattle.std.proofs.Common.{ℕ, zero, suc, ◌≡◌, ◌≢◌, List, [], ◌∷◌, Option, Some, None, Bool, true, false, refl, ap, ◌∙◌, arith, map}
-use Rattle.std.specs.Prelude.{Contains}
+use Rattle.std.proofs.Common.{ℕ, zero, suc, ◌≡◌, ◌≢◌, List, [], ◌∷◌, Option, Some, None, Bool, true, false, refl, sym, ap, ◌∙◌, subst, arith, map}
+use Rattle.std.specs.Prelude.{Contains, All}
 use Rattle.std.specs.Option.{IsSome, option_map}
 use Rattle.std.specs.List.{fold}
 use Rattle.farm_kinds.specs.declared.outcomes.How.{How}
@@ -17,7 +17,8 @@ use Rattle.farm_model.specs.State.{State, SettingsValue}
 use Rattle.farm_model.specs.Refusals.{refusal_of}
 use Rattle.farm_model.specs.Changes.{make_current, with_current, accepted}
 use Rattle.farm_model.specs.Farm.{farm_step}
-use Rattle.farm_laws.specs.Laws.{reached, current_in, AppliesToAll}
+use Rattle.farm_model.specs.Replay.{reply_to}
+use Rattle.farm_laws.specs.Laws.{reached, current_in, IsMember, AppliesToAll}
 use Rattle.farm_laws.proofs.Items.{there, change_same, change_other}
 use Rattle.farm_laws.proofs.Each.{Each, each_all, each_turned}
 use Rattle.farm_laws.proofs.Moves.{current_at}
@@ -61,8 +62,15 @@ not_refused s done true r (Some x) judging n h = cc
 not_refused s done true r None (Some j) n h = cc
 not_refused s done true r None None n h = refl
 
-pub applies_to_all : (settings : SettingsValue) (es : List Event) → AppliesToAll settings es
-applies_to_all settings es who r n h =
+-- the new judging of every member of the rejudging is current, and no other submission's changed
+abbrev ChangesAll : State → State → ℕ → Type 0
+ChangesAll old new n =
+    All (λ member. current_in new member.submission ≡ Some member.new) (members_in old.rejudgings n)
+    × ((submission : ℕ) → ¬ IsMember old n submission → current_in new submission ≡ current_in old submission)
+
+applied_to_all : (settings : SettingsValue) (es : List Event) (who : List ℕ) (r n : ℕ) → reply_to (reached settings es) (event.Apply who r) ≡ reply.Applied n
+    → ChangesAll (reached settings es) (farm_step (reached settings es) (event.Apply who r)).0 r
+applied_to_all settings es who r n h =
     let s = reached settings es in
     let e = event.Apply who r in
     let members = members_in s.rejudgings r in
@@ -75,3 +83,8 @@ applies_to_all settings es who r n h =
           (each_turned (λ (m : Member). current_at (fold with_current s.submissions members) m.submission ≡ Some m.new) (λ m. current_in (farm_step s e).0 m.submission ≡ Some m.new) (λ m is. current m.submission ∙ is) members all),
       λ k none_k. current k ∙ ap (option_map (λ (submission : Submission). submission.current)) (others_kept s.submissions members k (none_is (λ (m : Member). m.submission) members k none_k)),
     )
+
+pub applies_to_all : (settings : SettingsValue) (es : List Event) (e : Event) → AppliesToAll settings es e (farm_step (reached settings es) e).0 (reply_to (reached settings es) e)
+applies_to_all settings es e who n members at h =
+    subst (λ (x : Event). reply_to (reached settings es) x ≡ reply.Applied members → ChangesAll (reached settings es) (farm_step (reached settings es) x).0 n) (sym at)
+    (applied_to_all settings es who n members) h

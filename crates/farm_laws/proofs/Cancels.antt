@@ -1,9 +1,10 @@
 -- What a cancel keeps.
-use Rattle.std.proofs.Common.{ℕ, ◌≡◌, List, [], ◌∷◌, Option, Some, None, cond, refl, sym, ap, ◌∙◌, map}
+use Rattle.std.proofs.Common.{ℕ, ◌≡◌, List, [], ◌∷◌, Option, Some, None, cond, refl, sym, ap, ◌∙◌, subst, map}
 use Rattle.std.specs.Option.{option_map, unwrap_or}
 use Rattle.farm_kinds.specs.declared.outcomes.Answer.{Answer}
 use Rattle.farm_kinds.specs.declared.outcomes.Answer.TheVariants.{Pending}
 use Rattle.farm_kinds.specs.declared.outcomes.Mode.{Mode}
+use Rattle.farm_kinds.specs.declared.events.Event.{Event}
 use Rattle.farm_kinds.specs.declared.events.Event.TheVariants as event
 use Rattle.farm_kinds.specs.declared.events.Reply.{Reply}
 use Rattle.farm_kinds.specs.declared.events.Reply.TheVariants as reply
@@ -14,12 +15,12 @@ use Rattle.farm_model.specs.Rows.{Row, answer_of}
 use Rattle.farm_model.specs.Judgings.{Judging, judging_rows, answer_in}
 use Rattle.farm_model.specs.Judge.{JudgeState}
 use Rattle.farm_model.specs.Rejudgings.{members_in, new_judgings}
-use Rattle.farm_model.specs.State.{State, is_withheld, public_answer}
+use Rattle.farm_model.specs.State.{State, SettingsValue, is_withheld, public_answer}
 use Rattle.farm_model.specs.Refusals.{refusal_of}
 use Rattle.farm_model.specs.Changes.{accepted}
 use Rattle.farm_model.specs.Farm.{farm_step}
 use Rattle.farm_model.specs.Replay.{reply_to}
-use Rattle.farm_laws.specs.Laws.{current_in}
+use Rattle.farm_laws.specs.Laws.{reached, current_in, CancelChangesNone}
 use Rattle.farm_laws.proofs.Items.{item_seen}
 use Rattle.farm_laws.proofs.Kept.{KeepsRows, drops_keep}
 use Rattle.farm_laws.proofs.Outcomes.{outcome}
@@ -62,10 +63,13 @@ board_same s t (x ∷ submissions) kept withheld =
 abbrev ChangesNone : State → State × Reply → Type 0
 ChangesNone s p = ((submission : ℕ) → current_in p.0 submission ≡ current_in s submission) × (reply_to p.0 event.Board ≡ reply_to s event.Board)
 
-pub cancel_keeps : (s : State) (who : List ℕ) (r : ℕ) → ChangesNone s (farm_step s (event.Cancel who r))
+cancel_keeps : (s : State) (who : List ℕ) (r : ℕ) → ChangesNone s (farm_step s (event.Cancel who r))
 cancel_keeps s who r =
     let e = event.Cancel who r in
     let t = (accepted s e).0 in
     outcome (ChangesNone s) s (refusal_of s e) (accepted s e) (λ x. (λ submission. refl, refl)) (λ done.
     let kept = drops_keep s.judge (new_judgings (members_in s.rejudgings r)) in
     (λ submission. refl, ap reply.Board (board_same s t s.submissions kept (λ j. refl))))
+
+pub cancel_changes_none : (settings : SettingsValue) (es : List Event) (e : Event) → CancelChangesNone settings es e (farm_step (reached settings es) e).0
+cancel_changes_none settings es e who n at = subst (λ (x : Event). ChangesNone (reached settings es) (farm_step (reached settings es) x)) (sym at) (cancel_keeps (reached settings es) who n)

@@ -156,7 +156,7 @@ filled_other judgings j j' t kind e n =
     ∙ with_other judgings j j' (fill_cell t kind e.judging) (item_at judgings j e.judging e.there).0 n
 
 -- in the judging of the cell
-fill_in : (row : Row) (t t' : ℕ) (kind : Kind) → item_of row t ≡ Some None → (b : Bool) → eqb t t' ≡ b
+pub fill_in : (row : Row) (t t' : ℕ) (kind : Kind) → item_of row t ≡ Some None → (b : Bool) → eqb t t' ≡ b
     → unwrap_or (item_of (set row (t - 1) (Some kind)) t') None ≡ option_or (unwrap_or (item_of row t') None) (cond b (Some kind) None)
 fill_in row t t' kind h true e =
     let same : t ≡ t' = eqb-true t t' e in

@@ -1,7 +1,7 @@
 -- Tasks that are handed out.
 use Rattle.std.proofs.Common.{ℕ, ◌≡◌, ◌+◌, ◌-◌, List, [], ◌∷◌, Option, Some, None, Bool, true, false, refl, sym, ap, ◌∙◌, arith, length, slice_get, inl, inr}
 use Rattle.std.specs.Prelude.{is_none, not, nat_le, map, ◌++◌}
-use Rattle.std.specs.Option.{option_map, is_some}
+use Rattle.std.specs.Option.{IsSome, option_map, is_some}
 use Rattle.std.specs.List.{slice_index_or, filter, enumerate_from}
 use Rattle.std.proofs.lemmas.Option.{slice_get-get_or, get_or_from_slice_get}
 use Rattle.farm_kinds.specs.declared.kinds.Kind.{Kind}
@@ -10,6 +10,9 @@ use Rattle.farm_kinds.specs.declared.outcomes.Class.TheVariants.{High, Normal, L
 use Rattle.farm_kinds.specs.declared.outcomes.Mode.{Mode}
 use Rattle.farm_kinds.specs.declared.outcomes.Task.{Task}
 use Rattle.farm_kinds.specs.declared.outcomes.Claim.TheVariants as claim
+use Rattle.farm_kinds.specs.declared.outcomes.Count.{Count}
+use Rattle.farm_kinds.specs.declared.outcomes.Count.TheVariants as count
+use Rattle.farm_kinds.specs.Rules.{remap_of}
 use Rattle.farm_kinds.specs.declared.events.Event.{Event}
 use Rattle.farm_kinds.specs.declared.events.Event.TheVariants as event
 use Rattle.farm_kinds.specs.declared.events.Reply.{Reply}
@@ -21,15 +24,15 @@ use Rattle.farm_model.specs.Refusing.{when, unless, first_of, refused_or}
 use Rattle.farm_model.specs.Rows.{Row}
 use Rattle.farm_model.specs.Leases.{held_count}
 use Rattle.farm_model.specs.Open.{same_class, is_empty_cell, is_wanted, wanted_tests, is_free, open_in, judgings_in, open_in_class, open_tasks}
-use Rattle.farm_model.specs.Judgings.{Judging, task_of}
-use Rattle.farm_model.specs.Judge.{JudgeState, claimed, first_open}
+use Rattle.farm_model.specs.Judgings.{Judging, task_of, entry_refusal, result_refusal}
+use Rattle.farm_model.specs.Judge.{JudgeState, claimed, first_open, judge_enter, judge_result}
 use Rattle.farm_model.specs.State.{State, up_number}
-use Rattle.farm_model.specs.Refusals.{claim_reply}
+use Rattle.farm_model.specs.Refusals.{claim_reply, count_reply}
 use Rattle.farm_model.specs.Changes.{by_judge}
-use Rattle.farm_model.specs.Replay.{reply_to}
+use Rattle.farm_model.specs.Replay.{reply_to, given_by}
 use Rattle.farm_laws.proofs.Items.{item_at, item_by}
 use Rattle.farm_laws.proofs.Later.{IsWanted}
-use Rattle.farm_laws.proofs.Quiet.{is_handed, IsClaim, claim_or_quiet}
+use Rattle.farm_laws.proofs.Quiet.{hands_or_counts, IsClaimOrResult, quiet_or_not}
 use Rattle.farm_laws.proofs.Each.{Each, each_first, each_append, each_map, each_flat_map, each_filter, each_kept, each_range, each_numbered}
 
 -- Open tasks
@@ -94,8 +97,29 @@ first_open_is s task e = each_first (IsOpen s.rule s.mode s.judgings) (open_task
 
 -- Claims
 
-never : (r : Reply) (task : Task) (until : ℕ) → is_handed r ≡ false → r ≡ reply.Handed task until → ⊥
-never r task until h e = let no : true ≡ false = ap is_handed (sym e) ∙ h in cc
+-- a reply that tells what became of a result hands out nothing
+count_hands_none : (j t : ℕ) (c : Count) (task : Task) (until : ℕ) → count_reply j t c ≡ reply.Handed task until → ⊥
+count_hands_none j t count.NoJudging task until e = cc
+count_hands_none j t count.NoTest task until e = cc
+count_hands_none j t count.NotHanded task until e = cc
+count_hands_none j t (count.Repeat kept) task until e = cc
+count_hands_none j t (count.Differs kept given) task until e = cc
+count_hands_none j t count.Dropped task until e = cc
+count_hands_none j t count.Counted task until e = cc
+
+result_hands_none : (s : State) (up : Bool) (host : List ℕ) (j t : ℕ) (refusal : Option Count) (done : JudgeState × Count) (task : Task) (until : ℕ)
+    → (refused_or s (first_of (unless up (reply.NoHost host) ∷ option_map (count_reply j t) refusal ∷ [])) (by_judge s (count_reply j t) done)).1 ≡ reply.Handed task until → ⊥
+result_hands_none s false host j t refusal done task until e = cc
+result_hands_none s true host j t None done task until e = count_hands_none j t done.1 task until e
+result_hands_none s true host j t (Some c) done task until e = count_hands_none j t c task until e
+
+entry_hands_none : (s : State) (j t : ℕ) (refusal : Option Count) (done : JudgeState × Count) (task : Task) (until : ℕ)
+    → (refused_or s (option_map (count_reply j t) refusal) (by_judge s (count_reply j t) done)).1 ≡ reply.Handed task until → ⊥
+entry_hands_none s j t None done task until e = count_hands_none j t done.1 task until e
+entry_hands_none s j t (Some c) done task until e = count_hands_none j t c task until e
+
+never : (r : Reply) (task : Task) (until : ℕ) → hands_or_counts r ≡ false → r ≡ reply.Handed task until → ⊥
+never r task until h e = let no : true ≡ false = ap hands_or_counts (sym e) ∙ h in cc
 
 -- a claim hands out the first open task
 claim_hands : (s : State) (up : Bool) (host : List ℕ) (holding : Bool) (n : ℕ) (o : Option Task) (task : Task) (until : ℕ)
@@ -106,12 +130,38 @@ claim_hands s true host true n o task until e = cc
 claim_hands s true host false n None task until e = cc
 claim_hands s true host false n (Some given) task until e = cc
 
-claim_open : (s : State) (e : Event) (task : Task) (until : ℕ) → IsClaim e → reply_to s e ≡ reply.Handed task until → IsOpen s.judge.rule s.judge.mode s.judge.judgings task
+claim_open : (s : State) (e : Event) (task : Task) (until : ℕ) → IsClaimOrResult e → reply_to s e ≡ reply.Handed task until → IsOpen s.judge.rule s.judge.mode s.judge.judgings task
 claim_open s (event.Claim host) task until is e =
     let n = number_or_0 (up_number s.hosts host) in
     first_open_is s.judge task (claim_hands s (is_some (up_number s.hosts host)) host (nat_le 64 (held_count s.judge.leases n)) n (first_open s.judge) task until e)
+claim_open s (event.Result host j t kind) task until is e =
+    absurd (result_hands_none s (is_some (up_number s.hosts host)) host j t (result_refusal s.judge.judgings j t (remap_of s.judge.rule kind)) (judge_result s.judge j t kind) task until e)
+claim_open s (event.Entry j t kind) task until is e =
+    absurd (entry_hands_none s j t (entry_refusal s.judge.judgings j t (remap_of s.judge.rule kind)) (judge_enter s.judge j t kind) task until e)
 claim_open s e task until is h = absurd is
 
 -- what is handed out was open
 pub hands_open : (s : State) (e : Event) (task : Task) (until : ℕ) → reply_to s e ≡ reply.Handed task until → IsOpen s.judge.rule s.judge.mode s.judge.judgings task
-hands_open s e task until h = elim (claim_or_quiet s e) [ inl is ↦ claim_open s e task until is h | inr none ↦ absurd (never (reply_to s e) task until none h) ]
+hands_open s e task until h = elim (quiet_or_not s e) [ inl is ↦ claim_open s e task until is h | inr none ↦ absurd (never (reply_to s e) task until none h) ]
+
+-- Results that count
+
+claim_counts_none : (s : State) (up : Bool) (host : List ℕ) (holding : Bool) (n : ℕ) (o : Option Task)
+    → (refused_or s (first_of (unless up (reply.NoHost host) ∷ option_map claim_reply (when holding claim.Holding) ∷ []))
+    (by_judge s claim_reply (refused_or s.judge (when holding claim.Holding) (claimed s.judge n o)))).1 ≡ reply.Counted → ⊥
+claim_counts_none s false host holding n o e = cc
+claim_counts_none s true host true n o e = cc
+claim_counts_none s true host false n None e = cc
+claim_counts_none s true host false n (Some given) e = cc
+
+result_counts : (s : State) (e : Event) → IsClaimOrResult e → reply_to s e ≡ reply.Counted → IsSome (given_by e)
+result_counts s (event.Claim host) is e =
+    let n = number_or_0 (up_number s.hosts host) in
+    absurd (claim_counts_none s (is_some (up_number s.hosts host)) host (nat_le 64 (held_count s.judge.leases n)) n (first_open s.judge) e)
+result_counts s (event.Result host j t kind) is e = refl
+result_counts s (event.Entry j t kind) is e = refl
+result_counts s e is h = absurd is
+
+-- only a result counts
+pub counts_given : (s : State) (e : Event) → reply_to s e ≡ reply.Counted → IsSome (given_by e)
+counts_given s e h = elim (quiet_or_not s e) [ inl is ↦ result_counts s e is h | inr none ↦ absurd (let no : true ≡ false = ap hands_or_counts (sym h) ∙ none in cc) ]

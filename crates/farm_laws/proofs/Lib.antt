@@ -13,4 +13,6 @@ pub mod Moves
 pub mod Cancels
 pub mod Members
 pub mod Applying
+pub mod RowCells
+pub mod Counting
 pub mod Reporting

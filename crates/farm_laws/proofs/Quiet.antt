@@ -1,52 +1,50 @@
--- Replies that hand out nothing.
+-- Replies that hand out no task and count no result.
 use Rattle.std.proofs.Common.{ℕ, ◌≡◌, ◌+◌, List, [], ◌∷◌, Option, Some, None, Bool, true, false, refl, length, inl, inr, ◌⊎◌, ◌&&◌}
 use Rattle.std.specs.Prelude.{is_none, not, nat_le, nat_lt, map, find, ◌==◌}
 use Rattle.std.specs.Option.{option_map, is_some}
-use Rattle.farm_kinds.specs.declared.outcomes.Count.{Count}
-use Rattle.farm_kinds.specs.declared.outcomes.Count.TheVariants as count
 use Rattle.farm_kinds.specs.declared.outcomes.Renewed.{Renewed}
 use Rattle.farm_kinds.specs.declared.outcomes.Renewed.TheVariants as lease
 use Rattle.farm_kinds.specs.declared.events.Event.{Event}
 use Rattle.farm_kinds.specs.declared.events.Event.TheVariants as event
 use Rattle.farm_kinds.specs.declared.events.Reply.{Reply}
 use Rattle.farm_kinds.specs.declared.events.Reply.TheVariants as reply
-use Rattle.farm_kinds.specs.Rules.{remap_of}
 use Rattle.farm_model.specs.declared.records.Host.{Host}
 use Rattle.farm_model.specs.declared.records.Problem.{Problem}
 use Rattle.farm_model.specs.declared.records.Rejudging.{Rejudging}
 use Rattle.farm_model.specs.Numbered.{item_of, number_or_0}
 use Rattle.farm_model.specs.Refusing.{when, unless, first_of, refused_or}
-use Rattle.farm_model.specs.Judgings.{is_judging, is_dropped, entry_refusal, result_refusal}
-use Rattle.farm_model.specs.Judge.{judge_enter, judge_result, renew_refusal, judge_renew}
+use Rattle.farm_model.specs.Judgings.{is_judging, is_dropped}
+use Rattle.farm_model.specs.Judge.{renew_refusal, judge_renew}
 use Rattle.farm_model.specs.State.{State, problem_number, host_number, up_number, answer_at, is_final, is_verified}
 use Rattle.farm_model.specs.Rejudgings.{first_twice, is_busy, busy_with, closed_how, members_in, new_judgings}
-use Rattle.farm_model.specs.Refusals.{is_full, is_test_count, is_problem, problem_refusal, version_of, replace_refusal, host_refusal, submit_refusal, no_host, count_reply, renewed_reply, refuse_first, is_submission, has_final, rejudge_refusal, no_rejudging, close_refusal, apply_refusal, verify_refusal, refusal_of}
+use Rattle.farm_model.specs.Refusals.{is_full, is_test_count, is_problem, problem_refusal, version_of, replace_refusal, host_refusal, submit_refusal, no_host, renewed_reply, refuse_first, is_submission, has_final, rejudge_refusal, no_rejudging, close_refusal, apply_refusal, verify_refusal, refusal_of}
 use Rattle.farm_model.specs.Changes.{accepted}
 use Rattle.farm_model.specs.Replay.{reply_to}
 
--- the reply hands out a task
-abbrev pub is_handed : Reply → Bool
-is_handed (reply.Handed task until) = true
-is_handed r = false
+-- the reply hands out a task, or says that a result counts
+abbrev pub hands_or_counts : Reply → Bool
+hands_or_counts (reply.Handed task until) = true
+hands_or_counts reply.Counted = true
+hands_or_counts r = false
 
--- a refusal that hands out nothing, or none
+-- a refusal that is neither, or none
 abbrev Quiet : Option Reply → Type 0
 Quiet None = Unit {0}
-Quiet (Some r) = is_handed r ≡ false
+Quiet (Some r) = hands_or_counts r ≡ false
 
 first_quiet : (o : Option Reply) (others : List (Option Reply)) → Quiet o → Quiet (first_of others) → Quiet (first_of (o ∷ others))
 first_quiet None others h k = k
 first_quiet (Some r) others h k = h
 
-unless_quiet : (b : Bool) (r : Reply) → is_handed r ≡ false → Quiet (unless b r)
+unless_quiet : (b : Bool) (r : Reply) → hands_or_counts r ≡ false → Quiet (unless b r)
 unless_quiet true r h = tt
 unless_quiet false r h = h
 
-when_quiet : (b : Bool) (r : Reply) → is_handed r ≡ false → Quiet (when b r)
+when_quiet : (b : Bool) (r : Reply) → hands_or_counts r ≡ false → Quiet (when b r)
 when_quiet true r h = h
 when_quiet false r h = tt
 
-map_quiet : {R : Type 0} (f : R → Reply) → ((x : R) → is_handed (f x) ≡ false) → (o : Option R) → Quiet (option_map f o)
+map_quiet : {R : Type 0} (f : R → Reply) → ((x : R) → hands_or_counts (f x) ≡ false) → (o : Option R) → Quiet (option_map f o)
 map_quiet f h None = tt
 map_quiet f h (Some x) = h x
 
@@ -100,7 +98,7 @@ submit_quiet s problem =
 busy_quiet : (rejudgings : List Rejudging) (submission : ℕ) → Quiet (is_busy reply.Busy rejudgings submission)
 busy_quiet rejudgings submission = map_quiet (reply.Busy submission) (λ r. refl) (busy_with rejudgings submission)
 
-first_fails_quiet : (passes : ℕ → Bool) (refusal : ℕ → Reply) → ((n : ℕ) → is_handed (refusal n) ≡ false) → (list : List ℕ) → Quiet (refuse_first passes refusal list)
+first_fails_quiet : (passes : ℕ → Bool) (refusal : ℕ → Reply) → ((n : ℕ) → hands_or_counts (refusal n) ≡ false) → (list : List ℕ) → Quiet (refuse_first passes refusal list)
 first_fails_quiet passes refusal h list = map_quiet refusal h (find (λ n. not (passes n)) list)
 
 rejudge_quiet : (s : State) (list : List ℕ) → Quiet (rejudge_refusal s list)
@@ -142,20 +140,11 @@ verify_quiet s j =
     three_quiet (when (is_dropped s.judge.judgings j) reply.Dropped) (unless final (reply.NotFinal j)) (when known (reply.Already j))
     (when_quiet (is_dropped s.judge.judgings j) reply.Dropped refl) (unless_quiet final (reply.NotFinal j) refl) (when_quiet known (reply.Already j) refl))
 
-refused_quiet : (s : State) (refusal : Option Reply) (done : State × Reply) → Quiet refusal → is_handed done.1 ≡ false → is_handed (refused_or s refusal done).1 ≡ false
+refused_quiet : (s : State) (refusal : Option Reply) (done : State × Reply) → Quiet refusal → hands_or_counts done.1 ≡ false → hands_or_counts (refused_or s refusal done).1 ≡ false
 refused_quiet s None done h k = k
 refused_quiet s (Some r) done h k = h
 
-count_quiet : (j t : ℕ) (c : Count) → is_handed (count_reply j t c) ≡ false
-count_quiet j t count.NoJudging = refl
-count_quiet j t count.NoTest = refl
-count_quiet j t count.NotHanded = refl
-count_quiet j t (count.Repeat kept) = refl
-count_quiet j t (count.Differs kept given) = refl
-count_quiet j t count.Dropped = refl
-count_quiet j t count.Counted = refl
-
-renewed_quiet : (j t : ℕ) (r : Renewed) → is_handed (renewed_reply j t r) ≡ false
+renewed_quiet : (j t : ℕ) (r : Renewed) → hands_or_counts (renewed_reply j t r) ≡ false
 renewed_quiet j t lease.NoJudging = refl
 renewed_quiet j t lease.NoTest = refl
 renewed_quiet j t lease.NoLease = refl
@@ -164,44 +153,38 @@ renewed_quiet j t (lease.Until until) = refl
 -- Whatever the event
 
 -- what is refused without a task, or done without one, is answered without one
-quiet : (s : State) (e : Event) → Quiet (refusal_of s e) → is_handed (accepted s e).1 ≡ false → is_handed (reply_to s e) ≡ false
+quiet : (s : State) (e : Event) → Quiet (refusal_of s e) → hands_or_counts (accepted s e).1 ≡ false → hands_or_counts (reply_to s e) ≡ false
 quiet s e h k = refused_quiet s (refusal_of s e) (accepted s e) h k
-
-host_result_quiet : (s : State) (host : List ℕ) (j t : ℕ) (refusal : Option Count) → Quiet (first_of (no_host s.hosts host ∷ option_map (count_reply j t) refusal ∷ []))
-host_result_quiet s host j t refusal =
-    two_quiet (no_host s.hosts host) (option_map (count_reply j t) refusal) (no_host_quiet s.hosts host) (map_quiet (count_reply j t) (count_quiet j t) refusal)
 
 renew_quiet : (s : State) (host : List ℕ) (j t : ℕ) (refusal : Option Renewed) → Quiet (first_of (no_host s.hosts host ∷ option_map (renewed_reply j t) refusal ∷ []))
 renew_quiet s host j t refusal =
     two_quiet (no_host s.hosts host) (option_map (renewed_reply j t) refusal) (no_host_quiet s.hosts host) (map_quiet (renewed_reply j t) (renewed_quiet j t) refusal)
 
--- only a claim hands out a task
-abbrev pub IsClaim : Event → Type 0
-IsClaim (event.Claim host) = Unit {0}
-IsClaim e = ⊥
+-- only a claim hands out a task, and only a result counts
+abbrev pub IsClaimOrResult : Event → Type 0
+IsClaimOrResult (event.Claim host) = Unit {0}
+IsClaimOrResult (event.Result host j t kind) = Unit {0}
+IsClaimOrResult (event.Entry j t kind) = Unit {0}
+IsClaimOrResult e = ⊥
 
-pub claim_or_quiet : (s : State) (e : Event) → IsClaim e ⊎ (is_handed (reply_to s e) ≡ false)
-claim_or_quiet s (event.Problem who name tests) = inr (quiet s (event.Problem who name tests) (problem_quiet s.problems name tests) refl)
-claim_or_quiet s (event.Replace who name tests) = inr (quiet s (event.Replace who name tests) (replace_quiet s.problems name tests) refl)
-claim_or_quiet s (event.Host name) = inr (quiet s (event.Host name) (host_quiet s.hosts name) refl)
-claim_or_quiet s (event.Submit problem class broken) = inr (quiet s (event.Submit problem class broken) (submit_quiet s problem) refl)
-claim_or_quiet s (event.Claim host) = inl tt
-claim_or_quiet s (event.Result host j t kind) =
-    let given = remap_of s.judge.rule kind in
-    inr (quiet s (event.Result host j t kind) (host_result_quiet s host j t (result_refusal s.judge.judgings j t given)) (count_quiet j t (judge_result s.judge j t kind).1))
-claim_or_quiet s (event.Entry j t kind) =
-    let given = remap_of s.judge.rule kind in
-    inr (quiet s (event.Entry j t kind) (map_quiet (count_reply j t) (count_quiet j t) (entry_refusal s.judge.judgings j t given)) (count_quiet j t (judge_enter s.judge j t kind).1))
-claim_or_quiet s (event.Renew host j t) =
+pub quiet_or_not : (s : State) (e : Event) → IsClaimOrResult e ⊎ (hands_or_counts (reply_to s e) ≡ false)
+quiet_or_not s (event.Problem who name tests) = inr (quiet s (event.Problem who name tests) (problem_quiet s.problems name tests) refl)
+quiet_or_not s (event.Replace who name tests) = inr (quiet s (event.Replace who name tests) (replace_quiet s.problems name tests) refl)
+quiet_or_not s (event.Host name) = inr (quiet s (event.Host name) (host_quiet s.hosts name) refl)
+quiet_or_not s (event.Submit problem class broken) = inr (quiet s (event.Submit problem class broken) (submit_quiet s problem) refl)
+quiet_or_not s (event.Claim host) = inl tt
+quiet_or_not s (event.Result host j t kind) = inl tt
+quiet_or_not s (event.Entry j t kind) = inl tt
+quiet_or_not s (event.Renew host j t) =
     let n = number_or_0 (up_number s.hosts host) in
     inr (quiet s (event.Renew host j t) (renew_quiet s host j t (renew_refusal s.judge n j t)) (renewed_quiet j t (judge_renew s.judge n j t).1))
-claim_or_quiet s (event.Tick moment) = inr refl
-claim_or_quiet s (event.Down host) = inr (quiet s (event.Down host) (no_host_quiet s.hosts host) refl)
-claim_or_quiet s (event.Show j) = inr (quiet s (event.Show j) (unless_quiet (is_judging s.judge.judgings j) (reply.NoJudging j) refl) refl)
-claim_or_quiet s event.Board = inr refl
-claim_or_quiet s (event.Rejudge who list) = inr (quiet s (event.Rejudge who list) (rejudge_quiet s list) refl)
-claim_or_quiet s (event.Matrix r) = inr (quiet s (event.Matrix r) (no_rejudging_quiet s.rejudgings r) refl)
-claim_or_quiet s (event.Apply who r) = inr (quiet s (event.Apply who r) (apply_quiet s r) refl)
-claim_or_quiet s (event.Cancel who r) = inr (quiet s (event.Cancel who r) (close_quiet s.rejudgings r) refl)
-claim_or_quiet s (event.Verify who j) = inr (quiet s (event.Verify who j) (verify_quiet s j) refl)
-claim_or_quiet s event.Audit = inr refl
+quiet_or_not s (event.Tick moment) = inr refl
+quiet_or_not s (event.Down host) = inr (quiet s (event.Down host) (no_host_quiet s.hosts host) refl)
+quiet_or_not s (event.Show j) = inr (quiet s (event.Show j) (unless_quiet (is_judging s.judge.judgings j) (reply.NoJudging j) refl) refl)
+quiet_or_not s event.Board = inr refl
+quiet_or_not s (event.Rejudge who list) = inr (quiet s (event.Rejudge who list) (rejudge_quiet s list) refl)
+quiet_or_not s (event.Matrix r) = inr (quiet s (event.Matrix r) (no_rejudging_quiet s.rejudgings r) refl)
+quiet_or_not s (event.Apply who r) = inr (quiet s (event.Apply who r) (apply_quiet s r) refl)
+quiet_or_not s (event.Cancel who r) = inr (quiet s (event.Cancel who r) (close_quiet s.rejudgings r) refl)
+quiet_or_not s (event.Verify who j) = inr (quiet s (event.Verify who j) (verify_quiet s j) refl)
+quiet_or_not s event.Audit = inr refl

@@ -1,15 +1,16 @@
 -- What is reported after a run of events.
-use Rattle.std.proofs.Common.{ℕ, zero, suc, ◌≡◌, ◌+◌, ◌-◌, ◌<◌, List, [], ◌∷◌, ◌++◌, Option, Some, None, Bool, true, false, cond, refl, sym, ap, ◌∙◌, subst, arith, length, map, slice_get}
-use Rattle.std.specs.Prelude.{nat_lt, IsSome, All, IsSomeAnd}
+use Rattle.std.proofs.Common.{ℕ, zero, suc, ◌≡◌, ◌≢◌, ◌+◌, List, [], ◌∷◌, ◌++◌, Option, Some, None, true, false, cond, refl, sym, ap, ◌∙◌, subst, arith, length, map}
+use Rattle.std.specs.Prelude.{IsSome, All, IsSomeAnd}
 use Rattle.std.specs.Option.{option_map, option_or, unwrap_or, is_some}
-use Rattle.std.proofs.lemmas.Option.{slice_get-map}
 use Rattle.farm_kinds.specs.declared.kinds.Kind.{Kind}
 use Rattle.farm_kinds.specs.declared.outcomes.Task.{Task}
+use Rattle.farm_kinds.specs.declared.outcomes.Verdict.{Verdict}
 use Rattle.farm_kinds.specs.declared.outcomes.Answer.{Answer}
 use Rattle.farm_kinds.specs.declared.outcomes.Answer.TheVariants.{Final, Pending}
 use Rattle.farm_kinds.specs.declared.outcomes.Mode.{Mode}
 use Rattle.farm_kinds.specs.declared.events.Event.{Event}
 use Rattle.farm_kinds.specs.declared.events.Event.TheVariants as event
+use Rattle.farm_kinds.specs.declared.events.Reply.{Reply}
 use Rattle.farm_kinds.specs.declared.events.Reply.TheVariants as reply
 use Rattle.farm_kinds.specs.RuleValue.{RuleValue}
 use Rattle.farm_kinds.specs.Rules.{remap_of, possible_kinds}
@@ -20,43 +21,24 @@ use Rattle.farm_model.specs.Rows.{Row, answer_of, kinds_of}
 use Rattle.farm_model.specs.Open.{is_wanted}
 use Rattle.farm_model.specs.Judgings.{Judging, task_of}
 use Rattle.farm_model.specs.State.{State, SettingsValue, start}
-use Rattle.farm_model.specs.Farm.{farm_step}
+use Rattle.farm_model.specs.Farm.{farm_step, Stepped}
 use Rattle.farm_model.specs.Replay.{state_after, reply_to, counted_in, kind_for, cell_for, given_by, Truth, AgreesWith, IsHonest, KnowsAll, true_kinds}
-use Rattle.farm_laws.specs.Laws.{reached, row_in, IsJudging, replayed_row, Shows, FinalIsExact, IsWantedCell, PendingIsExact, HandsOutWanted, FinalStays, CountedOnce, EqualsOneThread, OnlyCountedFills, RowIsReplayed, KeepsPromise}
+use Rattle.farm_laws.specs.Laws.{reached, row_in, IsJudging, replayed_row, Shows, FinalIsExact, IsWantedCell, PendingIsExact, HandsOutWanted, FinalStays, CountedOnce, EqualsOneThread, OnlyCountedFills, EachStepKeepsPromise, StepKeepsPromise, RowIsReplayed, KeepsPromise}
 use Rattle.lazy_stop.specs.Matters.{Extends}
-use Rattle.farm_laws.proofs.Items.{item_at, item_by, item_append, numbered_from, there}
-use Rattle.farm_laws.proofs.Cells.{cell_at, kind_in, or_none}
-use Rattle.farm_laws.proofs.Kept.{lengths_of}
+use Rattle.farm_laws.proofs.Items.{there}
+use Rattle.farm_laws.proofs.Cells.{cell_at, or_none}
 use Rattle.farm_laws.proofs.Steps.{one_cell, steps, not_counted}
 use Rattle.farm_laws.proofs.Runs.{runs, counts, tasks_same}
 use Rattle.farm_laws.proofs.Rows.{final_verdict, map_range, true_row}
 use Rattle.farm_laws.proofs.Later.{pending_wanted, extends_cells, answer_stays, answer_in_full}
 use Rattle.farm_laws.proofs.Handing.{hands_open}
 use Rattle.farm_laws.proofs.Moves.{only_apply}
-use Rattle.farm_laws.proofs.Cancels.{cancel_keeps}
+use Rattle.farm_laws.proofs.Cancels.{cancel_changes_none}
 use Rattle.farm_laws.proofs.Applying.{applies_to_all}
+use Rattle.farm_laws.proofs.RowCells.{reached_cell, row_cells, row_length, row_same}
+use Rattle.farm_laws.proofs.Counting.{counted_fills}
 
--- A row by its cells
-
-item_cell : (row : Row) (i : ℕ) (x : Option Kind) → slice_get row i ≡ Some x → unwrap_or (item_of row (1 + i)) None ≡ x
-item_cell row i x h = ap (λ o. unwrap_or o None) (item_by row (1 + i) x (omega arith) (ap (slice_get row) (omega arith) ∙ h))
-
-cells_row : (o : Option Judging) → map (kind_in o) (numbers_to (length (unwrap_or (option_map (λ judging. judging.row) o) []))) ≡ unwrap_or (option_map (λ judging. judging.row) o) []
-cells_row None = refl
-cells_row (Some g) = numbered_from g.row 1 (kind_in (Some g)) (item_cell g.row)
-
-pub row_cells : (s : State) (j : ℕ) → map (cell_at s.judge.judgings j) (numbers_to (length (row_in s j))) ≡ row_in s j
-row_cells s j = cells_row (item_of s.judge.judgings j)
-
-nowhere : (b : Bool) (t : ℕ) → kind_in (cond b None None) t ≡ None
-nowhere true t = refl
-nowhere false t = refl
-
-no_cells : (j t : ℕ) → cell_at [] j t ≡ None
-no_cells j t = nowhere (nat_lt 0 j) t
-
-reached_cell : (settings : SettingsValue) (es : List Event) (j t : ℕ) → cell_at (reached settings es).judge.judgings j t ≡ cell_for settings.rule (counted_in (start settings) es) (task_of j t)
-reached_cell settings es j t = (runs (start settings) es).cells j t ∙ ap (λ o. option_or o (cell_for settings.rule (counted_in (start settings) es) (task_of j t))) (no_cells j t)
+-- Rows
 
 replayed : (settings : SettingsValue) (es : List Event) (j : ℕ) → row_in (reached settings es) j ≡ replayed_row settings es j
 replayed settings es j =
@@ -104,58 +86,28 @@ same_shows settings es j a is h = shows_answer settings es j is ∙ ap reply.Sho
 replayed_answer : (settings : SettingsValue) (es : List Event) (j : ℕ) → answer_of settings.rule settings.mode (row_in (reached settings es) j) ≡ answer_of settings.rule settings.mode (replayed_row settings es j)
 replayed_answer settings es j = ap (answer_of settings.rule settings.mode) (replayed settings es j)
 
-pub final_is_exact : (settings : SettingsValue) (es : List Event) → FinalIsExact settings es
-final_is_exact settings es j v is = (
-  λ h. sym (replayed_answer settings es j) ∙ shows_same settings es j (Final v) h,
-  λ h. same_shows settings es j (Final v) is (replayed_answer settings es j ∙ h),
+-- the reply to an event that is a `show`
+shown : (settings : SettingsValue) (es : List Event) (e : Event) (j : ℕ) → e ≡ event.Show j → reply_to (reached settings es) e ≡ reply_to (reached settings es) (event.Show j)
+shown settings es e j at = ap (reply_to (reached settings es)) at
+
+pub final_is_exact : (settings : SettingsValue) (es : List Event) (e : Event) → FinalIsExact settings es e (reply_to (reached settings es) e)
+final_is_exact settings es e j v at is = let same = shown settings es e j at in (
+  λ h. sym (replayed_answer settings es j) ∙ shows_same settings es j (Final v) (sym same ∙ h),
+  λ h. same ∙ same_shows settings es j (Final v) is (replayed_answer settings es j ∙ h),
 )
 
-pub pending_is_exact : (settings : SettingsValue) (es : List Event) → PendingIsExact settings es
-pending_is_exact settings es j is =
+pub pending_is_exact : (settings : SettingsValue) (es : List Event) (e : Event) → PendingIsExact settings es e (reply_to (reached settings es) e)
+pending_is_exact settings es e j at is =
+    let same = shown settings es e j at in
     let wanted = pending_wanted settings.rule settings.mode (replayed_row settings es j) in (
-      λ h. wanted.0 (sym (replayed_answer settings es j) ∙ shows_same settings es j Pending h),
-      λ w. same_shows settings es j Pending is (replayed_answer settings es j ∙ wanted.1 w),
+      λ h. wanted.0 (sym (replayed_answer settings es j) ∙ shows_same settings es j Pending (sym same ∙ h)),
+      λ w. same ∙ same_shows settings es j Pending is (replayed_answer settings es j ∙ wanted.1 w),
     )
 
 pub counted_once : (settings : SettingsValue) (es : List Event) → CountedOnce settings es
 counted_once settings es task = (counts (start settings) es task).once
 
--- Rows that stay
-
-length_at : (judgings : List Judging) (j : ℕ) (g : Judging) → item_of judgings j ≡ Some g → item_of (lengths_of judgings) j ≡ Some (length g.row)
-length_at judgings j g h =
-    let a = item_at judgings j g h in
-    item_by (lengths_of judgings) j (length g.row) a.0 (slice_get-map (λ judging. length judging.row) judgings (j - 1) ∙ ap (option_map (λ (judging : Judging). length judging.row)) a.1)
-
-at_length : (judgings : List Judging) (j n : ℕ) → item_of (lengths_of judgings) j ≡ Some n → (g : Judging) × (item_of judgings j ≡ Some g) × (length g.row ≡ n)
-at_length judgings j n h =
-    let a = item_at (lengths_of judgings) j n h in
-    let found = from_some (slice_get judgings (j - 1)) n (sym (slice_get-map (λ judging. length judging.row) judgings (j - 1)) ∙ a.1) in
-    (found.0, item_by judgings j found.0 a.0 found.1, found.2) where
-      from_some : (o : Option Judging) (n : ℕ) → option_map (λ judging. length judging.row) o ≡ Some n → (g : Judging) × (o ≡ Some g) × (length g.row ≡ n)
-      from_some None n h = cc
-      from_some (Some g) n h = (g, refl, cc)
-
--- the row of a judging keeps its length
-row_length : (s t : State) (more : List ℕ) (j : ℕ) → IsJudging s j → lengths_of t.judge.judgings ≡ lengths_of s.judge.judgings ++ more → IsJudging t j × (length (row_in t j) ≡ length (row_in s j))
-row_length s t more j is same =
-    let g = there (item_of s.judge.judgings j) is in
-    let old : length (row_in s j) ≡ length g.0.row = ap (λ (o : Option Judging). length (unwrap_or (option_map (λ judging. judging.row) o) [])) g.1 in
-    let long : item_of (lengths_of t.judge.judgings) j ≡ Some (length g.0.row) =
-    ap (λ ls. item_of ls j) same ∙ item_append (lengths_of s.judge.judgings) more j (length g.0.row) (length_at s.judge.judgings j g.0 g.1) in
-    let f = at_length t.judge.judgings j (length g.0.row) long in
-    let new : length (row_in t j) ≡ length f.0.row = ap (λ (o : Option Judging). length (unwrap_or (option_map (λ judging. judging.row) o) [])) f.1 in
-    (ap is_some f.1, new ∙ f.2 ∙ sym old)
-
--- where each cell holds what it held, the row is as it was
-row_same : (s t : State) (more : List ℕ) (j : ℕ) → IsJudging s j → lengths_of t.judge.judgings ≡ lengths_of s.judge.judgings ++ more
-    → ((i : ℕ) → i < length (row_in s j) → cell_at t.judge.judgings j (1 + i) ≡ cell_at s.judge.judgings j (1 + i)) → row_in t j ≡ row_in s j
-row_same s t more j is same cells =
-    let n = (row_length s t more j is same).1 in
-    sym (row_cells t j) ∙ ap (λ (m : ℕ). map (cell_at t.judge.judgings j) (numbers_to m)) n
-    ∙ map_range (cell_at t.judge.judgings j) (cell_at s.judge.judgings j) 1 (length (row_in s j)) cells ∙ row_cells s j
-
-pub only_counted_fills : (settings : SettingsValue) (es : List Event) → OnlyCountedFills settings es
+pub only_counted_fills : (settings : SettingsValue) (es : List Event) (e : Event) → OnlyCountedFills settings es (farm_step (reached settings es) e).0 (reply_to (reached settings es) e)
 only_counted_fills settings es e other j is =
     let s = reached settings es in
     let a = steps s e in
@@ -180,8 +132,8 @@ row_extends s later j is =
     subst (λ (row : Row). Extends (possible_kinds s.judge.rule) row (row_in t j)) (row_cells s j)
     (subst (λ (row : Row). Extends (possible_kinds s.judge.rule) (map (cell_at s.judge.judgings j) (numbers_to (length (row_in s j)))) row) new cells)
 
-pub final_stays : (settings : SettingsValue) (es : List Event) → FinalStays settings es
-final_stays settings es later j v h =
+final_after : (settings : SettingsValue) (es later : List Event) (j : ℕ) (v : Verdict) → Shows settings es j (Final v) → Shows settings (es ++ later) j (Final v)
+final_after settings es later j v h =
     let s = reached settings es in
     let is = shows_judging settings es j (Final v) h in
     let r = runs s later in
@@ -191,6 +143,10 @@ final_stays settings es later j v h =
     same_shows settings (es ++ later) j (Final v)
     (subst (λ (t : State). IsJudging t j) (sym both) (row_length s (state_after s later) r.more j is r.lengths).0)
     (ap (λ (t : State). answer_of settings.rule settings.mode (row_in t j)) both ∙ kept)
+
+pub final_stays : (settings : SettingsValue) (es : List Event) (e : Event) → FinalStays settings es e (reply_to (reached settings es) e)
+final_stays settings es e before later j v at split h =
+    shown settings es e j at ∙ ap (λ events. reply_to (reached settings events) (event.Show j)) split ∙ final_after settings before later j v h
 
 -- One thread
 
@@ -255,17 +211,17 @@ truth_kinds settings truth j n knows = true_row settings.rule (truth_at settings
     let k = there (truth (task_of j (1 + i))) (knows (1 + i) (omega arith) (omega arith)) in
     (k.0, k.1, ap (option_map (remap_of settings.rule)) k.1))
 
-pub equals_one_thread : (settings : SettingsValue) (es : List Event) → EqualsOneThread settings es
-equals_one_thread settings es truth j v honest knows h =
+pub equals_one_thread : (settings : SettingsValue) (es : List Event) (e : Event) → EqualsOneThread settings es e (reply_to (reached settings es) e)
+equals_one_thread settings es e truth j v at honest knows h =
     let row = row_in (reached settings es) j in
     let n = length row in
     let kinds = truth_kinds settings truth j n knows in
-    let answer = answer_in_full settings.rule settings.mode row (truth_row settings truth j n) v (true_kinds settings.rule truth j n) (truth_extends settings es truth j honest) (shows_same settings es j (Final v) h) kinds in
+    let answer = answer_in_full settings.rule settings.mode row (truth_row settings truth j n) v (true_kinds settings.rule truth j n) (truth_extends settings es truth j honest) (shows_same settings es j (Final v) (sym (shown settings es e j at) ∙ h)) kinds in
     final_verdict settings.rule (truth_row settings truth j n) (true_kinds settings.rule truth j n) v kinds answer
 
 -- Tasks that are handed out
 
-pub hands_out_wanted : (settings : SettingsValue) (es : List Event) → HandsOutWanted settings es
+pub hands_out_wanted : (settings : SettingsValue) (es : List Event) (e : Event) → HandsOutWanted settings es (reply_to (reached settings es) e)
 hands_out_wanted settings es e task until h =
     let s = reached settings es in
     let r = runs (start settings) es in
@@ -276,17 +232,33 @@ hands_out_wanted settings es e task until h =
     ∙ ap (λ (mode : Mode). is_wanted s.judge.rule mode given.judging.row task.test) (sym r.mode) ∙ given.wanted in
     subst (λ (cells : Row). IsWantedCell settings cells task.test) (sym row) (given.empty, wanted)
 
+-- The laws
+
+pub step_keeps_promise : (settings : SettingsValue) (es : List Event) → EachStepKeepsPromise settings es
+step_keeps_promise settings es e = record {
+  final_is_exact = final_is_exact settings es e;
+  pending_is_exact = pending_is_exact settings es e;
+  final_stays = final_stays settings es e;
+  equals_one_thread = equals_one_thread settings es e;
+  hands_out_wanted = hands_out_wanted settings es e;
+  only_counted_fills = only_counted_fills settings es e;
+  counted_fills = counted_fills settings es e;
+  applies_to_all = applies_to_all settings es e;
+  cancel_changes_none = cancel_changes_none settings es e;
+  only_apply_moves = λ none. only_apply (reached settings es) e none;
+}
+
+-- what a step keeps whose state and reply are told otherwise
+pub stepped_keeps : (settings : SettingsValue) (es : List Event) (e : Event) (old new : State) (r : Reply) → old ≡ reached settings es → r ≢ reply.NoMemory → Stepped old e new r → StepKeepsPromise settings es e new r
+stepped_keeps settings es e old new r at answered stepped =
+    let s = reached settings es in
+    let state : new ≡ (farm_step s e).0 = stepped.state answered ∙ ap (λ (t : State). (farm_step t e).0) at in
+    let told : r ≡ (farm_step s e).1 = stepped.answer answered ∙ ap (λ (t : State). (farm_step t e).1) at in
+    subst (λ (t : State). StepKeepsPromise settings es e t r) (sym state) (subst (λ (x : Reply). StepKeepsPromise settings es e (farm_step s e).0 x) (sym told) (step_keeps_promise settings es e))
+
 pub keeps_promise : (settings : SettingsValue) (es : List Event) → KeepsPromise settings es
 keeps_promise settings es = record {
-  final_is_exact = final_is_exact settings es;
-  pending_is_exact = pending_is_exact settings es;
-  final_stays = final_stays settings es;
+  each_step = step_keeps_promise settings es;
   counted_once = counted_once settings es;
-  equals_one_thread = equals_one_thread settings es;
-  only_counted_fills = only_counted_fills settings es;
   row_is_replayed = row_is_replayed settings es;
-  hands_out_wanted = hands_out_wanted settings es;
-  applies_to_all = applies_to_all settings es;
-  cancel_changes_none = λ who r. cancel_keeps (reached settings es) who r;
-  only_apply_moves = λ e none. only_apply (reached settings es) e none;
 }

@@ -1,6 +1,6 @@
 -- What a run of events does to the judgings.
 use Rattle.std.proofs.Common.{ℕ, ◌≡◌, ◌+◌, ◌≤◌, List, [], ◌∷◌, ◌++◌, Option, Some, None, Bool, true, false, cond, eqb, ◌&&◌, refl, sym, ap, ◌∙◌, arith, append_assoc}
-use Rattle.std.specs.Option.{option_map, option_or}
+use Rattle.std.specs.Option.{option_map, option_or, unwrap_or}
 use Rattle.std.specs.List.{cons_option}
 use Rattle.std.proofs.lemmas.List.{append-nil}
 use Rattle.std.proofs.lemmas.List.Sums.{sum_by-cons}
@@ -95,14 +95,14 @@ pub record Counts (s : State) (es : List Event) (task : Task) : Type 0 where
 filled_after : (s : State) (p : State × Reply) (given : Option (Task × Kind)) (task : Task) (k : Kind) → Steps s p given → cell_at s.judge.judgings task.judging task.test ≡ Some k → cell_at p.0.judge.judgings task.judging task.test ≡ Some k
 filled_after s p given task k a h = a.cells task.judging task.test ∙ ap (λ o. option_or o (one_cell s.judge.rule given (task_of task.judging task.test))) h
 
-one_more : (p : Task × Kind) (others : List (Task × Kind)) (task : Task) → times_counted (p ∷ others) task ≡ cond (same_task p.0 task) 1 0 + times_counted others task
+pub one_more : (p : Task × Kind) (others : List (Task × Kind)) (task : Task) → times_counted (p ∷ others) task ≡ cond (same_task p.0 task) 1 0 + times_counted others task
 one_more p others task = sum_by-cons (λ q. cond (same_task q.0 task) 1 0) p others
 
 -- a result that counts fills the cell of its task, which was empty
 fills : (s : State) (new : State × Reply) (p : Task × Kind) (task : Task) → Steps s new (Some p) → same_task p.0 task ≡ true
     → (cell_at s.judge.judgings task.judging task.test ≡ None) × (cell_at new.0.judge.judgings task.judging task.test ≡ Some (remap_of s.judge.rule p.1))
 fills s new p task a h =
-    let empty : cell_at s.judge.judgings task.judging task.test ≡ None = ap (λ (t : Task). cell_at s.judge.judgings t.judging t.test) (sym (tasks_same p.0 task h)) ∙ a.fresh p refl in
+    let empty : cell_at s.judge.judgings task.judging task.test ≡ None = ap (λ (t : Task). cell_at s.judge.judgings t.judging t.test) (sym (tasks_same p.0 task h)) ∙ ap (λ o. unwrap_or o None) (a.fresh p refl) in
     let given : one_cell s.judge.rule (Some p) task ≡ Some (remap_of s.judge.rule p.1) = ap (λ b. cond b (Some (remap_of s.judge.rule p.1)) None) h in
     (empty, a.cells task.judging task.test ∙ ap (λ o. option_or o (one_cell s.judge.rule (Some p) task)) empty ∙ given)
 

@@ -1,6 +1,6 @@
 -- What one event does to the judgings.
 use Rattle.std.proofs.Common.{ℕ, ◌≡◌, ◌≢◌, ◌-◌, List, [], ◌∷◌, ◌++◌, Option, Some, None, Bool, true, false, cond, refl, sym, ap, ◌∙◌, subst, length, map}
-use Rattle.std.specs.Option.{option_map, option_or, unwrap_or, is_some}
+use Rattle.std.specs.Option.{option_map, option_or, is_some}
 use Rattle.std.proofs.Math.ListN.{length-set}
 use Rattle.std.proofs.lemmas.List.{append-nil, map-append}
 use Rattle.farm_kinds.specs.declared.kinds.Kind.{Kind}
@@ -42,8 +42,8 @@ pub record Steps (s : State) (p : State × Reply) (given : Option (Task × Kind)
   pub lengths : lengths_of p.0.judge.judgings ≡ lengths_of s.judge.judgings ++ more
   -- cells keep what they hold, and the counted result fills its own
   pub cells : (j t : ℕ) → cell_at p.0.judge.judgings j t ≡ option_or (cell_at s.judge.judgings j t) (one_cell s.judge.rule given (task_of j t))
-  -- a result counts only where its cell is empty
-  pub fresh : (g : Task × Kind) → given ≡ Some g → cell_at s.judge.judgings g.0.judging g.0.test ≡ None
+  -- a result counts only where its cell is there and empty
+  pub fresh : (g : Task × Kind) → given ≡ Some g → cell_of s.judge.judgings g.0.judging g.0.test ≡ Some None
 
 -- Events that count nothing
 
@@ -121,7 +121,7 @@ counted_steps s j t kind empty = record {
   more = [];
   lengths = lengths_filled s.judge.judgings j t (remap_of s.judge.rule kind) ∙ sym (append-nil (lengths_of s.judge.judgings));
   cells = cell_filled s.judge.judgings j t (remap_of s.judge.rule kind) empty;
-  fresh = λ g e. let same : (task_of j t, kind) ≡ g = cc in ap (λ (p : Task × Kind). cell_at s.judge.judgings p.0.judging p.0.test) (sym same) ∙ ap (λ o. unwrap_or o None) empty;
+  fresh = λ g e. let same : (task_of j t, kind) ≡ g = cc in ap (λ (p : Task × Kind). cell_of s.judge.judgings p.0.judging p.0.test) (sym same) ∙ empty;
 }
 
 -- it does not
