@@ -84,7 +84,7 @@ applied_to_all settings es who r n h =
       λ k none_k. current k ∙ ap (option_map (λ (submission : Submission). submission.current)) (others_kept s.submissions members k (none_is (λ (m : Member). m.submission) members k none_k)),
     )
 
-pub applies_to_all : (settings : SettingsValue) (es : List Event) (e : Event) → AppliesToAll settings es e (farm_step (reached settings es) e).0 (reply_to (reached settings es) e)
+pub applies_to_all : (settings : SettingsValue) (es : List Event) (e : Event) → AppliesToAll settings es e (farm_step (reached settings es) e).0 (λ r. reply_to (reached settings es) e ≡ r)
 applies_to_all settings es e who n members at h =
     subst (λ (x : Event). reply_to (reached settings es) x ≡ reply.Applied members → ChangesAll (reached settings es) (farm_step (reached settings es) x).0 n) (sym at)
     (applied_to_all settings es who n members) h

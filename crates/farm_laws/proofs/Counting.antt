@@ -43,7 +43,7 @@ none_counted (p ∷ ps) task h =
 
 -- The cell
 
-same_number : (n : ℕ) → eqb n n ≡ true
+pub same_number : (n : ℕ) → eqb n n ≡ true
 same_number n = grind arith
 
 other_number : (n m : ℕ) → m ≢ n → eqb n m ≡ false
@@ -83,7 +83,7 @@ other_rows s new task kind b j other is = row_same s new b.more j is b.lengths (
 fills_cell : (s new : State) (task : Task) (kind : Kind) → Steps s (new, reply.Counted) (Some (task, kind)) → HasEmpty s.judge.judgings task.judging task.test → FillsCell s new task (remap_of s.judge.rule kind)
 fills_cell s new task kind b e = record { row = filled_row s new task kind b e; others = other_rows s new task kind b }
 
-pub counted_fills : (settings : SettingsValue) (es : List Event) (e : Event) → CountedFills settings es e (farm_step (reached settings es) e).0 (reply_to (reached settings es) e)
+pub counted_fills : (settings : SettingsValue) (es : List Event) (e : Event) → CountedFills settings es e (farm_step (reached settings es) e).0 (λ r. reply_to (reached settings es) e ≡ r)
 counted_fills settings es e counts =
     let s = reached settings es in
     let new = (farm_step s e).0 in

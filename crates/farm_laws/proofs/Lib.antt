@@ -1,4 +1,5 @@
 pub mod Items
+pub mod Outputs
 pub mod Each
 pub mod Cells
 pub mod Kept
@@ -16,3 +17,6 @@ pub mod Applying
 pub mod RowCells
 pub mod Counting
 pub mod Reporting
+pub mod FirstLines
+pub mod ReplyTexts
+pub mod Promised

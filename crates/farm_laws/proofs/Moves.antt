@@ -35,13 +35,13 @@ appended submissions more n is =
     ap (option_map (λ (submission : Submission). submission.current)) (item_append submissions more n x.0 x.1 ∙ sym x.1)
 
 -- an apply that is not accepted
-not_applied : (s : State) (who : List ℕ) (r : ℕ) → AppliesNone (event.Apply who r) (reply_to s (event.Apply who r)) → KeepsCurrent s (farm_step s (event.Apply who r))
+not_applied : (s : State) (who : List ℕ) (r : ℕ) → AppliesNone (event.Apply who r) (λ x. reply_to s (event.Apply who r) ≡ x) → KeepsCurrent s (farm_step s (event.Apply who r))
 not_applied s who r none =
     let e = event.Apply who r in
     outcome (KeepsCurrent s) s (refusal_of s e) (accepted s e) (λ x n is. refl)
     (λ done. absurd (none who r _ refl (ap (λ refusal. (refused_or s refusal (accepted s e)).1) done)))
 
-pub only_apply : (s : State) (e : Event) → AppliesNone e (reply_to s e) → KeepsCurrent s (farm_step s e)
+pub only_apply : (s : State) (e : Event) → AppliesNone e (λ x. reply_to s e ≡ x) → KeepsCurrent s (farm_step s e)
 only_apply s (event.Problem who name tests) none = kept s (event.Problem who name tests) refl
 only_apply s (event.Replace who name tests) none = kept s (event.Replace who name tests) refl
 only_apply s (event.Host name) none = kept s (event.Host name) refl

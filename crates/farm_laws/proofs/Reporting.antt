@@ -35,8 +35,9 @@ use Rattle.farm_laws.proofs.Handing.{hands_open}
 use Rattle.farm_laws.proofs.Moves.{only_apply}
 use Rattle.farm_laws.proofs.Cancels.{cancel_changes_none}
 use Rattle.farm_laws.proofs.Applying.{applies_to_all}
-use Rattle.farm_laws.proofs.RowCells.{reached_cell, row_cells, row_length, row_same}
+use Rattle.farm_laws.proofs.RowCells.{Told, reached_cell, row_cells, row_length, row_same}
 use Rattle.farm_laws.proofs.Counting.{counted_fills}
+use Rattle.farm_laws.proofs.Outputs.{state_after-append}
 
 -- Rows
 
@@ -90,13 +91,13 @@ replayed_answer settings es j = ap (answer_of settings.rule settings.mode) (repl
 shown : (settings : SettingsValue) (es : List Event) (e : Event) (j : ℕ) → e ≡ event.Show j → reply_to (reached settings es) e ≡ reply_to (reached settings es) (event.Show j)
 shown settings es e j at = ap (reply_to (reached settings es)) at
 
-pub final_is_exact : (settings : SettingsValue) (es : List Event) (e : Event) → FinalIsExact settings es e (reply_to (reached settings es) e)
+pub final_is_exact : (settings : SettingsValue) (es : List Event) (e : Event) → FinalIsExact settings es e (Told settings es e)
 final_is_exact settings es e j v at is = let same = shown settings es e j at in (
   λ h. sym (replayed_answer settings es j) ∙ shows_same settings es j (Final v) (sym same ∙ h),
   λ h. same ∙ same_shows settings es j (Final v) is (replayed_answer settings es j ∙ h),
 )
 
-pub pending_is_exact : (settings : SettingsValue) (es : List Event) (e : Event) → PendingIsExact settings es e (reply_to (reached settings es) e)
+pub pending_is_exact : (settings : SettingsValue) (es : List Event) (e : Event) → PendingIsExact settings es e (Told settings es e)
 pending_is_exact settings es e j at is =
     let same = shown settings es e j at in
     let wanted = pending_wanted settings.rule settings.mode (replayed_row settings es j) in (
@@ -107,7 +108,7 @@ pending_is_exact settings es e j at is =
 pub counted_once : (settings : SettingsValue) (es : List Event) → CountedOnce settings es
 counted_once settings es task = (counts (start settings) es task).once
 
-pub only_counted_fills : (settings : SettingsValue) (es : List Event) (e : Event) → OnlyCountedFills settings es (farm_step (reached settings es) e).0 (reply_to (reached settings es) e)
+pub only_counted_fills : (settings : SettingsValue) (es : List Event) (e : Event) → OnlyCountedFills settings es (farm_step (reached settings es) e).0 (Told settings es e)
 only_counted_fills settings es e other j is =
     let s = reached settings es in
     let a = steps s e in
@@ -116,10 +117,6 @@ only_counted_fills settings es e other j is =
     (λ i lt. a.cells j (1 + i) ∙ ap (λ o. option_or (cell_at s.judge.judgings j (1 + i)) (one_cell s.judge.rule o (task_of j (1 + i)))) none ∙ or_none (cell_at s.judge.judgings j (1 + i)))
 
 -- Final stays
-
-pub state_after-append : (s : State) (es later : List Event) → state_after s (es ++ later) ≡ state_after (state_after s es) later
-state_after-append s [] later = refl
-state_after-append s (e ∷ es) later = state_after-append (farm_step s e).0 es later
 
 -- the row of a judging is extended by later events
 row_extends : (s : State) (later : List Event) (j : ℕ) → IsJudging s j → Extends (possible_kinds s.judge.rule) (row_in s j) (row_in (state_after s later) j)
@@ -144,7 +141,7 @@ final_after settings es later j v h =
     (subst (λ (t : State). IsJudging t j) (sym both) (row_length s (state_after s later) r.more j is r.lengths).0)
     (ap (λ (t : State). answer_of settings.rule settings.mode (row_in t j)) both ∙ kept)
 
-pub final_stays : (settings : SettingsValue) (es : List Event) (e : Event) → FinalStays settings es e (reply_to (reached settings es) e)
+pub final_stays : (settings : SettingsValue) (es : List Event) (e : Event) → FinalStays settings es e (Told settings es e)
 final_stays settings es e before later j v at split h =
     shown settings es e j at ∙ ap (λ events. reply_to (reached settings events) (event.Show j)) split ∙ final_after settings before later j v h
 
@@ -211,7 +208,7 @@ truth_kinds settings truth j n knows = true_row settings.rule (truth_at settings
     let k = there (truth (task_of j (1 + i))) (knows (1 + i) (omega arith) (omega arith)) in
     (k.0, k.1, ap (option_map (remap_of settings.rule)) k.1))
 
-pub equals_one_thread : (settings : SettingsValue) (es : List Event) (e : Event) → EqualsOneThread settings es e (reply_to (reached settings es) e)
+pub equals_one_thread : (settings : SettingsValue) (es : List Event) (e : Event) → EqualsOneThread settings es e (Told settings es e)
 equals_one_thread settings es e truth j v at honest knows h =
     let row = row_in (reached settings es) j in
     let n = length row in
@@ -221,7 +218,7 @@ equals_one_thread settings es e truth j v at honest knows h =
 
 -- Tasks that are handed out
 
-pub hands_out_wanted : (settings : SettingsValue) (es : List Event) (e : Event) → HandsOutWanted settings es (reply_to (reached settings es) e)
+pub hands_out_wanted : (settings : SettingsValue) (es : List Event) (e : Event) → HandsOutWanted settings es (Told settings es e)
 hands_out_wanted settings es e task until h =
     let s = reached settings es in
     let r = runs (start settings) es in
@@ -230,7 +227,7 @@ hands_out_wanted settings es e task until h =
     let wanted : is_wanted settings.rule settings.mode given.judging.row task.test ≡ true =
     ap (λ (rule : RuleValue). is_wanted rule settings.mode given.judging.row task.test) (sym r.rule)
     ∙ ap (λ (mode : Mode). is_wanted s.judge.rule mode given.judging.row task.test) (sym r.mode) ∙ given.wanted in
-    subst (λ (cells : Row). IsWantedCell settings cells task.test) (sym row) (given.empty, wanted)
+    record { task = task; until = until; handed = h; wanted = subst (λ (cells : Row). IsWantedCell settings cells task.test) (sym row) (given.empty, wanted) }
 
 -- The laws
 

@@ -7,9 +7,10 @@ use Rattle.farm_kinds.specs.declared.kinds.Kind.{Kind}
 use Rattle.farm_model.specs.Numbered.{item_of, numbers_to}
 use Rattle.farm_model.specs.Rows.{Row}
 use Rattle.farm_kinds.specs.declared.events.Event.{Event}
+use Rattle.farm_kinds.specs.declared.events.Reply.{Reply}
 use Rattle.farm_model.specs.Judgings.{Judging, task_of}
 use Rattle.farm_model.specs.State.{State, SettingsValue, start}
-use Rattle.farm_model.specs.Replay.{cell_for, counted_in}
+use Rattle.farm_model.specs.Replay.{reply_to, cell_for, counted_in}
 use Rattle.farm_laws.specs.Laws.{reached, row_in, IsJudging}
 use Rattle.farm_laws.proofs.Items.{item_at, item_by, item_append, numbered_from, there}
 use Rattle.farm_laws.proofs.Cells.{cell_at, kind_in}
@@ -18,6 +19,10 @@ use Rattle.farm_laws.proofs.Runs.{runs}
 use Rattle.farm_laws.proofs.Rows.{map_range}
 
 -- A row by its cells
+
+-- the reply of the step is this one
+abbrev pub Told : SettingsValue → List Event → Event → Reply → Type 0
+Told settings es e r = reply_to (reached settings es) e ≡ r
 
 pub item_cell : (row : Row) (i : ℕ) (x : Option Kind) → slice_get row i ≡ Some x → unwrap_or (item_of row (1 + i)) None ≡ x
 item_cell row i x h = ap (λ o. unwrap_or o None) (item_by row (1 + i) x (omega arith) (ap (slice_get row) (omega arith) ∙ h))

@@ -1,5 +1,6 @@
 -- The laws of runs: what each step keeps after any events from the empty farm, and what holds of every run.
--- In the parts below `es` are the events before a step, `e` is its event, `new` the state after it and `r` its reply.
+-- In the parts below `es` are the events before a step, `e` is its event and `new` the state after it. `told r` says
+-- that `r` is the reply: of a step because it is that, and of a line of a script because its text is written there.
 use Rattle.std.specs.Prelude.{◌≡◌, ◌≢◌, ◌↔◌, ℕ, ◌-◌, ◌≤◌, List, [], ◌++◌, map, length, slice_set, Option, Some, None, IsSome, IsTrue, unwrap_or, Contains, All}
 use Rattle.std.specs.Option.{option_map}
 use Rattle.farm_kinds.specs.declared.kinds.Kind.{Kind}
@@ -44,9 +45,9 @@ Shows settings es j answer = reply_to (reached settings es) (event.Show j) ≡ r
 
 -- A judging is reported final exactly where the results that were counted say so: `answer_of` is over all
 -- that the cells without a result could become, or with `Full` over the cells that are all filled.
-abbrev pub FinalIsExact : SettingsValue → List Event → Event → Reply → Type 0
-FinalIsExact settings es e r = (j : ℕ) (v : Verdict) → e ≡ event.Show j → IsJudging (reached settings es) j →
-    (r ≡ reply.Shown (Final v)) ↔ (answer_of settings.rule settings.mode (replayed_row settings es j) ≡ Final v)
+abbrev pub FinalIsExact : SettingsValue → List Event → Event → (Reply → Type 0) → Type 0
+FinalIsExact settings es e told = (j : ℕ) (v : Verdict) → e ≡ event.Show j → IsJudging (reached settings es) j →
+    told (reply.Shown (Final v)) ↔ (answer_of settings.rule settings.mode (replayed_row settings es j) ≡ Final v)
 
 -- The cell of this test is empty, and is still to be judged: with `Lazy` where it matters, as two ways to
 -- fill the row that differ there alone have different verdicts, and with `Full` always.
@@ -56,36 +57,43 @@ IsWantedCell settings row test =
 
 -- A judging is reported pending with `Full` exactly while a test has no result that was counted, and with
 -- `Lazy` exactly while an empty cell matters. One without cells is final.
-abbrev pub PendingIsExact : SettingsValue → List Event → Event → Reply → Type 0
-PendingIsExact settings es e r = (j : ℕ) → e ≡ event.Show j → IsJudging (reached settings es) j →
-    (r ≡ reply.Shown Pending) ↔ ((test : ℕ) × IsWantedCell settings (replayed_row settings es j) test)
+abbrev pub PendingIsExact : SettingsValue → List Event → Event → (Reply → Type 0) → Type 0
+PendingIsExact settings es e told = (j : ℕ) → e ≡ event.Show j → IsJudging (reached settings es) j →
+    told (reply.Shown Pending) ↔ ((test : ℕ) × IsWantedCell settings (replayed_row settings es j) test)
 
 -- what was final after some of the events is reported final still, with that verdict
-abbrev pub FinalStays : SettingsValue → List Event → Event → Reply → Type 0
-FinalStays settings es e r = (before later : List Event) (j : ℕ) (v : Verdict) →
+abbrev pub FinalStays : SettingsValue → List Event → Event → (Reply → Type 0) → Type 0
+FinalStays settings es e told = (before later : List Event) (j : ℕ) (v : Verdict) →
     e ≡ event.Show j → es ≡ before ++ later →
-    Shows settings before j (Final v) → r ≡ reply.Shown (Final v)
+    Shows settings before j (Final v) → told (reply.Shown (Final v))
 
 -- What is final is what running every test in rank order on one thread gives, where the results are honest.
 -- With `Lazy` some of these tests may not have been judged.
-abbrev pub EqualsOneThread : SettingsValue → List Event → Event → Reply → Type 0
-EqualsOneThread settings es e r = (truth : Truth) (j : ℕ) (v : Verdict) →
+abbrev pub EqualsOneThread : SettingsValue → List Event → Event → (Reply → Type 0) → Type 0
+EqualsOneThread settings es e told = (truth : Truth) (j : ℕ) (v : Verdict) →
     let tests = length (row_in (reached settings es) j) in
     e ≡ event.Show j → IsHonest (start settings) es truth → KnowsAll truth j tests →
-    r ≡ reply.Shown (Final v) → v ≡ one_thread_verdict settings.rule truth j tests
+    told (reply.Shown (Final v)) → v ≡ one_thread_verdict settings.rule truth j tests
 
 -- Results
 
+-- the task that is told to be handed out has an empty cell that is still to be judged
+pub record HandsOut (settings : SettingsValue) (s : State) (told : Reply → Type 0) : Type 0 where
+  pub task : Task
+  pub until : ℕ
+  pub handed : told (reply.Handed task until)
+  pub wanted : IsWantedCell settings (row_in s task.judging) task.test
+
 -- A task is handed out only while its cell is empty and still to be judged: with `Lazy` it matters, in the
 -- state before the event.
-abbrev pub HandsOutWanted : SettingsValue → List Event → Reply → Type 0
-HandsOutWanted settings es r = (task : Task) (until : ℕ) → r ≡ reply.Handed task until →
-    IsWantedCell settings (row_in (reached settings es) task.judging) task.test
+abbrev pub HandsOutWanted : SettingsValue → List Event → (Reply → Type 0) → Type 0
+HandsOutWanted settings es told = (task : Task) (until : ℕ) → told (reply.Handed task until) →
+    HandsOut settings (reached settings es) told
 
 -- Only what is answered `counted` fills a cell. Claims, renewals, ticks, hosts' deaths and returns, and results
 -- that are answered otherwise, leave the row of each judging that is there as it was.
-abbrev pub OnlyCountedFills : SettingsValue → List Event → State → Reply → Type 0
-OnlyCountedFills settings es new r = r ≢ reply.Counted →
+abbrev pub OnlyCountedFills : SettingsValue → List Event → State → (Reply → Type 0) → Type 0
+OnlyCountedFills settings es new told = ¬ told reply.Counted →
     (j : ℕ) → IsJudging (reached settings es) j → row_in new j ≡ row_in (reached settings es) j
 
 -- the kind is in the cell of the task, and every other cell is as it was
@@ -104,8 +112,8 @@ pub record CountsResult (settings : SettingsValue) (es : List Event) (e : Event)
   pub fills : FillsCell (reached settings es) new task (remap_of settings.rule kind)
 
 -- Only a result is answered `counted`, and at most one of each task.
-abbrev pub CountedFills : SettingsValue → List Event → Event → State → Reply → Type 0
-CountedFills settings es e new r = r ≡ reply.Counted → CountsResult settings es e new
+abbrev pub CountedFills : SettingsValue → List Event → Event → State → (Reply → Type 0) → Type 0
+CountedFills settings es e new told = told reply.Counted → CountsResult settings es e new
 
 -- Rejudgings
 
@@ -123,9 +131,9 @@ KeepsCurrent old new these = (submission : ℕ) → these submission → current
 
 -- An apply that is accepted makes the new judging of every member the current one, at this one event, and
 -- changes no other submission's.
-abbrev pub AppliesToAll : SettingsValue → List Event → Event → State → Reply → Type 0
-AppliesToAll settings es e new r = (who : List ℕ) (n members : ℕ) → let old = reached settings es in
-    e ≡ event.Apply who n → r ≡ reply.Applied members →
+abbrev pub AppliesToAll : SettingsValue → List Event → Event → State → (Reply → Type 0) → Type 0
+AppliesToAll settings es e new told = (who : List ℕ) (n members : ℕ) → let old = reached settings es in
+    e ≡ event.Apply who n → told (reply.Applied members) →
     All (λ member. current_in new member.submission ≡ Some member.new) (members_in old.rejudgings n)
     × KeepsCurrent old new (λ submission. ¬ IsMember old n submission)
 
@@ -137,12 +145,12 @@ CancelChangesNone settings es e new = (who : List ℕ) (n : ℕ) → let old = r
     × (reply_to new event.Board ≡ reply_to old event.Board)
 
 -- the event is no apply that is accepted
-abbrev pub AppliesNone : Event → Reply → Type 0
-AppliesNone e r = (who : List ℕ) (n members : ℕ) → e ≡ event.Apply who n → r ≢ reply.Applied members
+abbrev pub AppliesNone : Event → (Reply → Type 0) → Type 0
+AppliesNone e told = (who : List ℕ) (n members : ℕ) → e ≡ event.Apply who n → ¬ told (reply.Applied members)
 
 -- No event but an apply that is accepted changes the current judging of a submission that is there.
-abbrev pub OnlyApplyMoves : SettingsValue → List Event → Event → State → Reply → Type 0
-OnlyApplyMoves settings es e new r = let old = reached settings es in AppliesNone e r →
+abbrev pub OnlyApplyMoves : SettingsValue → List Event → Event → State → (Reply → Type 0) → Type 0
+OnlyApplyMoves settings es e new told = let old = reached settings es in AppliesNone e told →
     KeepsCurrent old new (λ submission. IsSome (item_of old.submissions submission))
 
 -- The laws
@@ -152,18 +160,22 @@ OnlyApplyMoves settings es e new r = let old = reached settings es in AppliesNon
 -- verdict stays and is what one thread gives, each result counts once and fills its cell, nothing else fills
 -- one, only tasks that are still to be judged are handed out, and a rejudging changes all its submissions'
 -- current judgings when it is applied, and none when it is cancelled.
-pub record StepKeepsPromise (settings : SettingsValue) (es : List Event) (e : Event)
-    (new : State) (r : Reply) : Type 0 where
-  pub final_is_exact : FinalIsExact settings es e r
-  pub pending_is_exact : PendingIsExact settings es e r
-  pub final_stays : FinalStays settings es e r
-  pub equals_one_thread : EqualsOneThread settings es e r
-  pub hands_out_wanted : HandsOutWanted settings es r
-  pub only_counted_fills : OnlyCountedFills settings es new r
-  pub counted_fills : CountedFills settings es e new r
-  pub applies_to_all : AppliesToAll settings es e new r
+pub record ReplyKeepsPromise (settings : SettingsValue) (es : List Event) (e : Event)
+    (new : State) (told : Reply → Type 0) : Type 0 where
+  pub final_is_exact : FinalIsExact settings es e told
+  pub pending_is_exact : PendingIsExact settings es e told
+  pub final_stays : FinalStays settings es e told
+  pub equals_one_thread : EqualsOneThread settings es e told
+  pub hands_out_wanted : HandsOutWanted settings es told
+  pub only_counted_fills : OnlyCountedFills settings es new told
+  pub counted_fills : CountedFills settings es e new told
+  pub applies_to_all : AppliesToAll settings es e new told
   pub cancel_changes_none : CancelChangesNone settings es e new
-  pub only_apply_moves : OnlyApplyMoves settings es e new r
+  pub only_apply_moves : OnlyApplyMoves settings es e new told
+
+-- the same of a step with this new state and this reply
+abbrev pub StepKeepsPromise : SettingsValue → List Event → Event → State → Reply → Type 0
+StepKeepsPromise settings es e new r = ReplyKeepsPromise settings es e new (λ x. r ≡ x)
 
 -- at most one result of each task is counted
 abbrev pub CountedOnce : SettingsValue → List Event → Type 0

@@ -1,7 +1,8 @@
-ghost use Rattle.std.specs.Prelude.{List};
+ghost use Rattle.std.specs.Prelude.{ℕ, List};
 ghost use Rattle.farm_kinds.specs.declared.events.Event.{Event};
 ghost use Rattle.farm_model.specs.State.{SettingsValue};
 ghost use Rattle.farm_laws.specs.Laws.{EachStepKeepsPromise, KeepsPromise};
+ghost use Rattle.farm_laws.specs.Output.{OutputIsReplayed, PrefixKeepsPromise, WholeIsWritten};
 
 /// Whatever events came before from the empty farm, and whatever this one is, lazily or in full: a
 /// judging is reported final exactly where its verdict is known from the results that were counted,
@@ -16,4 +17,12 @@ pub fn step_keeps_promise()
 /// hold what was counted.
 pub fn keeps_promise()
     ensures { (settings : SettingsValue) (es : List Event) → KeepsPromise settings es }
+{}
+
+/// The output of a script is what is written for each of its lines, in the state to which the lines before
+/// it led; and what is written of it keeps the promise, line by line.
+pub fn output_keeps_promise()
+    ensures replayed { (settings : SettingsValue) (bytes : List ℕ) → OutputIsReplayed settings bytes }
+    ensures prefix { (settings : SettingsValue) (bytes : List ℕ) → PrefixKeepsPromise settings bytes }
+    ensures whole { (settings : SettingsValue) (bytes : List ℕ) → WholeIsWritten settings bytes }
 {}

@@ -5,4 +5,4 @@
 
 mod laws;
 
-pub use laws::{keeps_promise, step_keeps_promise};
+pub use laws::{keeps_promise, output_keeps_promise, step_keeps_promise};
