@@ -1,6 +1,5 @@
 -- Where nothing fails, a session is done unless memory is wanting.
-use Rattle.std.proofs.Common.{ℕ, ◌≡◌, ◌≤◌, List, ◌++◌, ◌⊎◌, inl, inr, Option, None, Some, refl, ap, arith, length}
-use Rattle.std.proofs.lemmas.List.{length-append}
+use Rattle.std.proofs.Common.{ℕ, ◌≡◌, ◌≤◌, List, ◌⊎◌, inl, inr, Option, refl, arith}
 use Rattle.farm_io.specs.Streams.{Rose}
 use Rattle.script_session.specs.declared.end.ScriptEnd.{ScriptEnd}
 use Rattle.script_session.specs.declared.end.ScriptEnd.TheVariants as end
@@ -10,17 +9,10 @@ use Rattle.script_session.specs.Session.{TookLimit, IsShort}
 pub rose_since : (first before now : ℕ) → first ≤ before → Rose before now → Rose first now
 rose_since first before now later rose = omega (arith, later, rose)
 
-not_limited : (left left' : Option (List ℕ)) → TookLimit left left' → IsShort left → ⊥
-not_limited None left' t short = short
-not_limited (Some bytes) None t short = t.took
-not_limited (Some bytes) (Some rest) t short =
-    let parts : length bytes ≡ length (t.bytes ++ rest) = ap length t.took in
-    absurd (omega (arith, parts, length-append t.bytes rest, t.count, short))
-
 pub completed : (A B : Type 0) (r : ScriptEnd) (left left' : Option (List ℕ)) → (r ≡ end.ReadFault → A) → (r ≡ end.WriteFault → B) → (r ≡ end.InputLimit → TookLimit left left')
     → IsShort left → ¬ A → ¬ B → (r ≡ end.Done) ⊎ (r ≡ end.NoMemory)
 completed A B end.Done left left' a b t short na nb = inl refl
 completed A B end.NoMemory left left' a b t short na nb = inr refl
 completed A B end.ReadFault left left' a b t short na nb = absurd (na (a refl))
 completed A B end.WriteFault left left' a b t short na nb = absurd (nb (b refl))
-completed A B end.InputLimit left left' a b t short na nb = absurd (not_limited left left' (t refl) short)
+completed A B end.InputLimit left left' a b t short na nb = absurd ((t refl).not_short short)

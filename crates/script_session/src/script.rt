@@ -4,11 +4,8 @@ ghost use Rattle.farm_io.specs.Lines.{Whole, HasFeed};
 ghost use Rattle.farm_io.specs.Streams.{Rose, HasCausePut};
 ghost use Rattle.farm_io.specs.ReaderValue.{budget};
 ghost use Rattle.farm_io.specs.Reading.{MayGoOn};
-ghost use Rattle.farm_kinds.specs.declared.events.Event.{Event};
-ghost use Rattle.farm_model.specs.State.{SettingsValue};
 ghost use Rattle.farm_model.specs.Script.{after_line};
-ghost use Rattle.farm_laws.specs.Laws.{KeepsPromise};
-ghost use Rattle.script_session.specs.Session.{AllAnswered, LinesAnswered, FrontAnswered, TookLimit, IsShort, Turned, PutsPending};
+ghost use Rattle.script_session.specs.Session.{IsShort, Turned, EndsAs, PutsPending};
 
 use crate::end::ScriptEnd;
 use command_text::{push_bad_line, push_reply, push_too_long, read_line};
@@ -17,7 +14,8 @@ use farm_io::{Line, LineReader, PutEnd, Sink, Source};
 use farm_kinds::{LineFault, NoMemory, Reply};
 use std::alloc::Global;
 
-/// Answers a line, behind the replies that are pending. At `NoMemory` these stay as they were.
+/// Answers a line, behind the replies that are pending. At `NoMemory` these stay as they were, and the farm
+/// may have answered.
 fn answer_line(
     alloc: Global,
     farm: &mut Farm,
@@ -27,6 +25,7 @@ fn answer_line(
     ensures farm { OnOk result (farm.new ≡ (after_line farm.old (Whole line.now)).0) }
     ensures text { OnOk result (pending.new.items ≡ pending.old.items ++ (after_line farm.old (Whole line.now)).1) }
     ensures kept { OnErr result (pending.new.items ≡ pending.old.items) }
+    ensures stands { OnErr result ((farm.new ≡ farm.old) ⊎ (farm.new ≡ (after_line farm.old (Whole line.now)).0)) }
 {
     match read_line(alloc, line) {
         Ok(None) => Ok(()),
@@ -145,23 +144,19 @@ fn turn<S: Source, K: Sink>(
 /// Reads lines to the input's end, answers each, and writes the replies. The replies to the lines that one
 /// take of the input brought are written together.
 ///
-/// `promise` is the law of all runs from an empty farm, whose step answers the lines here.
+/// `ends` says for each end which lines were answered, so how the farm stands and what was written, and that
+/// from the empty farm this keeps the promise, line by line.
 pub fn run_script<S: Source, K: Sink>(
     alloc: Global,
     farm: &mut Farm,
     input: &mut S,
     out: &mut K,
 ) -> ScriptEnd
-    ensures done { result ≡ ScriptEnd.Done
-        → AllAnswered (record { farm = farm.old; left = S.left input.old; held = K.held out.old }) (S.left input.new) (K.held out.new) }
-    ensures lines { (result ≡ ScriptEnd.ReadFault) ⊎ (result ≡ ScriptEnd.InputLimit)
-        → LinesAnswered (record { farm = farm.old; left = S.left input.old; held = K.held out.old }) (S.left input.new) (K.held out.new) }
-    ensures front { (result ≡ ScriptEnd.WriteFault) ⊎ (result ≡ ScriptEnd.NoMemory)
-        → FrontAnswered (record { farm = farm.old; left = S.left input.old; held = K.held out.old }) (S.left input.new) (K.held out.new) }
-    ensures promise { (settings : SettingsValue) (es : List Event) → KeepsPromise settings es }
+    ensures ends { EndsAs result
+        (record { farm = farm.old; left = S.left input.old; held = K.held out.old })
+        (record { farm = farm.new; left = S.left input.new; held = K.held out.new }) }
     ensures read_fault { result ≡ ScriptEnd.ReadFault → Rose (S.faults input.old) (S.faults input.new) }
     ensures write_fault { result ≡ ScriptEnd.WriteFault → Rose (K.faults out.old) (K.faults out.new) }
-    ensures limit { result ≡ ScriptEnd.InputLimit → TookLimit (S.left input.old) (S.left input.new) }
     ensures complete { IsShort (S.left input.old)
         → ¬ Rose (S.faults input.old) (S.faults input.new) → ¬ Rose (K.faults out.old) (K.faults out.new)
         → (result ≡ ScriptEnd.Done) ⊎ (result ≡ ScriptEnd.NoMemory) }

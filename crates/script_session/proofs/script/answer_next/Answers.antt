@@ -1,4 +1,4 @@
-use Rattle.std.proofs.Common.{refl}
+use Rattle.std.proofs.Common.{refl, inl}
 use Rattle.farm_io.specs.Lines.{Whole, Long}
 use Rattle.script_session.specs.Session.{Standing}
 use Rattle.script_session.proofs.Sessions.{line_goes_on, memory_wanted, turned_memory, took_text, took_long, at_end, at_fault, at_limit, kept_front, not_stopped}
@@ -21,8 +21,8 @@ returns-in-Err-clause-turned g c =
       reader = c.next_line.new.self;
       pending = c.end_without_memory.new.pending.items;
     } in
-    turned_memory _ new _ end.only (λ b u. memory_wanted b _ _ _ _ (Whole c.text.result.now) end.front.0
-    (took_text _ _ _ c.text.result.now c.text.ensures.text e.reads (λ s h. (e.sticky s h).0) e.stops e.ended e.readable)
+    turned_memory _ new _ end.only (λ b u. memory_wanted b _ _ _ _ (Whole c.text.result.now) c.answer_line.new.farm end.front.0
+    (took_text _ _ _ c.text.result.now c.text.ensures.text e.reads (λ s h. (e.sticky s h).0) e.stops e.ended e.readable) c.in-Err.ensures.stands
     (kept_front _ _ _ _ end.front c.in-Err.ensures.kept) u)
 
 pub returns-in-Ok-push_too_long-clause-turned : goal.returns-in-Ok-push_too_long-clause-turned
@@ -42,8 +42,8 @@ returns-in-Err-push_too_long-clause-turned g c =
       reader = c.next_line.new.self;
       pending = c.end_without_memory-in-Err-push_too_long.new.pending.items;
     } in
-    turned_memory _ new _ end.only (λ b u. memory_wanted b _ _ _ _ (Long c.in-TooLong.len) end.front.0
-    (took_long _ _ _ c.in-TooLong.len e.reads (λ s h. (e.sticky s h).0) e.stops e.ended e.readable)
+    turned_memory _ new _ end.only (λ b u. memory_wanted b _ _ _ _ (Long c.in-TooLong.len) c.args.farm.now end.front.0
+    (took_long _ _ _ c.in-TooLong.len e.reads (λ s h. (e.sticky s h).0) e.stops e.ended e.readable) (inl refl)
     (kept_front _ _ _ _ end.front c.in-Err-push_too_long.ensures.err) u)
 
 pub returns-in-End-clause-turned : goal.returns-in-End-clause-turned
