@@ -16,7 +16,8 @@ settings_or_bad (Err fault) = Err (bad.Settings fault)
 -- the settings that a file gives, or why it gives none
 abbrev pub config_in : Option (List ℕ) → Result SettingsValue BadConfig
 config_in None = Err bad.NoConfig
-config_in (Some bytes) = if nat_le (length bytes) file_limit then settings_or_bad (settings_of_text bytes) else Err bad.TooLarge
+config_in (Some bytes) =
+    if nat_le (length bytes) file_limit then settings_or_bad (settings_of_text bytes) else Err bad.TooLarge
 
 -- what the file at the path gives, where the tree tells its files
 abbrev pub ConfigIs : Option (List TreeFile) → List ℕ → Result SettingsValue BadConfig → Type 0
@@ -35,7 +36,6 @@ abbrev pub settings_line : SettingsFault → List ℕ
 settings_line settings.NotJson = codes "bad contest: farm.json: not json\n"
 settings_line (settings.UnknownKey key) = named_line (codes "bad contest: farm.json: unknown key ") key
 settings_line (settings.BadValue key) = named_line (codes "bad contest: farm.json: bad value ") key
-settings_line settings.NoMemory = []
 
 -- the line for a file that gives no settings
 abbrev pub bad_contest_line : List ℕ → BadConfig → List ℕ

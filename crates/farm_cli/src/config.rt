@@ -3,7 +3,7 @@ ghost use Rattle.farm_io.specs.Streams.{Rose};
 ghost use Rattle.farm_cli.specs.Config.{ConfigIs, printed, named_line, settings_line, bad_contest_line};
 
 use farm_kinds::NoMemory;
-use farm_settings::{Settings, SettingsFault, read_settings};
+use farm_settings::{Settings, SettingsErr, SettingsFault, read_settings};
 use farm_tree::{Tree, TreeErr};
 use std::alloc::Global;
 
@@ -35,12 +35,13 @@ pub fn read_config<T: Tree>(alloc: Global, tree: &mut T, path: &str) -> Result<S
     ensures bad { (fault : BadConfig) → result ≡ Err (ConfigEnd.Bad fault) → ConfigIs (T.files tree.old) path.now (Err fault) }
     ensures cause { result ≡ Err ConfigEnd.TreeFault → Rose (T.faults tree.old) (T.faults tree.new) }
     ensures later { T.faults tree.old ≤ T.faults tree.new }
+    ensures files { T.files tree.new ≡ T.files tree.old }
 {
     match tree.read(path) {
         Ok(text) => match read_settings(alloc, text.as_slice()) {
             Ok(settings) => Ok(settings),
-            Err(SettingsFault::NoMemory) => Err(ConfigEnd::NoMemory),
-            Err(fault) => Err(ConfigEnd::Bad(BadConfig::Settings(fault))),
+            Err(SettingsErr::Bad(fault)) => Err(ConfigEnd::Bad(BadConfig::Settings(fault))),
+            Err(SettingsErr::NoMemory) => Err(ConfigEnd::NoMemory),
         },
         Err(TreeErr::Absent) => Err(ConfigEnd::Bad(BadConfig::NoConfig)),
         Err(TreeErr::TooLarge { .. }) => Err(ConfigEnd::Bad(BadConfig::TooLarge)),
@@ -76,7 +77,6 @@ fn settings_line(alloc: Global, fault: &SettingsFault) -> Result<Vec<u8>, NoMemo
         SettingsFault::BadValue { key } => {
             named_line(alloc, b"bad contest: farm.json: bad value ", key.as_slice())
         }
-        SettingsFault::NoMemory => Ok(Vec::new(alloc)),
     }
 }
 

@@ -1,27 +1,22 @@
 -- What `farm.json` sets.
-use Rattle.std.specs.Prelude.{ℕ, List, Option, Some, None, Result, Ok, Err, if◌then◌else◌}
+use Rattle.std.specs.Prelude.{ℕ, List, Option, Some, None, Result, Err, if◌then◌else◌}
 use Rattle.std.specs.Str.{is_utf8}
 use Rattle.serde_json.specs.Data.{Data, Members}
 use Rattle.serde_json.specs.Find.{as_object}
 use Rattle.serde_json.specs.Read.{read}
-use Rattle.farm_model.specs.State.{SettingsValue}
+use Rattle.farm_model.specs.State.{SettingsValue, standard_settings}
 use Rattle.farm_settings.specs.declared.faults.SettingsFault.{SettingsFault}
 use Rattle.farm_settings.specs.declared.faults.SettingsFault.TheVariants.{NotJson}
-use Rattle.farm_settings.specs.Faults.{first_fault, entry_fault}
-use Rattle.farm_settings.specs.Values.{settings_in}
+use Rattle.farm_settings.specs.Entries.{each_entry, set_entry}
 
-abbrev pub unless : Option SettingsFault → SettingsValue → Result SettingsValue SettingsFault
-unless None settings = Ok settings
-unless (Some fault) settings = Err fault
+-- the standard settings, but for what the entries set; a value that is no object has no entries
+abbrev pub settings_of_entries : Option Members → Result SettingsValue SettingsFault
+settings_of_entries None = Err NotJson
+settings_of_entries (Some entries) = each_entry set_entry standard_settings entries
 
-abbrev pub settings_of_entries : Option Members → Data → Result SettingsValue SettingsFault
-settings_of_entries None value = Err NotJson
-settings_of_entries (Some entries) value = unless (first_fault entry_fault entries) (settings_in value)
-
--- a value that is no object has no entries
 abbrev pub settings_of_value : Option Data → Result SettingsValue SettingsFault
 settings_of_value None = Err NotJson
-settings_of_value (Some value) = settings_of_entries (as_object value) value
+settings_of_value (Some value) = settings_of_entries (as_object value)
 
 -- JSON is what the library reads, in UTF-8
 abbrev pub settings_of_text : List ℕ → Result SettingsValue SettingsFault

@@ -1,5 +1,5 @@
 pub mod SettingsShape
 pub mod Keys
 pub mod Values
-pub mod Faults
+pub mod Entries
 pub mod FarmJson

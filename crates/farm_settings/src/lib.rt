@@ -1,17 +1,17 @@
 //! What a contest sets, and the text of `farm.json` that says it.
 #![tactic(auto)]
 
-mod checks;
 mod faults;
 mod keys;
 mod reading;
+mod rules;
 mod settings;
 #[cfg(test)]
 mod tests;
 mod values;
 mod worked;
 
-pub use faults::SettingsFault;
+pub use faults::{SettingsErr, SettingsFault};
 pub use keys::Setting;
 pub use reading::read_settings;
 pub use settings::Settings;

@@ -1,12 +1,15 @@
 ghost use Rattle.std.specs.Prelude.{◌≡◌, ◌≤◌, IfOk};
 ghost use Rattle.serde_json.specs.View.{view};
 ghost use Rattle.farm_model.specs.State.{standard_settings};
-ghost use Rattle.farm_settings.specs.Values.{settings_in};
+ghost use Rattle.farm_settings.specs.Entries.{IsSet, set_entry};
 
+use crate::faults::{SettingsErr, unknown_key};
 use crate::keys::Setting;
-use crate::values::{flag_at, mode_of, number_at, rule_in};
+use crate::rules::{prios_of, remaps_of};
+use crate::values::{entries_at, flag_at, mode_of, number_at};
 use farm_kinds::{Mode, NoMemory, Rule};
 use serde_json::Value;
+use std::alloc::Global;
 use std::marker::Model;
 
 /// What a contest sets: how its verdicts come about, and how its farm works.
@@ -46,19 +49,28 @@ impl Settings {
         }
     }
 
-    /// What an object sets whose entries have no fault.
-    pub(crate) fn of_object(object: &Value) -> Settings
-        ensures { result ≡ settings_in (view object.now) }
+    /// Sets what an entry of `farm.json` says. At an `Err` the settings are as they were.
+    pub(crate) fn set(&mut self, alloc: Global, key: &str, value: &Value) -> Result<(), SettingsErr>
+        ensures { IsSet (set_entry self.old key.now (view value.now)) self.new result }
     {
-        let lazy = flag_at(object, Setting::LazyEvalResults.key(), true);
-        let ips = Setting::InstructionsPerSecond.key();
-        Settings {
-            rule: rule_in(object),
-            mode: mode_of(lazy),
-            lease: number_at(object, Setting::Lease.key(), 1, 1_000_000, 60),
-            verification: flag_at(object, Setting::VerificationRequired.key(), false),
-            ips: number_at(object, ips, 1000, 100_000_000, 10_000_000) as u32,
+        let Some(setting) = Setting::read(key.as_bytes()) else {
+            return Err(unknown_key(alloc, key));
+        };
+        match setting {
+            Setting::InstructionsPerSecond => {
+                self.ips = number_at(alloc, key, value, 1000, 100_000_000)? as u32;
+            }
+            Setting::LazyEvalResults => self.mode = mode_of(flag_at(alloc, key, value)?),
+            Setting::Lease => self.lease = number_at(alloc, key, value, 1, 1_000_000)?,
+            Setting::ResultsPrio => {
+                self.rule = prios_of(alloc, self.rule, entries_at(alloc, key, value)?)?;
+            }
+            Setting::ResultsRemap => {
+                self.rule = remaps_of(alloc, self.rule, entries_at(alloc, key, value)?)?;
+            }
+            Setting::VerificationRequired => self.verification = flag_at(alloc, key, value)?,
         }
+        Ok(())
     }
 
     /// Equal settings.

@@ -1,5 +1,5 @@
 use crate::worked::{worked_faults, worked_texts, worked_values};
-use crate::{Setting, Settings, SettingsFault, read_settings};
+use crate::{Setting, Settings, SettingsErr, SettingsFault, read_settings};
 use farm_kinds::{Kind, Mode, NoMemory, Rule};
 use std::alloc::{AllocError, Global};
 use std::test::Fail;
@@ -15,10 +15,10 @@ fn computes_settings() {
 fn fault_text(alloc: Global, text: &[u8]) -> Result<Vec<u8>, AllocError> {
     let (word, key) = match read_settings(alloc, text) {
         Ok(_) => return b"none".to_vec(alloc),
-        Err(SettingsFault::NotJson) => return b"not json".to_vec(alloc),
-        Err(SettingsFault::NoMemory) => return b"no memory".to_vec(alloc),
-        Err(SettingsFault::UnknownKey { key }) => (b"unknown ".as_slice(), key),
-        Err(SettingsFault::BadValue { key }) => (b"bad ".as_slice(), key),
+        Err(SettingsErr::Bad(SettingsFault::NotJson)) => return b"not json".to_vec(alloc),
+        Err(SettingsErr::NoMemory) => return b"no memory".to_vec(alloc),
+        Err(SettingsErr::Bad(SettingsFault::UnknownKey { key })) => (b"unknown ".as_slice(), key),
+        Err(SettingsErr::Bad(SettingsFault::BadValue { key })) => (b"bad ".as_slice(), key),
     };
     let mut shown = word.to_vec(alloc)?;
     shown.extend_from_slice(key.as_slice())?;
@@ -189,5 +189,20 @@ fn keys_stand_in_their_order(rt: HostRuntime) -> Result<(), Fail> {
         assert!(rt; pair[0].key() < pair[1].key());
         assert_eq!(rt; Setting::read(pair[0].key().as_bytes()), Some(pair[0]));
     }
+    Ok(())
+}
+
+/// A text of 200 KiB: entries of one key, of which the last counts, and white space.
+#[test]
+fn settings_of_200_kib(rt: HostRuntime) -> Result<(), Fail> {
+    let mut text = b"{".to_vec(rt.alloc())?;
+    for _ in 0..10_000 {
+        text.extend_from_slice(b"\"lease\":5,")?;
+    }
+    text.extend_from_slice(vec![in rt.alloc(); b' '; 104789]?.as_slice())?;
+    text.extend_from_slice(b"\"lease\":7}")?;
+    assert_eq!(rt; text.len(), 200 * 1024);
+    let settings = settings(rt.alloc(), text.as_slice())?;
+    assert_eq!(rt; settings.lease(), 7);
     Ok(())
 }
