@@ -1,2 +1,2 @@
-pub mod Lawful
 pub mod WordLemmas
+pub mod Ends

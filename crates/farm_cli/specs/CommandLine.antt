@@ -1,35 +1,52 @@
 -- The words of the command line.
-use Rattle.std.specs.Prelude.{◌≡◌, ◌⊎◌, ℕ, List, [], ◌∷◌, Bool, ◌&&◌, ◌==◌, codes, length, take, drop, Option, Some, None, IsSome, option_and_then, if◌then◌else◌}
+use Rattle.std.specs.Prelude.{ℕ, List, [], ◌∷◌, ◌==◌, codes, length, take, drop, Option, Some, None, option_and_then, if◌then◌else◌}
+use Rattle.std.specs.Option.{option_map}
 use Rattle.std.specs.Str.{bytes_eq}
+use Rattle.farm_cli.specs.declared.words.Command.{Command}
+use Rattle.farm_cli.specs.declared.words.Command.TheVariants as command
 
--- exactly two words, of which the second is `script`
-abbrev pub IsScript : List (List ℕ) → Type 0
-IsScript (first ∷ second ∷ []) = second ≡ codes "script"
-IsScript words = ⊥
+-- what the words ask for
+pub data CommandValue : Type 0 where
+  -- the lines of a script, by the settings of the file at this path, or by the standard ones
+  Script : (config : Option (List ℕ)) → CommandValue
+
+abbrev pub command_value : Command → CommandValue
+command_value (command.Script config) = Script (option_map (λ path. path.now) config)
+
+-- the path of the file that a command reads, where it reads one
+abbrev pub file_of : CommandValue → Option (List ℕ)
+file_of (Script config) = config
 
 -- a value of an option is not empty, and does not begin with `-`
 abbrev pub value_of : List ℕ → Option (List ℕ)
 value_of [] = None
 value_of (b ∷ bs) = if b == 45 then None else Some (b ∷ bs)
 
--- what stands behind the front of a word
+-- what stands behind this beginning of a word
 abbrev pub behind : List ℕ → List ℕ → Option (List ℕ)
-behind front word = if bytes_eq (take (length front) word) front then Some (drop (length front) word) else None
+behind beginning word =
+    if bytes_eq (take (length beginning) word) beginning then Some (drop (length beginning) word) else None
 
--- `script --config=FILE`
-abbrev pub joined_config : List ℕ → List ℕ → Option (List ℕ)
-joined_config command word = if bytes_eq command (codes "script") then option_and_then value_of (behind (codes "--config=") word) else None
+-- `--config=FILE`
+abbrev pub joined_config : List ℕ → Option (List ℕ)
+joined_config word = option_and_then value_of (behind (codes "--config=") word)
 
--- `script --config FILE`
-abbrev pub split_config : List ℕ → List ℕ → List ℕ → Option (List ℕ)
-split_config command word path = if bytes_eq command (codes "script") && bytes_eq word (codes "--config") then value_of path else None
+-- `--config FILE`
+abbrev pub split_config : List ℕ → List ℕ → Option (List ℕ)
+split_config word path = if bytes_eq word (codes "--config") then value_of path else None
 
--- the path of the settings' file, which stands behind the first word in one of these forms
-abbrev pub config_of : List (List ℕ) → Option (List ℕ)
-config_of (first ∷ command ∷ word ∷ []) = joined_config command word
-config_of (first ∷ command ∷ word ∷ path ∷ []) = split_config command word path
-config_of words = None
+-- a script with this file of settings
+abbrev pub with_config : List ℕ → CommandValue
+with_config path = Script (Some path)
 
--- the words of `farm script`, with or without a file of settings
-abbrev pub IsCommand : List (List ℕ) → Type 0
-IsCommand words = IsScript words ⊎ IsSome (config_of words)
+-- what stands behind `script`: nothing, or the file of settings in one of two forms
+abbrev pub script_of : List (List ℕ) → Option CommandValue
+script_of [] = Some (Script None)
+script_of (word ∷ []) = option_map with_config (joined_config word)
+script_of (word ∷ path ∷ []) = option_map with_config (split_config word path)
+script_of words = None
+
+-- the first word is the program's name, which is not looked at, and the second is the command
+abbrev pub command_of : List (List ℕ) → Option CommandValue
+command_of (first ∷ word ∷ words) = if bytes_eq word (codes "script") then script_of words else None
+command_of words = None

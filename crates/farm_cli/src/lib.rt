@@ -1,10 +1,13 @@
 //! The commands of the farm.
 #![tactic(auto)]
 
+mod command_line;
 mod config;
 mod exit;
 #[cfg(test)]
-mod rejudging_tests;
+mod rejudging_rows;
+#[cfg(test)]
+mod script_rows;
 #[cfg(test)]
 mod tests;
 mod top;

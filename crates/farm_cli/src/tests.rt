@@ -1,12 +1,17 @@
+use crate::rejudging_rows::REJUDGINGS;
+use crate::script_rows::{Row, SCRIPTS};
 use crate::{Exit, farm_main};
 use farm_io::{MemorySink, MemorySource, ReliableSink, ReliableSource};
 use farm_kinds::NoMemory;
 use farm_tree::{MemoryTree, ReliableTree};
 use std::alloc::{AllocError, Global};
+use std::process::Abort;
 use std::test::Fail;
 
 /// How many bytes a sink of these tests holds.
 const ROOM: usize = 4_194_304;
+
+const SMALLEST: &[u8] = b"problem A 2\nsubmit A\nrecord 1 1 correct\nshow 1\n";
 
 fn words(alloc: Global, given: &[&str]) -> Result<Vec<String>, AllocError> {
     let mut words = Vec::new(alloc);
@@ -16,353 +21,268 @@ fn words(alloc: Global, given: &[&str]) -> Result<Vec<String>, AllocError> {
     Ok(words)
 }
 
-/// What `farm script` writes for the input, where nothing fails, and how it ends.
-pub fn script(alloc: Global, input: &[u8]) -> Result<(Exit, ReliableSink), AllocError> {
-    run(
-        alloc,
-        &["farm", "script"],
-        &mut ReliableTree::new(alloc),
-        input,
-    )
+/// A tree of this one file.
+fn tree_of(alloc: Global, path: &str, text: &[u8]) -> Result<ReliableTree, NoMemory> {
+    let mut tree = ReliableTree::new(alloc);
+    if path.len() <= 4096 {
+        tree.add(path, text)?;
+    }
+    Ok(tree)
 }
 
-/// What the words write for the input, and how they end.
+/// What the words write for the input, where nothing fails, and how they end.
 fn run(
     alloc: Global,
-    words_given: &[&str],
+    given: &[&str],
     tree: &mut ReliableTree,
     input: &[u8],
 ) -> Result<(Exit, ReliableSink), AllocError> {
     let mut source = ReliableSource::new(input.to_vec(alloc)?);
     let mut sink = ReliableSink::new(Vec::with_capacity(alloc, ROOM)?);
-    let words = words(alloc, words_given)?;
+    let words = words(alloc, given)?;
     let exit = farm_main(alloc, words.as_slice(), tree, &mut source, &mut sink);
     Ok((exit, sink))
 }
 
-/// What `farm script` writes by the settings of a file, and how it ends.
-pub fn configured(
-    alloc: Global,
-    settings: &[u8],
-    input: &[u8],
-) -> Result<(Exit, ReliableSink), NoMemory> {
-    let mut tree = ReliableTree::new(alloc);
-    tree.add("farm.json", settings)?;
+/// What `farm script` writes for the input, and how it ends; by the settings of this text unless it is empty.
+fn script(alloc: Global, settings: &[u8], input: &[u8]) -> Result<(Exit, ReliableSink), NoMemory> {
+    let mut tree = tree_of(alloc, "farm.json", settings)?;
+    if settings.is_empty() {
+        return Ok(run(alloc, &["farm", "script"], &mut tree, input)?);
+    }
     let words = ["farm", "script", "--config", "farm.json"];
     Ok(run(alloc, &words, &mut tree, input)?)
 }
 
-const SMALLEST: &[u8] =
-    b"problem A 2\nsubmit A\nrecord 1 1 correct\nshow 1\nrecord 1 2 correct\nshow 1\n";
-
-const SMALLEST_REPLIES: &[u8] =
-    b"problem A version 1\nsubmission 1 judging 1\ncounted\npending\ncounted\nfinal correct\n";
-
-#[test]
-fn smallest_path(rt: HostRuntime) -> Result<(), Fail> {
-    let (exit, out) = script(rt.alloc(), SMALLEST)?;
-    assert_eq!(rt; exit, Exit::Done);
-    assert_eq!(rt; out.bytes(), SMALLEST_REPLIES);
+fn check_rows(rt: &impl Abort, alloc: Global, rows: &[Row]) -> Result<(), Fail> {
+    for row in rows {
+        let name = row.name;
+        let (exit, out) = script(alloc, row.settings, row.input)?;
+        assert_eq!(rt; exit, Exit::Done, "{name}");
+        assert_eq!(rt; out.bytes(), row.output, "{name}");
+    }
     Ok(())
 }
 
 #[test]
-fn empty_input(rt: HostRuntime) -> Result<(), Fail> {
-    let (exit, out) = script(rt.alloc(), b"")?;
-    assert_eq!(rt; exit, Exit::Done);
-    assert_eq!(rt; out.bytes(), b"".as_slice());
-    Ok(())
+fn scripts(rt: HostRuntime) -> Result<(), Fail> {
+    check_rows(&rt, rt.alloc(), SCRIPTS.as_slice())
 }
 
 #[test]
-fn refusals(rt: HostRuntime) -> Result<(), Fail> {
-    let (exit, out) = script(
-        rt.alloc(),
-        b"problem A 0\nproblem A 3\nproblem A 2\nsubmit B\nsubmit\nshow 01\nshow 9\nsubmit A\nrecord 1 4 correct\nrecord 1 1 fine\n",
-    )?;
-    assert_eq!(rt; exit, Exit::Done);
-    assert_eq!(rt;
-        out.bytes(),
-        b"bad-tests 0\nproblem A version 1\nknown A\nno-problem B\nbad-line\nbad-line\nno-judging 9\nsubmission 1 judging 1\nno-test 4\nbad-line\n".as_slice()
-    );
-    Ok(())
+fn rejudgings(rt: HostRuntime) -> Result<(), Fail> {
+    check_rows(&rt, rt.alloc(), REJUDGINGS.as_slice())
 }
 
-/// A problem of three tests, two hosts and a submission, and what they are answered.
-const CONTEST: &[u8] = b"problem A 3\nhost h1\nhost h2\nsubmit A\n";
+/// Lines, of which one comes many times, with the number of the time in place of `#`.
+#[derive(Clone, Copy)]
+struct Repeated {
+    head: &'static [u8],
+    line: &'static [u8],
+    tail: &'static [u8],
+}
 
-const CONTEST_REPLIES: &[u8] = b"problem A version 1\nhost h1\nhost h2\nsubmission 1 judging 1\n";
+/// A script of repeated lines, and what is written for it.
+#[derive(Clone, Copy)]
+struct Limit {
+    name: &'static str,
+    from: u32,
+    to: u32,
+    input: Repeated,
+    output: Repeated,
+}
 
-/// Both texts one after the other.
-fn joined(alloc: Global, first: &[u8], second: &[u8]) -> Result<Vec<u8>, AllocError> {
-    let mut text = first.to_vec(alloc)?;
-    text.extend_from_slice(second)?;
+const LIMITS: [Limit; 5] = [
+    Limit {
+        name: "the_65th_lease",
+        from: 1,
+        to: 64,
+        input: Repeated {
+            head: b"problem A 70\nhost h\nsubmit A\n",
+            line: b"claim h\n",
+            tail: b"claim h\nresult h 1 3 correct\nclaim h\nclaim h\n",
+        },
+        output: Repeated {
+            head: b"problem A version 1\nhost h\nsubmission 1 judging 1\n",
+            line: b"task 1 # until 60\n",
+            tail: b"holding 64\ncounted\ntask 1 65 until 60\nholding 64\n",
+        },
+    },
+    Limit {
+        name: "a_thousand_hosts_and_the_next",
+        from: 1,
+        to: 1000,
+        input: Repeated {
+            head: b"",
+            line: b"host h#\n",
+            tail: b"host h1001\nhost h7\ndown h7\nhost h1001\nhost h7\n",
+        },
+        output: Repeated {
+            head: b"",
+            line: b"host h#\n",
+            tail: b"full 1000\nknown h7\nended 0\nfull 1000\nhost h7\n",
+        },
+    },
+    Limit {
+        name: "a_thousand_problems_and_the_next",
+        from: 1,
+        to: 1000,
+        input: Repeated {
+            head: b"",
+            line: b"problem p# 1\n",
+            tail: b"problem p1001 1\nproblem p7 1\n",
+        },
+        output: Repeated {
+            head: b"",
+            line: b"problem p# version 1\n",
+            tail: b"full 1000\nknown p7\n",
+        },
+    },
+    Limit {
+        name: "a_thousand_versions_and_the_next",
+        from: 2,
+        to: 1000,
+        input: Repeated {
+            head: b"problem A 1\n",
+            line: b"replace A 2\n",
+            tail: b"replace A 2\n",
+        },
+        output: Repeated {
+            head: b"problem A version 1\n",
+            line: b"problem A version #\n",
+            tail: b"full 1000\n",
+        },
+    },
+    Limit {
+        name: "a_hundred_thousand_submissions_and_the_next",
+        from: 1,
+        to: 100_000,
+        input: Repeated {
+            head: b"problem A 1\n",
+            line: b"submit A\n",
+            tail: b"submit A\n",
+        },
+        output: Repeated {
+            head: b"problem A version 1\n",
+            line: b"submission # judging #\n",
+            tail: b"full 100000\n",
+        },
+    },
+];
+
+/// The text of repeated lines.
+fn text_of(alloc: Global, lines: &Repeated, from: u32, to: u32) -> Result<Vec<u8>, AllocError> {
+    let mut text = lines.head.to_vec(alloc)?;
+    for number in from..=to {
+        let digits = format!(in alloc; "{number}")?;
+        for b in lines.line {
+            match b {
+                b'#' => text.extend_from_slice(digits.as_bytes())?,
+                _ => text.push(*b)?,
+            }
+        }
+    }
+    text.extend_from_slice(lines.tail)?;
     Ok(text)
 }
 
-/// What the contest's lines and then these write, and what is wanted.
-fn contest(
-    alloc: Global,
-    lines: &[u8],
-    replies: &[u8],
-) -> Result<(ReliableSink, Vec<u8>), AllocError> {
-    let input = joined(alloc, CONTEST, lines)?;
-    let want = joined(alloc, CONTEST_REPLIES, replies)?;
-    let (_, out) = script(alloc, input.as_slice())?;
-    Ok((out, want))
-}
-
 #[test]
-fn a_middle_priority_does_not_stop(rt: HostRuntime) -> Result<(), Fail> {
-    let (out, want) = contest(
-        rt.alloc(),
-        b"record 1 1 correct\nrecord 1 2 wrong-answer\nshow 1\nrecord 1 3 correct\nshow 1\n",
-        b"counted\ncounted\npending\ncounted\nfinal wrong-answer\n",
-    )?;
-    assert_eq!(rt; out.bytes(), want.as_slice());
-    Ok(())
-}
-
-#[test]
-fn late_repeated_different(rt: HostRuntime) -> Result<(), Fail> {
-    let (out, want) = contest(
-        rt.alloc(),
-        b"claim h1\ntick 60\nclaim h2\nresult h1 1 1 correct\nrenew h2 1 1\nresult h2 1 1 correct\nresult h2 1 1 timelimit\nresult h2 1 2 correct\n",
-        b"task 1 1 until 60\nended 1\ntask 1 1 until 120\ncounted\nno-lease\nrepeat correct\ndiffers correct timelimit\nnot-handed\n",
-    )?;
-    assert_eq!(rt; out.bytes(), want.as_slice());
-    Ok(())
-}
-
-#[test]
-fn one_before_the_end(rt: HostRuntime) -> Result<(), Fail> {
-    let (out, want) = contest(
-        rt.alloc(),
-        b"claim h1\ntick 59\nclaim h2\nrenew h1 1 1\ntick 10\n",
-        b"task 1 1 until 60\nended 0\ntask 1 2 until 119\nuntil 119\nended 0\n",
-    )?;
-    assert_eq!(rt; out.bytes(), want.as_slice());
-    Ok(())
-}
-
-#[test]
-fn death_and_return(rt: HostRuntime) -> Result<(), Fail> {
-    let (out, want) = contest(
-        rt.alloc(),
-        b"claim h1\nclaim h1\ndown h1\nclaim h1\nclaim h2\nhost h1\nclaim h1\nhost h1\n",
-        b"task 1 1 until 60\ntask 1 2 until 60\nended 2\nno-host h1\ntask 1 1 until 60\nhost h1\ntask 1 2 until 60\nknown h1\n",
-    )?;
-    assert_eq!(rt; out.bytes(), want.as_slice());
-    Ok(())
-}
-
-#[test]
-fn broken_image(rt: HostRuntime) -> Result<(), Fail> {
-    let (out, want) = contest(
-        rt.alloc(),
-        b"submit A broken\nshow 2\nrecord 2 1 correct\n",
-        b"submission 2 judging 2\nfinal compiler-error\nno-test 1\n",
-    )?;
-    assert_eq!(rt; out.bytes(), want.as_slice());
-    Ok(())
-}
-
-#[test]
-fn classes_are_judged_in_their_order(rt: HostRuntime) -> Result<(), Fail> {
-    let (_, out) = script(
-        rt.alloc(),
-        b"problem A 1\nhost h1\nsubmit A low\nsubmit A\nsubmit A high broken\nsubmit A high\nclaim h1\nclaim h1\nclaim h1\nclaim h1\n",
-    )?;
-    assert_eq!(rt;
-        out.bytes(),
-        b"problem A version 1\nhost h1\nsubmission 1 judging 1\nsubmission 2 judging 2\nsubmission 3 judging 3\nsubmission 4 judging 4\ntask 4 1 until 60\ntask 2 1 until 60\ntask 1 1 until 60\nnothing\n".as_slice()
-    );
-    Ok(())
-}
-
-#[test]
-fn refusals_of_hosts(rt: HostRuntime) -> Result<(), Fail> {
-    let (out, want) = contest(
-        rt.alloc(),
-        b"host h1\nclaim h3\nresult h3 1 1 correct\nrenew h3 1 1\ndown h3\nresult h1 9 1 correct\nresult h1 1 4 correct\nresult h1 1 1 correct\nrenew h1 9 1\nrenew h1 1 4\nrenew h1 1 1\nclaim h1\nrenew h2 1 1\nresult h2 1 1 correct\nreplace B 1\nreplace A 0\nreplace A 1001\nreplace A 2\nsubmit A\nrecord 2 3 correct\n",
-        b"known h1\nno-host h3\nno-host h3\nno-host h3\nno-host h3\nno-judging 9\nno-test 4\nnot-handed\nno-judging 9\nno-test 4\nno-lease\ntask 1 1 until 60\nno-lease\ncounted\nno-problem B\nbad-tests 0\nbad-tests 1001\nproblem A version 2\nsubmission 2 judging 2\nno-test 3\n",
-    )?;
-    assert_eq!(rt; out.bytes(), want.as_slice());
-    Ok(())
-}
-
-#[test]
-fn lines_out_of_form(rt: HostRuntime) -> Result<(), Fail> {
-    let (_, out) = script(
-        rt.alloc(),
-        b"tick\ntick 01\ntick 1000000000000000000\nhost\nhost a.b\nclaim\nclaim h1 h2\nresult h1 1 1\nrenew h1 1\ndown\nsubmit A fast\nsubmit A broken high\nreplace A\n@ann submit A\nboard 1\naudit now\n",
-    )?;
-    assert_eq!(rt;
-        out.bytes(),
-        b"bad-line\n".repeat(rt.alloc(), 16)?.as_slice()
-    );
-    Ok(())
-}
-
-/// Time goes on to 10^18 - 1 at most: the longest moment of a line.
-#[test]
-fn time_stops_at_the_last_moment(rt: HostRuntime) -> Result<(), Fail> {
-    let (out, want) = contest(
-        rt.alloc(),
-        b"tick 999999999999999999\nclaim h1\ntick 999999999999999999\nrenew h1 1 1\n",
-        b"ended 0\ntask 1 1 until 1000000000000000059\nended 0\nuntil 1000000000000000059\n",
-    )?;
-    assert_eq!(rt; out.bytes(), want.as_slice());
-    Ok(())
-}
-
-#[test]
-fn a_name_up_down_and_up(rt: HostRuntime) -> Result<(), Fail> {
-    let (_, out) = script(rt.alloc(), b"host h\ndown h\ndown h\nhost h\nhost h\n")?;
-    assert_eq!(rt;
-        out.bytes(),
-        b"host h\nended 0\nno-host h\nhost h\nknown h\n".as_slice()
-    );
-    Ok(())
-}
-
-/// A host holds 64 leases, and not one more.
-#[test]
-fn the_65th_lease(rt: HostRuntime) -> Result<(), Fail> {
+fn limits(rt: HostRuntime) -> Result<(), Fail> {
     let alloc = rt.alloc();
-    let mut input = b"problem A 70\nhost h\nsubmit A\n".to_vec(alloc)?;
-    let mut want = b"problem A version 1\nhost h\nsubmission 1 judging 1\n".to_vec(alloc)?;
-    for test in 1..65 {
-        input.extend_from_slice(b"claim h\n")?;
-        want.extend_from_slice(format!(in alloc; "task 1 {test} until 60\n")?.as_bytes())?;
+    for row in LIMITS.as_slice() {
+        let name = row.name;
+        let input = text_of(alloc, &row.input, row.from, row.to)?;
+        let output = text_of(alloc, &row.output, row.from, row.to)?;
+        let (_, out) = script(alloc, b"", input.as_slice())?;
+        assert_eq!(rt; out.bytes(), output.as_slice(), "{name}");
     }
-    input.extend_from_slice(b"claim h\nresult h 1 3 correct\nclaim h\nclaim h\n")?;
-    want.extend_from_slice(b"holding 64\ncounted\ntask 1 65 until 60\nholding 64\n")?;
-    let (_, out) = script(alloc, input.as_slice())?;
-    assert_eq!(rt; out.bytes(), want.as_slice());
     Ok(())
 }
 
-/// A thousand hosts are taken, and one that is among them comes back when it was down.
-#[test]
-fn a_thousand_hosts_and_the_next(rt: HostRuntime) -> Result<(), Fail> {
-    let alloc = rt.alloc();
-    let mut input = Vec::new(alloc);
-    let mut want = Vec::new(alloc);
-    for host in 1..1_001 {
-        input.extend_from_slice(format!(in alloc; "host h{host}\n")?.as_bytes())?;
-        want.extend_from_slice(format!(in alloc; "host h{host}\n")?.as_bytes())?;
+/// The line that rejudges the submissions from 1 to the last one.
+fn rejudge_to(alloc: Global, last: u32) -> Result<Vec<u8>, AllocError> {
+    let mut line = b"rejudge 1".to_vec(alloc)?;
+    for submission in 2..=last {
+        line.extend_from_slice(format!(in alloc; ",{submission}")?.as_bytes())?;
     }
-    input.extend_from_slice(b"host h1001\nhost h7\ndown h7\nhost h1001\nhost h7\n")?;
-    want.extend_from_slice(b"full 1000\nknown h7\nended 0\nfull 1000\nhost h7\n")?;
-    let (_, out) = script(alloc, input.as_slice())?;
-    assert_eq!(rt; out.bytes(), want.as_slice());
-    Ok(())
+    line.extend_from_slice(b"\n")?;
+    Ok(line)
+}
+
+/// Broken submissions, which are final at once.
+fn broken_submissions(alloc: Global, count: u32) -> Result<Vec<u8>, AllocError> {
+    let lines = Repeated {
+        head: b"problem A 1\n",
+        line: b"submit A broken\n",
+        tail: b"",
+    };
+    text_of(alloc, &lines, 1, count)
+}
+
+/// A line holds 999 submissions, whose verdicts change together.
+fn many_members(alloc: Global) -> Result<Vec<u8>, AllocError> {
+    let mut input = broken_submissions(alloc, 999)?;
+    input.extend_from_slice(rejudge_to(alloc, 999)?.as_slice())?;
+    input.extend_from_slice(b"matrix 1\napply 1\n")?;
+    Ok(input)
+}
+
+fn many_rejudgings(alloc: Global) -> Result<Vec<u8>, AllocError> {
+    let lines = Repeated {
+        head: b"problem A 1\nsubmit A broken\n",
+        line: b"rejudge 1\napply #\n",
+        tail: b"rejudge 1,1\nrejudge 2\n",
+    };
+    text_of(alloc, &lines, 1, 10_000)
+}
+
+/// 99,999 judgings of submissions, and 300 times 999 of rejudgings that are cancelled, leave room for 301.
+fn many_judgings(alloc: Global) -> Result<Vec<u8>, AllocError> {
+    let mut input = broken_submissions(alloc, 99_999)?;
+    let many = rejudge_to(alloc, 999)?;
+    for number in 1..301 {
+        input.extend_from_slice(many.as_slice())?;
+        input.extend_from_slice(format!(in alloc; "cancel {number}\n")?.as_bytes())?;
+    }
+    input.extend_from_slice(rejudge_to(alloc, 302)?.as_slice())?;
+    input.extend_from_slice(rejudge_to(alloc, 301)?.as_slice())?;
+    input.extend_from_slice(b"rejudge 302\nsubmit A\n")?;
+    Ok(input)
 }
 
 #[test]
-fn a_thousand_problems_and_the_next(rt: HostRuntime) -> Result<(), Fail> {
+fn limits_of_rejudgings(rt: HostRuntime) -> Result<(), Fail> {
     let alloc = rt.alloc();
-    let mut input = Vec::new(alloc);
-    let mut want = Vec::new(alloc);
-    for problem in 1..1_001 {
-        input.extend_from_slice(format!(in alloc; "problem p{problem} 1\n")?.as_bytes())?;
-        want.extend_from_slice(format!(in alloc; "problem p{problem} version 1\n")?.as_bytes())?;
+    let rows: [(&str, Vec<u8>, &[u8]); 3] = [
+        (
+            "a_rejudging_of_999_submissions",
+            many_members(alloc)?,
+            b"rejudging 1 judgings 1000 to 1998\ncompiler-error compiler-error 999\nmatrix 999\napplied 999\n",
+        ),
+        (
+            "ten_thousand_rejudgings_and_the_next",
+            many_rejudgings(alloc)?,
+            b"rejudging 10000 judgings 10001 to 10001\napplied 1\nfull 10000\nno-submission 2\n",
+        ),
+        (
+            "four_hundred_thousand_judgings_and_the_next",
+            many_judgings(alloc)?,
+            b"cancelled 999\nfull 400000\nrejudging 301 judgings 399700 to 400000\nfull 400000\nfull 400000\n",
+        ),
+    ];
+    for (name, input, end) in &rows {
+        let (_, out) = script(alloc, b"", input.as_slice())?;
+        assert!(rt; out.bytes().ends_with(end), "{name}");
     }
-    input.extend_from_slice(b"problem p1001 1\nproblem p7 1\n")?;
-    want.extend_from_slice(b"full 1000\nknown p7\n")?;
-    let (_, out) = script(alloc, input.as_slice())?;
-    assert_eq!(rt; out.bytes(), want.as_slice());
-    Ok(())
-}
-
-#[test]
-fn a_hundred_thousand_submissions_and_the_next(rt: HostRuntime) -> Result<(), Fail> {
-    let alloc = rt.alloc();
-    let mut input = b"problem A 1\n".to_vec(alloc)?;
-    for _ in 0..100_001 {
-        input.extend_from_slice(b"submit A\n")?;
-    }
-    let (exit, out) = script(alloc, input.as_slice())?;
-    assert_eq!(rt; exit, Exit::Done);
-    assert!(rt;
-        out.bytes()
-            .ends_with(b"submission 100000 judging 100000\nfull 100000\n")
-    );
-    Ok(())
-}
-
-#[test]
-fn a_thousand_versions_and_the_next(rt: HostRuntime) -> Result<(), Fail> {
-    let alloc = rt.alloc();
-    let mut input = b"problem A 1\n".to_vec(alloc)?;
-    let mut want = b"problem A version 1\n".to_vec(alloc)?;
-    for version in 2..1_001 {
-        input.extend_from_slice(b"replace A 2\n")?;
-        want.extend_from_slice(format!(in alloc; "problem A version {version}\n")?.as_bytes())?;
-    }
-    input.extend_from_slice(b"replace A 2\n")?;
-    want.extend_from_slice(b"full 1000\n")?;
-    let (_, out) = script(alloc, input.as_slice())?;
-    assert_eq!(rt; out.bytes(), want.as_slice());
     Ok(())
 }
 
 #[test]
 fn a_line_of_4097_letters_is_too_long(rt: HostRuntime) -> Result<(), Fail> {
-    let alloc = rt.alloc();
-    let mut input = vec![in alloc; b'a'; 4097]?;
+    let mut input = vec![in rt.alloc(); b'a'; 4097]?;
     input.extend_from_slice(b"\nshow 1")?;
-    let (exit, out) = script(alloc, input.as_slice())?;
-    assert_eq!(rt; exit, Exit::Done);
+    let (_, out) = script(rt.alloc(), b"", input.as_slice())?;
     assert_eq!(rt; out.bytes(), b"too-long 4097\nno-judging 1\n".as_slice());
-    Ok(())
-}
-
-#[test]
-fn comments_returns_and_bytes_that_are_no_text(rt: HostRuntime) -> Result<(), Fail> {
-    let (exit, out) = script(
-        rt.alloc(),
-        b"# first\r\n\r\n  \n problem  A 1 \r\n#submit A\nsubmit A\0\n\xff\xfe\nsubmit A",
-    )?;
-    assert_eq!(rt; exit, Exit::Done);
-    assert_eq!(rt;
-        out.bytes(),
-        b"problem A version 1\nbad-line\nbad-line\nsubmission 1 judging 1\n".as_slice()
-    );
-    Ok(())
-}
-
-/// The source gives the bytes at its first call and fails at its second.
-#[test]
-fn a_source_that_fails_in_mid_line(rt: HostRuntime) -> Result<(), Fail> {
-    let alloc = rt.alloc();
-    let mut failing = Vec::new(alloc);
-    failing.push(1)?;
-    let mut source = MemorySource::new(b"problem A 2\nsub".to_vec(alloc)?, failing);
-    let mut sink = ReliableSink::new(Vec::with_capacity(alloc, ROOM)?);
-    let words = words(alloc, &["farm", "script"])?;
-    let mut tree = ReliableTree::new(alloc);
-    let exit = farm_main(alloc, words.as_slice(), &mut tree, &mut source, &mut sink);
-    assert_eq!(rt; exit, Exit::ReadFault);
-    assert_eq!(rt; exit.status(), 4);
-    assert_eq!(rt; sink.bytes(), b"problem A version 1\n".as_slice());
-    Ok(())
-}
-
-#[test]
-fn a_sink_whose_first_put_fails(rt: HostRuntime) -> Result<(), Fail> {
-    let alloc = rt.alloc();
-    let mut failing = Vec::new(alloc);
-    failing.push(0)?;
-    let mut source = ReliableSource::new(SMALLEST.to_vec(alloc)?);
-    let mut sink = MemorySink::new(Vec::with_capacity(alloc, ROOM)?, failing);
-    let words = words(alloc, &["farm", "script"])?;
-    let mut tree = ReliableTree::new(alloc);
-    let exit = farm_main(alloc, words.as_slice(), &mut tree, &mut source, &mut sink);
-    assert_eq!(rt; exit, Exit::WriteFault);
-    assert_eq!(rt; exit.status(), 5);
-    assert_eq!(rt; sink.bytes(), b"".as_slice());
     Ok(())
 }
 
@@ -388,7 +308,7 @@ fn other_words_are_no_command(rt: HostRuntime) -> Result<(), Fail> {
         &["farm", "script", "--config=f", "--config=f"],
     ];
     for line in lines {
-        let mut tree = ReliableTree::new(alloc);
+        let mut tree = tree_of(alloc, "f", b"{}")?;
         let (exit, out) = run(alloc, line, &mut tree, SMALLEST)?;
         assert_eq!(rt; exit, Exit::Usage, "at {line:?}");
         assert_eq!(rt; out.bytes(), b"".as_slice(), "at {line:?}");
@@ -396,113 +316,7 @@ fn other_words_are_no_command(rt: HostRuntime) -> Result<(), Fail> {
     Ok(())
 }
 
-#[test]
-fn a_tie_with_an_earlier_rank(rt: HostRuntime) -> Result<(), Fail> {
-    let (out, want) = contest(
-        rt.alloc(),
-        b"record 1 2 run-error\nshow 1\nrecord 1 1 correct\nshow 1\nclaim h1\n",
-        b"counted\npending\ncounted\nfinal run-error\nnothing\n",
-    )?;
-    assert_eq!(rt; out.bytes(), want.as_slice());
-    Ok(())
-}
-
-/// What the contest's lines and then these write by the settings of a file, and what is wanted.
-fn contest_by(
-    alloc: Global,
-    settings: &[u8],
-    lines: &[u8],
-    replies: &[u8],
-) -> Result<(ReliableSink, Vec<u8>), NoMemory> {
-    let input = joined(alloc, CONTEST, lines)?;
-    let want = joined(alloc, CONTEST_REPLIES, replies)?;
-    let (_, out) = configured(alloc, settings, input.as_slice())?;
-    Ok((out, want))
-}
-
-#[test]
-fn a_unique_greatest_priority(rt: HostRuntime) -> Result<(), Fail> {
-    let (out, want) = contest_by(
-        rt.alloc(),
-        b"{\"results_prio\":{\"timelimit\":100}}",
-        b"record 1 2 timelimit\nshow 1\nclaim h1\n",
-        b"counted\nfinal timelimit\nnothing\n",
-    )?;
-    assert_eq!(rt; out.bytes(), want.as_slice());
-    Ok(())
-}
-
-#[test]
-fn one_possible_kind(rt: HostRuntime) -> Result<(), Fail> {
-    let (out, want) = contest_by(
-        rt.alloc(),
-        b"{\"results_remap\":{\"wrong-answer\":\"correct\",\"run-error\":\"correct\",\"timelimit\":\"correct\",\"no-output\":\"correct\",\"output-limit\":\"correct\",\"memory-limit\":\"correct\",\"judging-error\":\"correct\"}}",
-        b"show 1\nclaim h1\nrecord 1 1 run-error\nrecord 1 1 timelimit\n",
-        b"final correct\nnothing\ncounted\nrepeat correct\n",
-    )?;
-    assert_eq!(rt; out.bytes(), want.as_slice());
-    Ok(())
-}
-
-const EQUAL: &[u8] =
-    b"{\"results_prio\":{\"correct\":5,\"wrong-answer\":5,\"run-error\":5,\"timelimit\":5,\"no-output\":5,\"output-limit\":5,\"memory-limit\":5,\"judging-error\":5}}";
-
-#[test]
-fn all_priorities_equal(rt: HostRuntime) -> Result<(), Fail> {
-    let (out, want) = contest_by(
-        rt.alloc(),
-        EQUAL,
-        b"record 1 1 no-output\nshow 1\n",
-        b"counted\nfinal no-output\n",
-    )?;
-    assert_eq!(rt; out.bytes(), want.as_slice());
-    let (out, want) = contest_by(
-        rt.alloc(),
-        EQUAL,
-        b"record 1 2 no-output\nshow 1\nclaim h1\nclaim h1\n",
-        b"counted\npending\ntask 1 1 until 60\nnothing\n",
-    )?;
-    assert_eq!(rt; out.bytes(), want.as_slice());
-    Ok(())
-}
-
-#[test]
-fn classes_and_full_judging(rt: HostRuntime) -> Result<(), Fail> {
-    let full = b"{\"lazy_eval_results\":false}".as_slice();
-    let (_, out) = configured(
-        rt.alloc(),
-        full,
-        b"problem A 1\nhost h1\nsubmit A low\nsubmit A\nsubmit A high\nclaim h1\nclaim h1\nclaim h1\nclaim h1\n",
-    )?;
-    assert_eq!(rt;
-        out.bytes(),
-        b"problem A version 1\nhost h1\nsubmission 1 judging 1\nsubmission 2 judging 2\nsubmission 3 judging 3\ntask 3 1 until 60\ntask 2 1 until 60\ntask 1 1 until 60\nnothing\n".as_slice()
-    );
-    let (_, out) = configured(
-        rt.alloc(),
-        full,
-        b"problem A 2\nsubmit A\nrecord 1 1 run-error\nshow 1\nrecord 1 2 correct\nshow 1\n",
-    )?;
-    assert_eq!(rt;
-        out.bytes(),
-        b"problem A version 1\nsubmission 1 judging 1\ncounted\npending\ncounted\nfinal run-error\n".as_slice()
-    );
-    Ok(())
-}
-
-#[test]
-fn a_middle_priority_does_not_stop_full_judging(rt: HostRuntime) -> Result<(), Fail> {
-    let (out, want) = contest_by(
-        rt.alloc(),
-        b"{\"lazy_eval_results\":false,\"lease\":1}",
-        b"record 1 1 correct\nrecord 1 2 wrong-answer\nshow 1\nclaim h1\nrecord 1 3 correct\nshow 1\n",
-        b"counted\ncounted\npending\ntask 1 3 until 1\ncounted\nfinal wrong-answer\n",
-    )?;
-    assert_eq!(rt; out.bytes(), want.as_slice());
-    Ok(())
-}
-
-/// Each fault of a settings' file, and the line that tells it.
+/// Each fault of a file of settings, and the line that tells it.
 const BAD_SETTINGS: [(&[u8], &[u8]); 18] = [
     (b"", b"not json"),
     (b"[]", b"not json"),
@@ -539,17 +353,28 @@ const BAD_SETTINGS: [(&[u8], &[u8]); 18] = [
     ),
 ];
 
+/// How the program ends by these settings, and what it writes.
+fn refused(alloc: Global, path: &str, settings: &[u8]) -> Result<(Exit, ReliableSink), NoMemory> {
+    let mut tree = tree_of(alloc, path, settings)?;
+    let words = ["farm", "script", "--config", path];
+    Ok(run(alloc, &words, &mut tree, SMALLEST)?)
+}
+
+fn fault_line(alloc: Global, fault: &[u8]) -> Result<Vec<u8>, AllocError> {
+    let mut line = b"bad contest: farm.json: ".to_vec(alloc)?;
+    line.extend_from_slice(fault)?;
+    line.push(b'\n')?;
+    Ok(line)
+}
+
 #[test]
 fn bad_settings_are_named(rt: HostRuntime) -> Result<(), Fail> {
     let alloc = rt.alloc();
     for (settings, fault) in BAD_SETTINGS {
-        let (exit, out) = configured(alloc, settings, SMALLEST)?;
-        let mut want = b"bad contest: farm.json: ".to_vec(alloc)?;
-        want.extend_from_slice(fault)?;
-        want.push(b'\n')?;
+        let (exit, out) = refused(alloc, "farm.json", settings)?;
         assert_eq!(rt; exit, Exit::BadContest);
         assert_eq!(rt; exit.status(), 3);
-        assert_eq!(rt; out.bytes(), want.as_slice());
+        assert_eq!(rt; out.bytes(), fault_line(alloc, fault)?.as_slice());
     }
     Ok(())
 }
@@ -560,33 +385,16 @@ fn nesting_of_127_and_128_levels(rt: HostRuntime) -> Result<(), Fail> {
     let alloc = rt.alloc();
     for (levels, fault) in [(126, b"bad value lease".as_slice()), (127, b"not json")] {
         let mut settings = b"{\"lease\":".to_vec(alloc)?;
-        for _ in 0..levels {
-            settings.push(b'[')?;
-        }
-        for _ in 0..levels {
-            settings.push(b']')?;
-        }
+        settings.extend_from_slice(vec![in alloc; b'['; levels]?.as_slice())?;
+        settings.extend_from_slice(vec![in alloc; b']'; levels]?.as_slice())?;
         settings.push(b'}')?;
-        let (_, out) = configured(alloc, settings.as_slice(), SMALLEST)?;
-        let mut want = b"bad contest: farm.json: ".to_vec(alloc)?;
-        want.extend_from_slice(fault)?;
-        want.push(b'\n')?;
-        assert_eq!(rt; out.bytes(), want.as_slice(), "at {levels}");
+        let (_, out) = refused(alloc, "farm.json", settings.as_slice())?;
+        assert_eq!(rt;
+            out.bytes(),
+            fault_line(alloc, fault)?.as_slice(),
+            "at {levels}"
+        );
     }
-    Ok(())
-}
-
-#[test]
-fn the_last_of_two_settings_counts(rt: HostRuntime) -> Result<(), Fail> {
-    let (_, out) = configured(
-        rt.alloc(),
-        b"{\"lease\":0,\"lease\":7}",
-        b"problem A 1\nhost h\nsubmit A\nclaim h\n",
-    )?;
-    assert_eq!(rt;
-        out.bytes(),
-        b"problem A version 1\nhost h\nsubmission 1 judging 1\ntask 1 1 until 7\n".as_slice()
-    );
     Ok(())
 }
 
@@ -594,13 +402,16 @@ fn the_last_of_two_settings_counts(rt: HostRuntime) -> Result<(), Fail> {
 fn a_file_that_is_not_there_or_too_large(rt: HostRuntime) -> Result<(), Fail> {
     let alloc = rt.alloc();
     let words = ["farm", "script", "--config=a\nb.json"];
-    let (exit, out) = run(alloc, &words, &mut ReliableTree::new(alloc), SMALLEST)?;
+    let (exit, out) = run(
+        alloc,
+        &words,
+        &mut tree_of(alloc, "b.json", b"{}")?,
+        SMALLEST,
+    )?;
     assert_eq!(rt; exit, Exit::BadContest);
     assert_eq!(rt; out.bytes(), b"bad contest: no config\n".as_slice());
-    let mut tree = ReliableTree::new(alloc);
     let large = vec![in alloc; b' '; 16_777_217]?;
-    tree.add("a\nb.json", large.as_slice())?;
-    let (exit, out) = run(alloc, &words, &mut tree, SMALLEST)?;
+    let (exit, out) = refused(alloc, "a\nb.json", large.as_slice())?;
     assert_eq!(rt; exit, Exit::BadContest);
     assert_eq!(rt;
         out.bytes(),
@@ -609,36 +420,86 @@ fn a_file_that_is_not_there_or_too_large(rt: HostRuntime) -> Result<(), Fail> {
     Ok(())
 }
 
-/// The first read of the tree fails.
-#[test]
-fn a_tree_that_fails(rt: HostRuntime) -> Result<(), Fail> {
-    let alloc = rt.alloc();
-    let mut failing = Vec::new(alloc);
-    failing.push(0)?;
-    let mut tree = MemoryTree::new(alloc, failing);
-    tree.add("farm.json", b"{}")?;
-    let mut source = ReliableSource::new(SMALLEST.to_vec(alloc)?);
-    let mut sink = ReliableSink::new(Vec::with_capacity(alloc, ROOM)?);
-    let words = words(alloc, &["farm", "script", "--config", "farm.json"])?;
-    let exit = farm_main(alloc, words.as_slice(), &mut tree, &mut source, &mut sink);
-    assert_eq!(rt; exit, Exit::TreeFault);
-    assert_eq!(rt; exit.status(), 7);
-    assert_eq!(rt; sink.bytes(), b"".as_slice());
-    Ok(())
+/// An object whose call of this number fails, and how the program ends.
+#[derive(Clone, Copy)]
+struct Fault {
+    name: &'static str,
+    words: &'static [&'static str],
+    input: Option<u64>,
+    out: Option<u64>,
+    tree: Option<u64>,
+    exit: Exit,
+    status: u8,
+    output: &'static [u8],
 }
 
-/// The line of bad settings meets a sink that fails.
+const FAULTS: [Fault; 4] = [
+    Fault {
+        name: "a_source_that_fails_in_mid_line",
+        words: &["farm", "script"],
+        input: Some(1),
+        out: None,
+        tree: Some(0),
+        exit: Exit::ReadFault,
+        status: 4,
+        output: b"problem A version 1\n",
+    },
+    Fault {
+        name: "a_sink_whose_first_put_fails",
+        words: &["farm", "script"],
+        input: None,
+        out: Some(0),
+        tree: Some(0),
+        exit: Exit::WriteFault,
+        status: 5,
+        output: b"",
+    },
+    Fault {
+        name: "a_tree_that_fails",
+        words: &["farm", "script", "--config", "farm.json"],
+        input: None,
+        out: None,
+        tree: Some(0),
+        exit: Exit::TreeFault,
+        status: 7,
+        output: b"",
+    },
+    Fault {
+        name: "bad_settings_and_a_sink_that_fails",
+        words: &["farm", "script", "--config", "none.json"],
+        input: None,
+        out: Some(0),
+        tree: None,
+        exit: Exit::WriteFault,
+        status: 5,
+        output: b"",
+    },
+];
+
+/// The list of this call, where there is one.
+fn failing(alloc: Global, call: Option<u64>) -> Result<Vec<u64>, AllocError> {
+    let mut calls = Vec::new(alloc);
+    if let Some(call) = call {
+        calls.push(call)?;
+    }
+    Ok(calls)
+}
+
 #[test]
-fn bad_settings_and_a_sink_that_fails(rt: HostRuntime) -> Result<(), Fail> {
+fn faults(rt: HostRuntime) -> Result<(), Fail> {
     let alloc = rt.alloc();
-    let mut failing = Vec::new(alloc);
-    failing.push(0)?;
-    let mut tree = ReliableTree::new(alloc);
-    let mut source = ReliableSource::new(SMALLEST.to_vec(alloc)?);
-    let mut sink = MemorySink::new(Vec::with_capacity(alloc, ROOM)?, failing);
-    let words = words(alloc, &["farm", "script", "--config", "farm.json"])?;
-    let exit = farm_main(alloc, words.as_slice(), &mut tree, &mut source, &mut sink);
-    assert_eq!(rt; exit, Exit::WriteFault);
-    assert_eq!(rt; sink.bytes(), b"".as_slice());
+    for row in FAULTS.as_slice() {
+        let name = row.name;
+        let mut tree = MemoryTree::new(alloc, failing(alloc, row.tree)?);
+        tree.add("farm.json", b"{}")?;
+        let text = b"problem A 2\nsub".to_vec(alloc)?;
+        let mut source = MemorySource::new(text, failing(alloc, row.input)?);
+        let mut sink = MemorySink::new(Vec::with_capacity(alloc, ROOM)?, failing(alloc, row.out)?);
+        let words = words(alloc, row.words)?;
+        let exit = farm_main(alloc, words.as_slice(), &mut tree, &mut source, &mut sink);
+        assert_eq!(rt; exit, row.exit, "{name}");
+        assert_eq!(rt; exit.status(), row.status, "{name}");
+        assert_eq!(rt; sink.bytes(), row.output, "{name}");
+    }
     Ok(())
 }

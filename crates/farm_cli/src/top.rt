@@ -1,17 +1,16 @@
-ghost use Rattle.std.specs.Prelude.{◌≡◌, ◌≢◌, ◌≤◌, ◌↔◌, ◌⊎◌, ℕ, List, map, option_map, string_bytes, take};
+ghost use Rattle.std.specs.Prelude.{◌≡◌, ◌≢◌, ◌↔◌, ◌⊎◌, ℕ, List, Option, None, Err, IfSome, map, option_map, string_bytes, take};
 ghost use Rattle.std.specs.Io.KnownBytes.{Appends};
-ghost use Rattle.farm_kinds.specs.declared.events.Event.{Event};
 ghost use Rattle.farm_io.specs.Streams.{Rose};
-ghost use Rattle.farm_model.specs.State.{SettingsValue};
-ghost use Rattle.farm_laws.specs.Laws.{KeepsPromise};
-ghost use Rattle.script_session.specs.Session.{AllAnswered, LinesAnswered, FrontAnswered, TookLimit, IsShort};
-ghost use Rattle.farm_cli.specs.CommandLine.{IsCommand, config_of};
-ghost use Rattle.farm_cli.specs.Config.{bad_contest_line};
-ghost use Rattle.farm_cli.specs.Scripted.{IsLawful, begins, AllDone, LinesDone, FrontDone, BadTold, FrontTold};
+ghost use Rattle.farm_tree.specs.declared.reads.TreeFile.{TreeFile};
+ghost use Rattle.script_session.specs.Session.{IsShort};
+ghost use Rattle.farm_cli.specs.CommandLine.{command_of, file_of};
+ghost use Rattle.farm_cli.specs.Config.{ConfigIs};
+ghost use Rattle.farm_cli.specs.Scripted.{RunEnds, NoSettingsEnds, ScriptEnds, CommandEnds, ScriptIsDone, CommandIsDone};
 
+use crate::command_line::read_command;
 use crate::config::{BadConfig, ConfigEnd, bad_contest_line, read_config};
 use crate::exit::Exit;
-use crate::words::{config_of, is_script};
+use crate::words::Command;
 use farm_core::Farm;
 use farm_io::{PutEnd, Sink, Source};
 use farm_settings::Settings;
@@ -30,51 +29,41 @@ pub fn farm_main<T: Tree, S: Source, K: Sink>(
     input: &mut S,
     out: &mut K,
 ) -> Exit
-    // Other words are no command line. Then nothing is read, and nothing is written.
-    ensures usage { (result ≡ Exit.Usage) ↔ (¬ IsCommand (map string_bytes words.now)) }
-    ensures command { result ≢ Exit.Usage → IsCommand (map string_bytes words.now) }
+    // Other words are no command. Then nothing is read, and nothing is written.
+    ensures usage { (result ≡ Exit.Usage) ↔ (command_of (map string_bytes words.now) ≡ None) }
     ensures silent { result ≡ Exit.Usage → (tree.new ≡ tree.old) × (input.new ≡ input.old) × (out.new ≡ out.old) }
 
-    // What is written is the script's output for the bytes that were taken, or a front of it, by the settings
-    // of the file where there is one.
-    ensures done { result ≡ Exit.Done
-        → AllDone (T.files tree.old) (config_of (map string_bytes words.now)) (record { left = S.left input.old; held = K.held out.old }) (record { left = S.left input.new; held = K.held out.new }) }
-    ensures lines { (result ≡ Exit.ReadFault) ⊎ (result ≡ Exit.InputLimit)
-        → LinesDone (T.files tree.old) (config_of (map string_bytes words.now)) (record { left = S.left input.old; held = K.held out.old }) (record { left = S.left input.new; held = K.held out.new }) }
-    ensures front { (result ≡ Exit.WriteFault) ⊎ (result ≡ Exit.Memory)
-        → FrontDone (T.files tree.old) (config_of (map string_bytes words.now)) (record { left = S.left input.old; held = K.held out.old }) (record { left = S.left input.new; held = K.held out.new })
-        ⊎ FrontTold (T.files tree.old) (config_of (map string_bytes words.now)) (K.held out.old) (K.held out.new)
-        ⊎ (out.new ≡ out.old) }
+    // How each command ends: what was read and what was written, which keeps the promise. Whatever lines come,
+    // and so whatever hosts claim, answer, repeat, lose leases or die, a judging is reported final exactly where
+    // no outcome of its unjudged tests could change its verdict, or with full judging where every test is judged;
+    // that verdict is what running every test in rank order on one thread gives; final stays; each result counts
+    // once.
+    ensures ends { IfSome (command_of (map string_bytes words.now)) (λ command. CommandEnds (T.files tree.old) command
+        (record { left = S.left input.old; held = K.held out.old }) (record { left = S.left input.new; held = K.held out.new })
+        (input.new ≡ input.old) (out.new ≡ out.old) result) }
 
-    // A file that gives no settings has the fault that is told. Then no line is read.
-    ensures bad_contest { result ≡ Exit.BadContest → BadTold (T.files tree.old) (config_of (map string_bytes words.now)) (K.held out.old) (K.held out.new) }
-    ensures unread { (result ≡ Exit.BadContest) ⊎ (result ≡ Exit.TreeFault) → input.new ≡ input.old }
-    ensures unwritten { result ≡ Exit.TreeFault → out.new ≡ out.old }
-
-    // Whatever lines come, and so whatever hosts claim, answer, repeat, lose leases or die, a judging is
-    // reported final exactly where no outcome of its unjudged tests could change its verdict, or with full
-    // judging where every test is judged; that verdict is what running every test in rank order on one thread
-    // gives; final stays; each result counts once.
-    ensures headline { (settings : SettingsValue) (es : List Event) → KeepsPromise settings es }
+    // A command that reads no file leaves the tree as it was, and no command changes a file.
+    ensures tree { IfSome (command_of (map string_bytes words.now)) (λ command. file_of command ≡ None → tree.new ≡ tree.old) }
+    ensures files { T.files tree.new ≡ T.files tree.old }
 
     // Each fault has its cause, and without one the command is done unless memory is wanting.
     ensures read_fault { result ≡ Exit.ReadFault → Rose (S.faults input.old) (S.faults input.new) }
     ensures write_fault { result ≡ Exit.WriteFault → Rose (K.faults out.old) (K.faults out.new) }
     ensures tree_fault { result ≡ Exit.TreeFault → Rose (T.faults tree.old) (T.faults tree.new) }
-    ensures limit { result ≡ Exit.InputLimit → TookLimit (S.left input.old) (S.left input.new) }
-    ensures complete { IsCommand (map string_bytes words.now)
-        → IsLawful (T.files tree.old) (config_of (map string_bytes words.now)) → IsShort (S.left input.old)
-        → ¬ Rose (T.faults tree.old) (T.faults tree.new) → ¬ Rose (S.faults input.old) (S.faults input.new) → ¬ Rose (K.faults out.old) (K.faults out.new)
-        → (result ≡ Exit.Done) ⊎ (result ≡ Exit.Memory) }
+    ensures complete { IfSome (command_of (map string_bytes words.now)) (λ command. CommandIsDone (T.files tree.old) command (S.left input.old)
+        (¬ Rose (T.faults tree.old) (T.faults tree.new) × ¬ Rose (S.faults input.old) (S.faults input.new) × ¬ Rose (K.faults out.old) (K.faults out.new))
+        result) }
 {
-    let config = config_of(words);
-    if config.is_none() && !is_script(words) {
+    let Some(command) = read_command(words) else {
         return Exit::Usage;
+    };
+    match command {
+        Command::Script { config } => script(alloc, config, tree, input, out),
     }
-    script(alloc, config, tree, input, out)
 }
 
 /// `farm script`, with the settings of the file at the path, or with the standard ones.
+#[tactic(auto, unfolding(crate::specs::Scripted::ScriptIsDone))]
 fn script<T: Tree, S: Source, K: Sink>(
     alloc: Global,
     config: Option<&str>,
@@ -83,24 +72,17 @@ fn script<T: Tree, S: Source, K: Sink>(
     out: &mut K,
 ) -> Exit
     ensures command { result ≢ Exit.Usage }
-    ensures done { result ≡ Exit.Done
-        → AllDone (T.files tree.old) (option_map (λ path. path.now) config.entry) (record { left = S.left input.old; held = K.held out.old }) (record { left = S.left input.new; held = K.held out.new }) }
-    ensures lines { (result ≡ Exit.ReadFault) ⊎ (result ≡ Exit.InputLimit)
-        → LinesDone (T.files tree.old) (option_map (λ path. path.now) config.entry) (record { left = S.left input.old; held = K.held out.old }) (record { left = S.left input.new; held = K.held out.new }) }
-    ensures front { (result ≡ Exit.WriteFault) ⊎ (result ≡ Exit.Memory)
-        → FrontDone (T.files tree.old) (option_map (λ path. path.now) config.entry) (record { left = S.left input.old; held = K.held out.old }) (record { left = S.left input.new; held = K.held out.new })
-        ⊎ FrontTold (T.files tree.old) (option_map (λ path. path.now) config.entry) (K.held out.old) (K.held out.new)
-        ⊎ (out.new ≡ out.old) }
-    ensures bad_contest { result ≡ Exit.BadContest → BadTold (T.files tree.old) (option_map (λ path. path.now) config.entry) (K.held out.old) (K.held out.new) }
-    ensures unread { (result ≡ Exit.BadContest) ⊎ (result ≡ Exit.TreeFault) → input.new ≡ input.old }
-    ensures unwritten { result ≡ Exit.TreeFault → out.new ≡ out.old }
+    ensures ends { ScriptEnds (T.files tree.old) (option_map (λ path. path.now) config.entry)
+        (record { left = S.left input.old; held = K.held out.old }) (record { left = S.left input.new; held = K.held out.new })
+        (input.new ≡ input.old) (out.new ≡ out.old) result }
+    ensures tree { option_map (λ path. path.now) config.entry ≡ None → tree.new ≡ tree.old }
+    ensures files { T.files tree.new ≡ T.files tree.old }
     ensures read_fault { result ≡ Exit.ReadFault → Rose (S.faults input.old) (S.faults input.new) }
     ensures write_fault { result ≡ Exit.WriteFault → Rose (K.faults out.old) (K.faults out.new) }
     ensures tree_fault { result ≡ Exit.TreeFault → Rose (T.faults tree.old) (T.faults tree.new) }
-    ensures limit { result ≡ Exit.InputLimit → TookLimit (S.left input.old) (S.left input.new) }
-    ensures complete { IsLawful (T.files tree.old) (option_map (λ path. path.now) config.entry) → IsShort (S.left input.old)
-        → ¬ Rose (T.faults tree.old) (T.faults tree.new) → ¬ Rose (S.faults input.old) (S.faults input.new) → ¬ Rose (K.faults out.old) (K.faults out.new)
-        → (result ≡ Exit.Done) ⊎ (result ≡ Exit.Memory) }
+    ensures complete { ScriptIsDone (T.files tree.old) (option_map (λ path. path.now) config.entry) (S.left input.old)
+        (¬ Rose (T.faults tree.old) (T.faults tree.new) × ¬ Rose (S.faults input.old) (S.faults input.new) × ¬ Rose (K.faults out.old) (K.faults out.new))
+        result }
 {
     let Some(path) = config else {
         return run(alloc, Settings::standard(), input, out);
@@ -115,18 +97,12 @@ fn script<T: Tree, S: Source, K: Sink>(
 
 /// Answers the lines of the input by an empty farm with these settings.
 fn run<S: Source, K: Sink>(alloc: Global, settings: Settings, input: &mut S, out: &mut K) -> Exit
-    ensures usage { result ≢ Exit.Usage }
-    ensures bad_contest { result ≢ Exit.BadContest }
+    ensures command { result ≢ Exit.Usage }
     ensures tree_fault { result ≢ Exit.TreeFault }
-    ensures done { result ≡ Exit.Done
-        → AllAnswered (begins settings (record { left = S.left input.old; held = K.held out.old })) (S.left input.new) (K.held out.new) }
-    ensures lines { (result ≡ Exit.ReadFault) ⊎ (result ≡ Exit.InputLimit)
-        → LinesAnswered (begins settings (record { left = S.left input.old; held = K.held out.old })) (S.left input.new) (K.held out.new) }
-    ensures front { (result ≡ Exit.WriteFault) ⊎ (result ≡ Exit.Memory)
-        → FrontAnswered (begins settings (record { left = S.left input.old; held = K.held out.old })) (S.left input.new) (K.held out.new) }
+    ensures ends { RunEnds (λ in_use. in_use ≡ settings)
+        (record { left = S.left input.old; held = K.held out.old }) (record { left = S.left input.new; held = K.held out.new }) result }
     ensures read_fault { result ≡ Exit.ReadFault → Rose (S.faults input.old) (S.faults input.new) }
     ensures write_fault { result ≡ Exit.WriteFault → Rose (K.faults out.old) (K.faults out.new) }
-    ensures limit { result ≡ Exit.InputLimit → TookLimit (S.left input.old) (S.left input.new) }
     ensures complete { IsShort (S.left input.old)
         → ¬ Rose (S.faults input.old) (S.faults input.new) → ¬ Rose (K.faults out.old) (K.faults out.new)
         → (result ≡ Exit.Done) ⊎ (result ≡ Exit.Memory) }
@@ -143,11 +119,12 @@ fn run<S: Source, K: Sink>(alloc: Global, settings: Settings, input: &mut S, out
 
 /// Writes the line that says why the file at the path gives no settings.
 fn refuse<K: Sink>(alloc: Global, path: &str, bad: &BadConfig, out: &mut K) -> Exit
-    ensures ends { (result ≡ Exit.BadContest) ⊎ (result ≡ Exit.WriteFault) ⊎ (result ≡ Exit.Memory) }
-    ensures told { result ≡ Exit.BadContest → Appends (K.held out.old) (K.held out.new) (bad_contest_line path.now bad.now) }
-    ensures front { result ≡ Exit.WriteFault → (n : ℕ) × Appends (K.held out.old) (K.held out.new) (take n (bad_contest_line path.now bad.now)) }
+    ensures command { result ≢ Exit.Usage }
+    ensures tree_fault { result ≢ Exit.TreeFault }
+    ensures read_fault { result ≢ Exit.ReadFault }
+    ensures ends { (files : Option (List TreeFile)) → ConfigIs files path.now (Err bad.now)
+        → NoSettingsEnds files path.now (K.held out.old) (K.held out.new) (out.new ≡ out.old) result }
     ensures write_fault { result ≡ Exit.WriteFault → Rose (K.faults out.old) (K.faults out.new) }
-    ensures unwritten { result ≡ Exit.Memory → out.new ≡ out.old }
 {
     match bad_contest_line(alloc, path, bad) {
         Ok(line) => match out.put(line.as_slice()) {

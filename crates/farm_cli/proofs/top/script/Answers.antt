@@ -1,12 +1,12 @@
-use Rattle.std.proofs.Common.{ℕ, List, Option, Some, Err, ap, ◌∙◌, subst}
-use Rattle.std.specs.Option.{option_map}
-use Rattle.std.specs.Borrow.{Bor}
-use Rattle.farm_cli.specs.Scripted.{IsLawful}
-use Rattle.farm_cli.proofs.Lawful.{lawful_is_good}
+use Rattle.std.proofs.Common.{Err, ap, ◌∙◌, refl}
+use Rattle.farm_cli.specs.Scripted.{Streams}
+use Rattle.farm_cli.proofs.Ends.{refused_ends}
 use Rattle.farm_cli.proofs.top.script.Goals as goal
 
-pub returns-in-Err-Bad-clause-complete : goal.returns-in-Err-Bad-clause-complete
-returns-in-Err-Bad-clause-complete g c lawful short tree_well input_well out_well =
+pub returns-in-Err-Bad-clause-ends : goal.returns-in-Err-Bad-clause-ends
+returns-in-Err-Bad-clause-ends g c =
     let files = g.T.Tree.files c.args.tree.now in
-    let named : IsLawful files (Some c.in-Some.path.now) = subst (λ (o : Option (Bor (List ℕ))). IsLawful files (option_map (λ path. path.now) o)) c.in-Some.is lawful in
-    absurd (lawful_is_good files c.in-Some.path.now c.in-Err-Bad.bad named (c.read_config.ensures.bad c.in-Err-Bad.bad (c.in-Err-Bad.is ∙ ap Err c.in-Err-Bad.field-0-is)))
+    let old : Streams = record { left = g.S.Source.left c.args.input.now; held = g.K.Sink.held c.args.out.now } in
+    let new : Streams = record { left = g.S.Source.left c.args.input.now; held = g.K.Sink.held c.refuse.new.out } in
+    let found = c.read_config.ensures.bad c.in-Err-Bad.bad (c.in-Err-Bad.is ∙ ap Err c.in-Err-Bad.field-0-is) in
+    refused_ends files c.args.config c.in-Some.path old new _ _ c.refuse.result c.in-Some.is refl (c.refuse.ensures.ends files found)

@@ -1,0 +1,68 @@
+ghost use Rattle.std.specs.Prelude.{◌≡◌, map, option_map, string_bytes};
+ghost use Rattle.farm_cli.specs.CommandLine.{command_value, command_of, script_of, value_of, behind, joined_config, split_config, with_config};
+
+use crate::words::Command;
+
+/// Reads the words of the command line. None where they are no command.
+pub fn read_command(words: &[String]) -> Option<Command>
+    ensures { option_map command_value result ≡ command_of (map string_bytes words.now) }
+{
+    if words.len() < 2 || words[1].as_str() != "script" {
+        return None;
+    }
+    script_command(&words[2..])
+}
+
+/// Reads what stands behind `script`.
+fn script_command(options: &[String]) -> Option<Command>
+    ensures { option_map command_value result ≡ script_of (map string_bytes options.now) }
+{
+    match options {
+        [] => Some(Command::Script { config: None }),
+        [word] => with_config(joined_config(word.as_str())),
+        [word, path] => with_config(split_config(word.as_str(), path.as_str())),
+        _ => None,
+    }
+}
+
+/// A script with this file of settings, where its path is one.
+fn with_config(path: Option<&str>) -> Option<Command>
+    ensures { option_map command_value result ≡ option_map (λ p. with_config p.now) path.entry }
+{
+    let path = path?;
+    Some(Command::Script { config: Some(path) })
+}
+
+/// The path of `--config=PATH`.
+fn joined_config(word: &str) -> Option<&str>
+    ensures { option_map (λ path. path.now) result ≡ joined_config word.now }
+{
+    value_of(behind(word, "--config=")?)
+}
+
+/// The path of `--config PATH`.
+fn split_config<'a>(word: &str, path: &'a str) -> Option<&'a str>
+    ensures { option_map (λ path. path.now) result ≡ split_config word.now path.now }
+{
+    if word != "--config" {
+        return None;
+    }
+    value_of(path)
+}
+
+/// What stands behind this beginning of a word.
+fn behind<'a>(word: &'a str, beginning: &str) -> Option<&'a str>
+    ensures { option_map (λ rest. rest.now) result ≡ behind beginning.now word.now }
+{
+    word.strip_prefix(beginning)
+}
+
+/// The value of an option: it is not empty, and does not begin with `-`.
+fn value_of(word: &str) -> Option<&str>
+    ensures { option_map (λ value. value.now) result ≡ value_of word.now }
+{
+    if word.is_empty() || word.as_bytes()[0] == b'-' {
+        return None;
+    }
+    Some(word)
+}
