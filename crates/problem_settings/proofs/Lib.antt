@@ -1,0 +1,5 @@
+pub mod PartLemmas
+pub mod FieldLemmas
+pub mod ScalarLemmas
+pub mod NumberLemmas
+pub mod EntryLemmas

@@ -1,0 +1,9 @@
+pub mod Lines
+pub mod Fields
+pub mod Scalars
+pub mod Sizes
+pub mod Entries
+pub mod ProblemYaml
+pub mod DomjudgeIni
+pub mod MachineLimits
+pub mod Views
