@@ -6,7 +6,7 @@ ghost use Rattle.farm_model.specs.State.{SettingsValue, start, public_of};
 ghost use Rattle.farm_model.specs.Refusals.{refusal_of};
 ghost use Rattle.farm_model.specs.Changes.{accepted};
 ghost use Rattle.farm_model.specs.Farm.{Stepped};
-ghost use Rattle.farm_laws.specs.Laws.{KeepsPromise};
+ghost use Rattle.farm_laws.specs.Laws.{reached, StepKeepsPromise};
 ghost use Rattle.farm_core.specs.FarmShape.{HadMemory};
 
 use crate::contest::Contest;
@@ -49,12 +49,13 @@ impl Farm {
         }
     }
 
-    /// Answers one event. One that is refused, and one that wants memory, changes nothing.
+    /// Answers one event. One that is refused, and one for which no memory was left, changes nothing.
     ///
-    /// `promise` is the law of all runs of these steps from an empty farm.
+    /// `promise` says, of a farm that some events led to from an empty one, what this step keeps.
     pub fn step(&mut self, event: &Event) -> Reply
         ensures stepped { Stepped self.old event.now self.new result }
-        ensures promise { (settings : SettingsValue) (es : List Event) → KeepsPromise settings es }
+        ensures promise { (settings : SettingsValue) (es : List Event) → self.old ≡ reached settings es
+            → result ≢ Reply.NoMemory → StepKeepsPromise settings es event.now self.new result }
     {
         self.answer(event)
     }
