@@ -154,3 +154,14 @@ fn reserve_makes_room_for_one_entry(rt: HostRuntime) -> Result<(), Fail> {
     assert!(rt; is_digest(&audit.head(), CASES[3].3));
     Ok(())
 }
+
+#[test]
+fn a_log_takes_70_000_entries(rt: HostRuntime) -> Result<(), Fail> {
+    let mut audit = Audit::new(rt.alloc());
+    for _ in 0..70_000 {
+        assert!(rt; add(&mut audit, CASES[0]));
+    }
+    assert_eq!(rt; audit.len(), 70_000);
+    assert_eq!(rt; check(audit.entries()), Ok(()));
+    Ok(())
+}

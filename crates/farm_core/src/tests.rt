@@ -1,151 +1,245 @@
 use crate::Farm;
-use command_text::{read_line, write_reply};
-use farm_kinds::{Answer, Class, Event, Kind, Name, NoMemory, Numbers, Reply, Text, Verdict};
+use command_text::{push_reply, read_line};
+use farm_kinds::{Answer, Class, Event, Kind, Name, NoMemory, Numbers, Reply, Verdict};
 use farm_settings::{Settings, read_settings};
 use std::alloc::Global;
 use std::test::Fail;
 
 const WRONG_ANSWER: Answer = Answer::Final(Verdict::Tests(Kind::WrongAnswer));
 
-/// A line, and what it is answered.
-type Line = (&'static str, &'static str);
-
-/// What a line is answered. Empty where it asks nothing.
-fn answer(alloc: Global, farm: &mut Farm, line: &str) -> Result<Text, NoMemory> {
-    match read_line(alloc, line.as_bytes()) {
-        Ok(Some(event)) => write_reply(alloc, &farm.step(&event)),
-        _ => Ok(Text::new(alloc)),
-    }
+/// The replies of an empty farm with the settings of the JSON text to the lines.
+fn played(alloc: Global, config: &str, lines: &str) -> Result<Vec<u8>, NoMemory> {
+    let mut farm = farm_by(alloc, config);
+    replies(alloc, &mut farm, lines)
 }
 
-/// The first line of the script that is answered otherwise.
-fn first_other(
-    alloc: Global,
-    farm: &mut Farm,
-    script: &[Line],
-) -> Result<Option<&'static str>, NoMemory> {
-    for (line, want) in script {
-        let text = answer(alloc, farm, line)?;
-        if text.as_slice() != want.as_bytes() {
-            return Ok(Some(*line));
+/// The replies of the farm to the lines.
+fn replies(alloc: Global, farm: &mut Farm, lines: &str) -> Result<Vec<u8>, NoMemory> {
+    let mut out = Vec::new(alloc);
+    for line in lines.lines() {
+        if let Ok(Some(event)) = read_line(alloc, line.as_bytes()) {
+            push_reply(&mut out, &farm.step(&event))?;
         }
     }
-    Ok(None)
+    Ok(out)
 }
 
-const REFUSALS: [Line; 41] = [
-    ("problem A 1", "problem A version 1"),
-    ("submit A", "submission 1 judging 1"),
-    ("submit A", "submission 2 judging 2"),
-    ("submit A", "submission 3 judging 3"),
-    ("record 1 1 correct", "counted"),
-    ("record 2 1 correct", "counted"),
-    ("rejudge", "empty-set"),
-    ("rejudge 3,9,3", "no-submission 9"),
-    ("rejudge 1,0", "no-submission 0"),
-    ("rejudge 1,3,1", "not-final 3"),
-    ("rejudge 1,2,1", "twice 1"),
-    ("rejudge 1", "rejudging 1 judgings 4 to 4"),
-    ("rejudge 1,2,2", "twice 2"),
-    ("rejudge 2,1", "busy 1 1"),
-    ("apply 2", "no-rejudging 2"),
-    ("cancel 0", "no-rejudging 0"),
-    ("matrix 2", "no-rejudging 2"),
-    ("apply 1", "unfinished 4"),
-    ("matrix 1", "correct pending 1\nmatrix 1"),
-    ("verify 9", "no-judging 9"),
-    ("verify 4", "not-final 4"),
-    ("record 4 1 wrong-answer", "counted"),
-    ("verify 4", "verified 4"),
-    ("verify 4", "already 4"),
-    ("matrix 1", "correct wrong-answer 1\nmatrix 1"),
-    ("board", "1 correct\n2 correct\n3 pending\nboard 3"),
-    ("apply 1", "applied 1"),
-    ("apply 1", "closed applied"),
-    ("cancel 1", "closed applied"),
-    ("board", "1 wrong-answer\n2 correct\n3 pending\nboard 3"),
-    ("host h", "host h"),
-    ("rejudge 2", "rejudging 2 judgings 5 to 5"),
-    ("claim h", "task 3 1 until 60"),
-    ("claim h", "task 5 1 until 60"),
-    ("@ann cancel 2", "cancelled 1"),
-    ("down h", "ended 1"),
-    ("result h 5 1 correct", "no-host h"),
-    ("verify 5", "dropped"),
-    ("apply 2", "closed cancelled"),
-    ("board", "1 wrong-answer\n2 correct\n3 pending\nboard 3"),
-    ("matrix 1", "correct wrong-answer 1\nmatrix 1"),
-];
+/// The texts of the audit log behind the lines, each with a line feed.
+fn audited(alloc: Global, lines: &str) -> Result<Vec<u8>, NoMemory> {
+    let mut farm = Farm::new(alloc, Settings::standard());
+    let _ = replies(alloc, &mut farm, lines)?;
+    let mut texts = Vec::new(alloc);
+    for entry in farm.audit().entries() {
+        texts.extend_from_slice(entry.text.as_slice())?;
+        texts.extend_from_slice(b"\n")?;
+    }
+    Ok(texts)
+}
 
-const AUDITED: [Line; 14] = [
-    (
-        "audit",
-        "audit 0 e3b0c44298fc1c149afbf4c8996fb92427ae41e4649b934ca495991b7852b855",
-    ),
-    ("problem A 1", "problem A version 1"),
-    (
-        "audit",
-        "audit 1 3e52ab297b4c3536c40d23a0058825ecd07923db2f1024a04330ac85bb4925dd",
-    ),
-    ("problem A 1", "known A"),
-    ("submit A", "submission 1 judging 1"),
-    ("submit A", "submission 2 judging 2"),
-    ("record 1 1 correct", "counted"),
-    ("record 2 1 correct", "counted"),
-    ("@bob apply 1", "no-rejudging 1"),
-    ("@ann verify 1", "verified 1"),
-    ("rejudge 1,2", "rejudging 1 judgings 3 to 4"),
-    ("@bob replace A 2", "problem A version 2"),
-    ("rejudge 1", "busy 1 1"),
-    (
-        "audit",
-        "audit 4 09c482614fb48540bb5a06398a4b062616ff38e5ae075036ec417eb40ee10c9f",
-    ),
-];
+/// What the public sees of the submissions 0, 1 and 2 behind the lines.
+fn seen_of_three(
+    alloc: Global,
+    config: &str,
+    lines: &str,
+) -> Result<[Option<Answer>; 3], NoMemory> {
+    let mut farm = farm_by(alloc, config);
+    let _ = replies(alloc, &mut farm, lines)?;
+    Ok([farm.public(0), farm.public(1), farm.public(2)])
+}
+
+/// An empty farm with the settings that the JSON text says, or with the standard ones.
+fn farm_by(alloc: Global, config: &str) -> Farm {
+    let Ok(settings) = read_settings(alloc, config.as_bytes()) else {
+        return Farm::new(alloc, Settings::standard());
+    };
+    Farm::new(alloc, settings)
+}
+
+const REFUSALS: &str = concat!(
+    "problem A 1\n",
+    "submit A\n",
+    "submit A\n",
+    "submit A\n",
+    "record 1 1 correct\n",
+    "record 2 1 correct\n",
+    "rejudge\n",
+    "rejudge 3,9,3\n",
+    "rejudge 1,0\n",
+    "rejudge 1,3,1\n",
+    "rejudge 1,2,1\n",
+    "rejudge 1\n",
+    "rejudge 1,2,2\n",
+    "rejudge 2,1\n",
+    "apply 2\n",
+    "cancel 0\n",
+    "matrix 2\n",
+    "apply 1\n",
+    "matrix 1\n",
+    "verify 9\n",
+    "verify 4\n",
+    "record 4 1 wrong-answer\n",
+    "verify 4\n",
+    "verify 4\n",
+    "matrix 1\n",
+    "board\n",
+    "apply 1\n",
+    "apply 1\n",
+    "cancel 1\n",
+    "board\n",
+    "host h\n",
+    "rejudge 2\n",
+    "claim h\n",
+    "claim h\n",
+    "@ann cancel 2\n",
+    "down h\n",
+    "result h 5 1 correct\n",
+    "verify 5\n",
+    "apply 2\n",
+    "board\n",
+    "matrix 1\n",
+);
+
+const REFUSALS_REPLIES: &str = concat!(
+    "problem A version 1\n",
+    "submission 1 judging 1\n",
+    "submission 2 judging 2\n",
+    "submission 3 judging 3\n",
+    "counted\n",
+    "counted\n",
+    "empty-set\n",
+    "no-submission 9\n",
+    "no-submission 0\n",
+    "not-final 3\n",
+    "twice 1\n",
+    "rejudging 1 judgings 4 to 4\n",
+    "twice 2\n",
+    "busy 1 1\n",
+    "no-rejudging 2\n",
+    "no-rejudging 0\n",
+    "no-rejudging 2\n",
+    "unfinished 4\n",
+    "correct pending 1\nmatrix 1\n",
+    "no-judging 9\n",
+    "not-final 4\n",
+    "counted\n",
+    "verified 4\n",
+    "already 4\n",
+    "correct wrong-answer 1\nmatrix 1\n",
+    "1 correct\n2 correct\n3 pending\nboard 3\n",
+    "applied 1\n",
+    "closed applied\n",
+    "closed applied\n",
+    "1 wrong-answer\n2 correct\n3 pending\nboard 3\n",
+    "host h\n",
+    "rejudging 2 judgings 5 to 5\n",
+    "task 3 1 until 60\n",
+    "task 5 1 until 60\n",
+    "cancelled 1\n",
+    "ended 1\n",
+    "no-host h\n",
+    "dropped\n",
+    "closed cancelled\n",
+    "1 wrong-answer\n2 correct\n3 pending\nboard 3\n",
+    "correct wrong-answer 1\nmatrix 1\n",
+);
+
+const AUDITED: &str = concat!(
+    "audit\n",
+    "problem A 1\n",
+    "audit\n",
+    "problem A 1\n",
+    "submit A\n",
+    "submit A\n",
+    "record 1 1 correct\n",
+    "record 2 1 correct\n",
+    "@bob apply 1\n",
+    "@ann verify 1\n",
+    "rejudge 1,2\n",
+    "@bob replace A 2\n",
+    "rejudge 1\n",
+    "audit\n",
+);
+
+const AUDITED_REPLIES: &str = concat!(
+    "audit 0 e3b0c44298fc1c149afbf4c8996fb92427ae41e4649b934ca495991b7852b855\n",
+    "problem A version 1\n",
+    "audit 1 3e52ab297b4c3536c40d23a0058825ecd07923db2f1024a04330ac85bb4925dd\n",
+    "known A\n",
+    "submission 1 judging 1\n",
+    "submission 2 judging 2\n",
+    "counted\n",
+    "counted\n",
+    "no-rejudging 1\n",
+    "verified 1\n",
+    "rejudging 1 judgings 3 to 4\n",
+    "problem A version 2\n",
+    "busy 1 1\n",
+    "audit 4 09c482614fb48540bb5a06398a4b062616ff38e5ae075036ec417eb40ee10c9f\n",
+);
 
 /// What the log holds then. `sha256sum` computes the digests from these texts.
-const TEXTS: [&str; 4] = [
-    "jury problem A 1",
-    "ann verify 1",
-    "jury rejudge 1,2",
-    "bob replace A 2",
-];
+const TEXTS: &str = concat!(
+    "jury problem A 1\n",
+    "ann verify 1\n",
+    "jury rejudge 1,2\n",
+    "bob replace A 2\n",
+);
 
-const VERIFIED: [Line; 15] = [
-    ("problem A 1", "problem A version 1"),
-    ("submit A", "submission 1 judging 1"),
-    ("record 1 1 correct", "counted"),
-    ("show 1", "final correct"),
-    ("board", "1 pending\nboard 1"),
-    ("verify 1", "verified 1"),
-    ("board", "1 correct\nboard 1"),
-    ("rejudge 1", "rejudging 1 judgings 2 to 2"),
-    ("record 2 1 wrong-answer", "counted"),
-    ("board", "1 correct\nboard 1"),
-    ("apply 1", "applied 1"),
-    ("board", "1 pending\nboard 1"),
-    ("show 2", "final wrong-answer"),
-    ("matrix 1", "correct wrong-answer 1\nmatrix 1"),
-    ("verify 2", "verified 2"),
-];
+const VERIFYING: &str = "{\"verification_required\": true}";
+
+const VERIFIED: &str = concat!(
+    "problem A 1\n",
+    "submit A\n",
+    "record 1 1 correct\n",
+    "show 1\n",
+    "board\n",
+    "verify 1\n",
+    "board\n",
+    "rejudge 1\n",
+    "record 2 1 wrong-answer\n",
+    "board\n",
+    "apply 1\n",
+    "board\n",
+    "show 2\n",
+    "matrix 1\n",
+    "verify 2\n",
+);
+
+const VERIFIED_REPLIES: &str = concat!(
+    "problem A version 1\n",
+    "submission 1 judging 1\n",
+    "counted\n",
+    "final correct\n",
+    "1 pending\nboard 1\n",
+    "verified 1\n",
+    "1 correct\nboard 1\n",
+    "rejudging 1 judgings 2 to 2\n",
+    "counted\n",
+    "1 correct\nboard 1\n",
+    "applied 1\n",
+    "1 pending\nboard 1\n",
+    "final wrong-answer\n",
+    "correct wrong-answer 1\nmatrix 1\n",
+    "verified 2\n",
+);
 
 #[test]
 fn lines_of_the_jury_are_answered_as_they_should_be(rt: HostRuntime) -> Result<(), Fail> {
     let alloc = rt.alloc();
-    let mut refusing = Farm::new(alloc, Settings::standard());
-    assert_eq!(rt; first_other(alloc, &mut refusing, &REFUSALS)?, None);
-    let mut audited = Farm::new(alloc, Settings::standard());
-    assert_eq!(rt; first_other(alloc, &mut audited, &AUDITED)?, None);
-    for (entry, text) in audited.audit().entries().iter().zip(TEXTS) {
-        assert_eq!(rt; entry.text.as_slice(), text.as_bytes());
-    }
-    let Ok(settings) = read_settings(alloc, b"{\"verification_required\": true}") else {
-        panic!(rt; "the settings are refused");
-    };
-    let mut verified = Farm::new(alloc, settings);
-    assert_eq!(rt; first_other(alloc, &mut verified, &VERIFIED)?, None);
-    assert_eq!(rt; verified.public(1), Some(WRONG_ANSWER));
-    assert_eq!(rt; (verified.public(0), verified.public(2)), (None, None));
+    let refusing = played(alloc, "{}", REFUSALS)?;
+    assert_eq!(rt; refusing.as_slice(), REFUSALS_REPLIES.as_bytes());
+    let audit = played(alloc, "{}", AUDITED)?;
+    assert_eq!(rt; audit.as_slice(), AUDITED_REPLIES.as_bytes());
+    assert_eq!(rt; audited(alloc, AUDITED)?.as_slice(), TEXTS.as_bytes());
+    let verified = played(alloc, VERIFYING, VERIFIED)?;
+    assert_eq!(rt; verified.as_slice(), VERIFIED_REPLIES.as_bytes());
+    Ok(())
+}
+
+#[test]
+fn the_public_sees_what_is_verified(rt: HostRuntime) -> Result<(), Fail> {
+    let seen = seen_of_three(rt.alloc(), VERIFYING, VERIFIED)?;
+    assert_eq!(rt; seen, [None, Some(WRONG_ANSWER), None]);
     Ok(())
 }
 
