@@ -14,8 +14,9 @@ import sys
 
 sys.dont_write_bytecode = True
 
+from run import most_memory, path, run  # noqa: E402
 from hosts_model import write_contest  # noqa: E402
-from run import most_memory, path, program_and_numbers, run  # noqa: E402
+from place import program_and_numbers  # noqa: E402
 
 SIZES = [1_000, 10_000, 100_000]
 

@@ -11,13 +11,13 @@ over all judgings. Printed are lines a second of the processor for both sizes, w
 submissions cost, the ratio, and whether the replies are the right ones.
 """
 
-import os
 import random
 import sys
 
 sys.dont_write_bytecode = True
 
-from run import OUT, TOP, path, run  # noqa: E402
+from run import path, run  # noqa: E402
+from place import program_and_numbers  # noqa: E402
 
 SIZES = [10, 1_000]
 RECORDS = 500_000
@@ -92,9 +92,7 @@ def measure(program, order):
 
 
 def main():
-    program = sys.argv[1] if len(sys.argv) > 1 else os.path.join(TOP, "crates", "farm", "out", "farm")
-    program = os.path.abspath(program)
-    os.makedirs(OUT, exist_ok=True)
+    program, _ = program_and_numbers(sys.argv[1:])
     sound = True
     for order in [None] + ORDERS:
         for tests in SIZES:

@@ -22,12 +22,10 @@ import termios
 import time
 
 sys.dont_write_bytecode = True
+sys.path.append(os.path.join(os.path.dirname(os.path.abspath(__file__)), "..", "..", "tests"))
 
+from place import OUT, program_and_numbers  # noqa: E402
 from script_model import write_script  # noqa: E402
-
-HERE = os.path.dirname(os.path.abspath(__file__))
-TOP = os.path.dirname(os.path.dirname(HERE))
-OUT = os.path.join(TOP, "bench", "out", "script")
 
 # The name, how much is written, how often it is run.
 SCRIPTS = [
@@ -37,15 +35,6 @@ SCRIPTS = [
     ("100 MB with comments", {"size": 100_000_000, "comment": 80}, 3),
     ("100 MB without comments", {"size": 100_000_000}, 2),
 ]
-
-
-def program_and_numbers(words):
-    """The program that the first word names, or else the built one, and the numbers behind it."""
-    program = os.path.join(TOP, "crates", "farm", "out", "farm")
-    if words and not words[0].isdigit():
-        program, words = words[0], words[1:]
-    os.makedirs(OUT, exist_ok=True)
-    return os.path.abspath(program), [int(word) for word in words]
 
 
 def path(name, ending):
@@ -129,9 +118,7 @@ def measure(program, name, amount, runs):
 
 
 def main():
-    program = sys.argv[1] if len(sys.argv) > 1 else os.path.join(TOP, "crates", "farm", "out", "farm")
-    program = os.path.abspath(program)
-    os.makedirs(OUT, exist_ok=True)
+    program, _ = program_and_numbers(sys.argv[1:])
     empty = os.path.join(OUT, "empty")
     open(empty, "w").close()
     start = min(run(program, empty, os.path.join(OUT, "none"))[1] for _ in range(9))

@@ -1,7 +1,7 @@
 #!/usr/bin/env python3
 """Compares `show` and `claim` of `farm script` with all ways to fill rows, by brute force.
 
-    bench/script/enumerate.py [PROGRAM] [COUNT]
+    tests/enumerate.py [PROGRAM] [COUNT]
 
 PROGRAM is the built program, `crates/farm/out/farm` of this repository if none is given. COUNT judgings
 (5,000 if no number is given) of 2 to 4 tests are filled with random results in random order, ten under each
@@ -22,8 +22,8 @@ from itertools import product
 
 sys.dont_write_bytecode = True
 
+from place import OUT, program_and_numbers  # noqa: E402
 from rule_model import KINDS, Rule  # noqa: E402
-from run import OUT, program_and_numbers  # noqa: E402
 
 JUDGINGS_PER_SETTINGS = 10
 TESTS = [2, 3, 4]

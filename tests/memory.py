@@ -1,10 +1,10 @@
 #!/usr/bin/env python3
 """Refuses each allocation of `farm script` in turn, one a run, and looks at how the program ends.
 
-    bench/script/memory.py [PROGRAM]
+    tests/memory.py [PROGRAM]
 
 PROGRAM is the built program, `crates/farm/out/farm` of this repository if none is given. Some scripts are played, with
-the n-th allocation refused in the n-th run, until a run asks for fewer. Wanted is status 6 with a front of the replies,
+the n-th allocation refused in the n-th run, until a run asks for fewer. Wanted is status 6 with a prefix of the replies,
 and nothing else. `refuse.c`, which a C compiler makes a shared object of, refuses the allocations. Printed are how many
 allocations each script asks for, and each run that ends otherwise.
 """
@@ -16,7 +16,7 @@ import sys
 
 sys.dont_write_bytecode = True
 
-from run import HERE, OUT, program_and_numbers  # noqa: E402
+from place import OUT, TOP, program_and_numbers  # noqa: E402
 
 SCRIPTS = {
     "smallest path": """problem A 2
@@ -68,7 +68,7 @@ def make_refuser():
     if compiler is None:
         sys.exit("no C compiler here")
     library = os.path.join(OUT, "refuse.so")
-    source = os.path.join(HERE, "refuse.c")
+    source = os.path.join(TOP, "tests", "refuse.c")
     subprocess.run([compiler, "-O1", "-shared", "-fPIC", "-o", library, source, "-ldl"], check=True)
     return library
 
@@ -86,15 +86,15 @@ def measure(program, library, name):
     """Whether every run ends as it should."""
     lines = SCRIPTS[name]
     status, replies, asked = play(program, library, lines, 0)
-    sound, fronts = status == 0, set()
+    sound, prefixes = status == 0, set()
     for refused in range(1, asked + 1):
         status, written, _ = play(program, library, lines, refused)
-        fronts.add(written)
+        prefixes.add(written)
         if status != 6 or not replies.startswith(written):
             print(f"  {name}: allocation {refused} refused: status {status}, {written!r}")
             sound = False
-    print(f"{name}: {asked} allocations, each refused in turn: {'status 6 and' if sound else 'NOT always'} a front of the replies")
-    print(f"  {len(fronts)} different fronts")
+    print(f"{name}: {asked} allocations, each refused in turn: {'status 6 and' if sound else 'NOT always'} a prefix of the replies")
+    print(f"  {len(prefixes)} different prefixes")
     return sound
 
 

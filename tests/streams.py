@@ -1,7 +1,7 @@
 #!/usr/bin/env python3
 """Looks at `farm script` on real streams and files: files, a pipe, a terminal, a pipe that is closed, settings.
 
-    bench/script/streams.py [PROGRAM]
+    tests/streams.py [PROGRAM]
 
 PROGRAM is the built program, `crates/farm/out/farm` of this repository if none is given. One line is
 printed for each look, and the status is 1 where one shows something else than is wanted.
@@ -16,8 +16,9 @@ import tempfile
 import termios
 import time
 
-HERE = os.path.dirname(os.path.abspath(__file__))
-TOP = os.path.dirname(os.path.dirname(HERE))
+sys.dont_write_bytecode = True
+
+from place import TOP, program_and_numbers  # noqa: E402
 
 LINES = b"problem A 2\nsubmit A\nshow 1\n"
 REPLIES = b"problem A version 1\nsubmission 1 judging 1\npending\n"
@@ -114,7 +115,7 @@ def to_closed_pipe(program):
 
 def from_folder(program):
     """The status where standard input cannot be read."""
-    folder = os.open(HERE, os.O_RDONLY)
+    folder = os.open(TOP, os.O_RDONLY)
     done = run(program, folder)
     os.close(folder)
     return None if (done.returncode, done.stdout) == (4, b"") else f"status {done.returncode}"
@@ -184,8 +185,7 @@ def compared(done, want):
 
 
 def main():
-    program = sys.argv[1] if len(sys.argv) > 1 else os.path.join(TOP, "crates", "farm", "out", "farm")
-    program = os.path.abspath(program)
+    program, _ = program_and_numbers(sys.argv[1:])
     looks = []
     for name, text, want in TEXTS:
         looks.append((f"file: {name}", compared(from_file(program, text), want)))
