@@ -1,11 +1,8 @@
 // The default validator's rules, written straightforwardly in C++, to compare speed with.
-// validator FLAGS ANSWER OUTPUT ROUNDS prints the least time of the rounds, in microseconds.
-#include <chrono>
+// validator FLAGS ANSWER OUTPUT ends with 42 where the output is accepted, and with 43 where it is not.
 #include <cstdint>
 #include <cstdio>
 #include <cstdlib>
-#include <fstream>
-#include <iterator>
 #include <optional>
 #include <sstream>
 #include <string>
@@ -128,8 +125,14 @@ static bool accepts(const Flags& flags, const std::string& answer, const std::st
 }
 
 static std::string read_file(const char* path) {
-  std::ifstream file(path, std::ios::binary);
-  return {std::istreambuf_iterator<char>(file), {}};
+  std::FILE* file = std::fopen(path, "rb");
+  if (!file) std::exit(1);
+  std::fseek(file, 0, SEEK_END);
+  std::string text(std::ftell(file), '\0');
+  std::rewind(file);
+  if (std::fread(text.data(), 1, text.size(), file) != text.size()) std::exit(1);
+  std::fclose(file);
+  return text;
 }
 
 static Flags read_flags(const char* text) {
@@ -150,19 +153,8 @@ static Flags read_flags(const char* text) {
 }
 
 int main(int argc, char** argv) {
-  if (argc != 5) return 2;
+  if (argc != 4) return 2;
   Flags flags = read_flags(argv[1]);
   std::string answer = read_file(argv[2]), output = read_file(argv[3]);
-  int64_t best = -1;
-  for (int round = 0; round < atoi(argv[4]); round++) {
-    auto start = std::chrono::steady_clock::now();
-    bool accepted = accepts(flags, answer, output);
-    int64_t took = std::chrono::duration_cast<std::chrono::microseconds>(std::chrono::steady_clock::now() - start).count();
-    if (!accepted) {
-      puts("rejected");
-      return 1;
-    }
-    if (best < 0 || took < best) best = took;
-  }
-  printf("%lld\n", (long long)best);
+  return accepts(flags, answer, output) ? 42 : 43;
 }

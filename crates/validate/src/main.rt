@@ -1,0 +1,97 @@
+//! `validate INPUT ANSWER FEEDBACK_FOLDER [FLAGS ..]`: the default output validator of the Kattis problem package
+//! format (legacy), section "Default Output Validator Specification", with the interface that section "Output
+//! Validators" gives every validator.
+//!
+//! The team's output is read from standard input. The status is 42 where it is accepted and 43 where it is not; any
+//! other status is a judge's error, with a line on standard error. Why an output is not accepted stands in
+//! `judgemessage.txt` in the feedback folder.
+#![tactic(auto)]
+
+mod judgement;
+mod message;
+#[cfg(test)]
+mod tests;
+mod words;
+
+use crate::judgement::{Judgement, judge};
+use crate::message::{error_text, reason};
+use crate::words::{Command, read_words};
+use default_validator::Flags;
+use std::io::Read;
+use std::process::ExitCode;
+use std::{env, fs, io};
+
+const USAGE: &str = "usage: validate INPUT ANSWER FEEDBACK_FOLDER [FLAGS ..] < OUTPUT
+
+Compares a team's output with the answer of a test, token by token, as Kattis'
+default output validator does. INPUT is not looked at.
+FLAGS: case_sensitive, space_change_sensitive, float_tolerance E,
+float_relative_tolerance E, float_absolute_tolerance E.
+
+Status: 42 accepted, 43 wrong answer (FEEDBACK_FOLDER/judgemessage.txt says
+why), 1 judge's error, 2 usage.
+";
+
+fn main(rt: HostRuntime) -> ExitCode {
+    match run(&rt) {
+        Ok(status) => ExitCode::from(status),
+        Err(error) => {
+            let _ = eprintln!(rt; "validate: {error}");
+            ExitCode::from(1)
+        }
+    }
+}
+
+/// Judges the output that the words ask for, and gives the status.
+fn run(rt: &HostRuntime) -> io::Result<u8> {
+    let words = env::args(rt)?.collect::<Vec<String>>(rt.alloc())?;
+    let Some(command) = read_words(words.as_slice()) else {
+        rt.eprint(USAGE)?;
+        return Ok(2);
+    };
+    let flags = command.flags.join(rt.alloc(), " ")?;
+    let answer = match fs::read(rt, command.answer) {
+        Ok(answer) => answer,
+        Err(error) => {
+            let path = command.answer;
+            eprintln!(rt; "validate: cannot read the answer {path}: {error}")?;
+            return Ok(1);
+        }
+    };
+    let mut output = Vec::new(rt.alloc());
+    rt.reader().read_to_end(&mut output)?;
+    let judgement = judge(flags.as_bytes(), answer.as_slice(), output.as_slice());
+    tell(
+        rt,
+        &command,
+        judgement,
+        flags.as_bytes(),
+        answer.as_slice(),
+        output.as_slice(),
+    )?;
+    Ok(judgement.status())
+}
+
+/// Says why an output is not accepted, or why nothing could be judged.
+fn tell(
+    rt: &HostRuntime,
+    command: &Command<'_>,
+    judgement: Judgement,
+    flags: &[u8],
+    answer: &[u8],
+    output: &[u8],
+) -> io::Result<()> {
+    if let Some(text) = error_text(rt.alloc(), judgement)? {
+        return eprintln!(rt; "validate: {text}");
+    }
+    let (Judgement::Rejected, Ok(flags)) = (judgement, Flags::read(flags)) else {
+        return Ok(());
+    };
+    let text = reason(rt.alloc(), &flags, answer, output)?;
+    let folder = command.feedback;
+    let path = format!(in rt.alloc(); "{folder}/judgemessage.txt")?;
+    if let Err(error) = fs::write(rt, path.as_str(), text.as_slice()) {
+        eprintln!(rt; "validate: cannot write {path}: {error}")?;
+    }
+    Ok(())
+}
