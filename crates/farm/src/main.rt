@@ -1,11 +1,15 @@
 //! `farm`: the judging back end of a programming contest.
 #![tactic(auto)]
 
-use farm_cli::{Exit, farm_main};
+use farm_cli::{Command, Exit, farm_main, read_command};
 use farm_io::{ReadSource, WriteSink};
 use farm_tree::DiskTree;
+use std::env::{Env, FillError};
 use std::process::ExitCode;
 use std::{env, io};
+
+/// The program's own name, as the first word of its command line.
+const NAME: &str = "farm";
 
 const USAGE: &str = "usage: farm script [--config FILE] < LINES
 
@@ -37,37 +41,97 @@ Status: 0 done, 2 usage, 3 bad settings, 4 read fault, 5 write fault,
 ";
 
 fn main(rt: HostRuntime) -> ExitCode {
-    let exit = run(&rt);
-    if let Exit::Usage = exit {
-        let _ = rt.eprint(USAGE);
-    }
+    let exit = match read_words(&rt) {
+        Ok(words) => run(&rt, words.as_slice()),
+        Err(fault) => unread_words(&rt, &fault),
+    };
     ExitCode::from(exit.status())
 }
 
-/// Runs the command of the program's words over the files, standard input and output.
-fn run(rt: &HostRuntime) -> Exit {
-    let alloc = rt.alloc();
-    let mut words = Vec::new(alloc);
-    let args = match env::args(rt) {
-        Ok(args) => args,
-        Err(fault) => return unread_words(&fault),
-    };
-    for word in args {
-        if words.push(word).is_err() {
-            return Exit::Memory;
+/// The environment, in which the program has its own name: the one that it was started by is not looked at, and need
+/// not be text.
+#[derive(Clone, Copy)]
+struct OwnName<'a> {
+    rt: &'a HostRuntime,
+}
+
+impl Env for OwnName<'_> {
+    fn arg(&self, i: usize, buf: &mut [u8]) -> Result<usize, FillError> {
+        if i > 0 {
+            return self.rt.arg(i, buf);
         }
+        if buf.len() < NAME.len() {
+            return Err(FillError::TooLong);
+        }
+        buf[..NAME.len()].copy_from_slice(NAME.as_bytes());
+        Ok(NAME.len())
     }
+
+    fn var(&self, name: &str, buf: &mut [u8]) -> Result<usize, FillError> {
+        self.rt.var(name, buf)
+    }
+
+    fn var_at(&self, i: usize, buf: &mut [u8]) -> Result<usize, FillError> {
+        self.rt.var_at(i, buf)
+    }
+}
+
+/// The words of the command line. An error where no memory was left for them, or one is no UTF-8.
+fn read_words(rt: &HostRuntime) -> io::Result<Vec<String>> {
+    let words = env::args(&(OwnName { rt }, rt.alloc()))?;
+    Ok(words.collect::<Vec<String>>(rt.alloc())?)
+}
+
+/// Runs the command of the words over the files, standard input and output, and says how it ended where it is not
+/// done.
+fn run(rt: &HostRuntime, words: &[String]) -> Exit {
+    let alloc = rt.alloc();
     let mut input = ReadSource::new(rt.reader());
     let mut out = WriteSink::new(io::writer(rt));
     let mut tree = DiskTree::new(rt, alloc);
-    farm_main(alloc, words.as_slice(), &mut tree, &mut input, &mut out)
+    let exit = farm_main(alloc, words, &mut tree, &mut input, &mut out);
+    explain(rt, exit, words);
+    exit
+}
+
+/// Says on standard error why the command is not done, and what can be done about it.
+fn explain(rt: &HostRuntime, exit: Exit, words: &[String]) {
+    let file = match read_command(words) {
+        Some(Command::Script { config: Some(path) }) => path,
+        _ => "",
+    };
+    // Where standard error cannot be written, nobody can be told.
+    let _ = match exit {
+        Exit::Done => Ok(()),
+        Exit::Usage => rt.eprint(USAGE),
+        Exit::BadContest => eprintln!(rt;
+            "farm: {file} gives no settings, for the reason on standard output; no line was read"
+        ),
+        Exit::ReadFault => rt.eprintln(
+            "farm: standard input could not be read on; all complete lines before that were answered",
+        ),
+        Exit::WriteFault => rt.eprintln(
+            "farm: standard output could not be written (is the disk full, or its reader gone?); replies are missing",
+        ),
+        Exit::Memory => rt.eprintln(
+            "farm: out of memory; the replies on standard output end early. Run it again with more memory",
+        ),
+        Exit::TreeFault => eprintln!(rt;
+            "farm: {file} could not be read: check its name and permissions; no line was read"
+        ),
+        Exit::InputLimit => rt.eprintln(
+            "farm: standard input has more than 2^40 bytes, of which no more is read; all complete lines before that were answered",
+        ),
+    };
 }
 
 /// How the program ends where its words cannot be read: no memory was left for them, or one is no UTF-8.
-fn unread_words(fault: &io::Error) -> Exit {
-    if fault.kind() == io::ErrorKind::OutOfMemory {
+fn unread_words(rt: &HostRuntime, fault: &io::Error) -> Exit {
+    let exit = if fault.kind() == io::ErrorKind::OutOfMemory {
         Exit::Memory
     } else {
         Exit::Usage
-    }
+    };
+    explain(rt, exit, &[]);
+    exit
 }

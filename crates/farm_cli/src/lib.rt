@@ -13,5 +13,7 @@ mod tests;
 mod top;
 mod words;
 
+pub use command_line::read_command;
 pub use exit::Exit;
 pub use top::farm_main;
+pub use words::Command;
