@@ -37,7 +37,8 @@ def run(interpreter, image, stdin=b""):
     with open(os.path.join(OUT, "stdin"), "rb") as given, open(os.path.join(OUT, "stdout"), "wb") as out, \
             open(os.path.join(OUT, "stderr"), "wb") as err:
         status = subprocess.run([os.path.join(OUT, "peak"), os.path.join(OUT, "peak.txt"), interpreter,
-                                 os.path.join(OUT, image + ".rv32"), "20000000000", "65536", "16777216"],
+                                 "--instructions", "20000000000", "--pages", "65536", "--output", "16777216",
+                                 os.path.join(OUT, image + ".rv32")],
                                 stdin=given, stdout=out, stderr=err).returncode
     with open(os.path.join(OUT, "stderr")) as file:
         found = ENDING.search(file.read())

@@ -17,7 +17,8 @@ printf '\000\000\000\000' >"$out/zero.rv32"
 failed=0
 while read -r name instructions pages bytes; do
     for which in "$run" "$out/cached" "$out/threaded"; do
-        "$which" "$out/$name.rv32" "$instructions" "$pages" "$bytes" <"$out/source.txt" >"$out/wrote" 2>"$out/ending"
+        "$which" --instructions "$instructions" --pages "$pages" --output "$bytes" "$out/$name.rv32" \
+            <"$out/source.txt" >"$out/wrote" 2>"$out/ending"
         echo "$(sed 's/ load.*//' "$out/ending"), $(wc -c <"$out/wrote") bytes, sum $(cksum <"$out/wrote" | cut -d' ' -f1)"
     done | sort -u >"$out/answers"
     if [ "$(wc -l <"$out/answers")" = 1 ]; then result=same; else result=DIFFERENT failed=1; fi

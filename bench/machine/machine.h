@@ -165,15 +165,24 @@ static uint64_t now(void) {
 }
 
 int main(int argc, char **argv) {
-    FILE *file = argc > 1 ? fopen(argv[1], "rb") : NULL;
-    if (!file) { fprintf(stderr, "usage: %s IMAGE [INSTRUCTIONS PAGES OUTPUT]\n", argv[0]); return 1; }
+    struct machine machine = { .pc = 0x10000 }, *m = &machine;
+    m->limit = 10000000000u;
+    m->page_limit = 16384;
+    m->output_limit = 16777216;
+    for (int k = 1; k + 2 < argc; k += 2) {
+        uint64_t value = strtoull(argv[k + 1], NULL, 10);
+        if (strcmp(argv[k], "--instructions") == 0) m->limit = value;
+        if (strcmp(argv[k], "--pages") == 0) m->page_limit = (uint32_t)value;
+        if (strcmp(argv[k], "--output") == 0) m->output_limit = value;
+    }
+    FILE *file = argc > 1 ? fopen(argv[argc - 1], "rb") : NULL;
+    if (!file) {
+        fprintf(stderr, "usage: %s [--instructions N] [--pages N] [--output N] IMAGE\n", argv[0]);
+        return 1;
+    }
     size_t image_length, input_length;
     uint8_t *image = read_all(file, &image_length), *input = read_all(stdin, &input_length);
     uint64_t begin = now();
-    struct machine machine = { .pc = 0x10000 }, *m = &machine;
-    m->limit = argc > 2 ? strtoull(argv[2], NULL, 10) : 10000000000u;
-    m->page_limit = argc > 3 ? (uint32_t)strtoul(argv[3], NULL, 10) : 16384;
-    m->output_limit = argc > 4 ? strtoul(argv[4], NULL, 10) : 16777216;
     m->reg[2] = 0x7ffffff0;
     m->index = calloc(1 << 20, sizeof *m->index);
     m->input = input;

@@ -24,7 +24,7 @@ for name in sorting division bytes memory echo patching arithmetic walk calls; d
         esac
         status=0
         qemu-riscv32 "$out/$name.elf" <"$out/$input.txt" >"$out/want" || status=$?
-        "$run" "$out/$name.rv32" 20000000000 65536 16777216 <"$out/$input.txt" >"$out/got" 2>"$out/ending"
+        "$run" --instructions 20000000000 --pages 65536 "$out/$name.rv32" <"$out/$input.txt" >"$out/got" 2>"$out/ending"
         ending=$(tail -n 1 "$out/ending")
         result=same
         cmp -s "$out/want" "$out/got" || result=DIFFERENT

@@ -1,13 +1,19 @@
-//! Runs a raw RV32IM image on the metered machine: `rvrun IMAGE [INSTRUCTIONS PAGES OUTPUT]`.
+//! `rvrun [OPTIONS] IMAGE`: runs a raw RV32IM image on the metered machine, within limits.
 //!
-//! Standard input is the program's descriptor 0, and what the program writes goes to standard output. A line on
-//! standard error says how the run ended, its cost, its pages, and how long loading and running took, in nanoseconds.
+//! Standard input is the program's descriptor 0, and what the program writes to descriptor 1 goes to standard output. A
+//! line on standard error says how the run ended, its cost, its pages, and how long loading and running took, in
+//! nanoseconds.
 #![tactic(auto)]
 
+ghost use Rattle.std.specs.Prelude.{◌≡◌, true};
+ghost use Rattle.farm_kinds.specs.Limits.{is_raw_image};
+
+mod report;
 mod words;
 
+use crate::report::{Report, run_to_end};
 use crate::words::{Command, read_words};
-use farm_kinds::{NoMemory, raw_image};
+use farm_kinds::raw_image;
 use rv_machine::{Ending, Files, Machine, Trap};
 use std::alloc::{AllocError, Global};
 use std::io::{Read, Write};
@@ -15,61 +21,92 @@ use std::process::ExitCode;
 use std::time::Instant;
 use std::{env, fs, io};
 
-fn main(rt: HostRuntime) -> ExitCode {
-    let done = match env::args(&rt) {
-        Ok(args) => start(&rt, args),
-        Err(error) => Err(error),
-    };
-    ExitCode::from(u8::from(done.is_err()))
-}
+const USAGE: &str = "usage: rvrun [--instructions N] [--pages N] [--output N] IMAGE < INPUT
 
-fn start(rt: &HostRuntime, args: env::Args) -> io::Result<()> {
-    let words = args.collect::<Vec<String>>(rt.alloc())?;
-    match read_words(words.as_slice()) {
-        Some(command) => run(rt, command),
-        None => {
-            eprintln!(rt; "usage: rvrun IMAGE [INSTRUCTIONS PAGES OUTPUT]")?;
-            Err(io::Error::from(io::ErrorKind::InvalidInput))
+Runs a raw RV32IM image (32-bit words, at most 1,048,576 bytes) within limits of
+instructions (10,000,000,000), pages of 4,096 bytes (16,384) and bytes of output
+(16,777,216). Its output goes to standard output. A line on standard error says
+how the run ended:
+  ending WORD cost C pages P load NANOSECONDS run NANOSECONDS
+WORD: exit=CODE, time, memory, output, nomemory, or trap=illegal, jump,
+misaligned, break, call or range.
+
+Status: 0 the image was run, however it ended; 1 it could not be read or run, or
+its output not be written; 2 usage.
+";
+
+fn main(rt: HostRuntime) -> ExitCode {
+    match run(&rt) {
+        Ok(status) => ExitCode::from(status),
+        Err(error) => {
+            let _ = eprintln!(rt; "rvrun: {error}");
+            ExitCode::from(1)
         }
     }
 }
 
-fn run(rt: &HostRuntime, command: Command<'_>) -> io::Result<()> {
-    let image = fs::read(rt, command.image)?;
+/// Runs the image that the words name, and gives the status.
+fn run(rt: &HostRuntime) -> io::Result<u8> {
+    let words = env::args(rt)?.collect::<Vec<String>>(rt.alloc())?;
+    let Some(command) = read_words(words.as_slice()) else {
+        rt.eprint(USAGE)?;
+        return Ok(2);
+    };
+    let path = command.image;
+    let image = match fs::read(rt, path) {
+        Ok(image) => image,
+        Err(error) => {
+            eprintln!(rt; "rvrun: cannot read the image {path}: {error}")?;
+            return Ok(1);
+        }
+    };
+    if !raw_image(image.as_slice()) {
+        eprintln!(rt; "rvrun: {path} is no raw image, which has 1 to 262,144 words of 4 bytes")?;
+        return Ok(1);
+    }
+    run_image(rt, &command, image.as_slice())?;
+    Ok(0)
+}
+
+/// Runs an image, writes its output and says how it ended.
+fn run_image(rt: &HostRuntime, command: &Command<'_>, image: &[u8]) -> io::Result<()>
+    requires { is_raw_image image.now ≡ true }
+{
     let mut stdin = Vec::new(rt.alloc());
     rt.reader().read_to_end(&mut stdin)?;
-    if !raw_image(image.as_slice()) {
-        rt.eprintln("no raw image")?;
-        return Err(io::Error::from(io::ErrorKind::InvalidData));
-    }
     let files = Files {
         stdin: stdin.as_slice(),
         extra: None,
     };
     let start = Instant::now(rt)?;
-    let loaded = Machine::load(rt.alloc(), image.as_slice(), command.limits, files);
+    let loaded = Machine::load(rt.alloc(), image, command.limits, files);
     let load = start.elapsed(rt)?.as_nanos();
     let Ok(mut machine) = loaded else {
         return rt.eprintln("ending nomemory");
     };
     let start = Instant::now(rt)?;
-    let ended = machine.run();
+    let ended = run_to_end(&mut machine);
     let run = start.elapsed(rt)?.as_nanos();
     io::writer(rt).write_all(machine.output())?;
-    let word = word_of(rt.alloc(), ended)?;
-    let cost = machine.cost();
-    let pages = machine.pages();
+    let Ok(report) = ended else {
+        return rt.eprintln("ending nomemory");
+    };
+    let Report {
+        ending,
+        cost,
+        pages,
+    } = report;
+    let word = word_of(rt.alloc(), ending)?;
     eprintln!(rt; "ending {word} cost {cost} pages {pages} load {load} run {run}")
 }
 
-fn word_of(alloc: Global, ended: Result<Ending, NoMemory>) -> Result<String, AllocError> {
-    let word = match ended {
-        Ok(Ending::Exit(code)) => return format!(in alloc; "exit={code}"),
-        Ok(Ending::Trap(trap)) => trap_word(trap),
-        Ok(Ending::Time) => "time",
-        Ok(Ending::Memory) => "memory",
-        Ok(Ending::Output) => "output",
-        Err(NoMemory) => "nomemory",
+fn word_of(alloc: Global, ending: Ending) -> Result<String, AllocError> {
+    let word = match ending {
+        Ending::Exit(code) => return format!(in alloc; "exit={code}"),
+        Ending::Trap(trap) => trap_word(trap),
+        Ending::Time => "time",
+        Ending::Memory => "memory",
+        Ending::Output => "output",
     };
     String::from_str(alloc, word)
 }

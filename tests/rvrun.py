@@ -1,0 +1,115 @@
+#!/usr/bin/env python3
+"""Runs `rvrun` on images of a few words, and looks at its status and at what it says.
+
+    tests/rvrun.py
+
+One line is printed for each look, and the status is 1 where one shows something else than is wanted.
+"""
+
+import os
+import struct
+import subprocess
+import sys
+import tempfile
+
+sys.dont_write_bytecode = True
+
+from place import TOP  # noqa: E402
+
+PROGRAM = os.path.join(TOP, "crates", "rvrun", "out", "rvrun")
+
+# x17 = 93 (exit) or 64 (write); the stack pointer is x2. Each image is its words (RISC-V Unprivileged ISA, RV32I).
+EXIT_0 = [0x05D00893, 0x00000073]  # addi a7, x0, 93; ecall
+EXIT_7 = [0x00700513, *EXIT_0]  # addi a0, x0, 7
+LOOP = [0x0000006F]  # jal x0, 0
+BREAK = [0x00100073]  # ebreak
+ILLEGAL = [0]
+CALL = [0x00000073]  # ecall with x17 = 0
+JUMP = [0x00200067]  # jalr x0, 2(x0)
+MISALIGNED = [0x00102003]  # lw x0, 1(x0)
+STORE = [0x00012023, *EXIT_0]  # sw x0, 0(sp)
+# addi a0, x0, 1; addi a1, sp, 0; addi a2, x0, 3; addi a7, x0, 64; ecall
+WRITE_3 = [0x00100513, 0x00010593, 0x00300613, 0x04000893, 0x00000073]
+# addi a0, x0, 1; addi a1, x0, -1; addi a2, x0, 3; addi a7, x0, 64; ecall
+RANGE = [0x00100513, 0xFFF00593, 0x00300613, 0x04000893, 0x00000073]
+
+# The options, the words, and what stands between `ending` and the times. The costs are those of the instructions.
+CASES = [
+    ([], EXIT_0, "exit=0 cost 2 pages 1"),
+    ([], EXIT_7, "exit=7 cost 3 pages 1"),
+    (["--instructions", "2"], EXIT_0, "exit=0 cost 2 pages 1"),
+    (["--instructions", "1"], EXIT_0, "time cost 1 pages 1"),
+    (["--instructions", "1000"], LOOP, "time cost 1000 pages 1"),
+    ([], BREAK, "trap=break cost 0 pages 1"),
+    ([], ILLEGAL, "trap=illegal cost 0 pages 1"),
+    ([], CALL, "trap=call cost 0 pages 1"),
+    ([], JUMP, "trap=jump cost 0 pages 1"),
+    ([], MISALIGNED, "trap=misaligned cost 0 pages 1"),
+    ([], RANGE, "trap=range cost 4 pages 1"),
+    (["--pages", "2"], STORE, "exit=0 cost 3 pages 2"),
+    (["--pages", "1"], STORE, "memory cost 0 pages 1"),
+    (["--pages", "0"], EXIT_0, "memory cost 0 pages 0"),
+    (["--output", "2"], WRITE_3, "output cost 4 pages 1"),
+    (["--pages", "9", "--output", "3", "--instructions", "8"], WRITE_3, "time cost 8 pages 2"),
+]
+
+# Words that are no command line.
+USAGES = [
+    [],
+    ["--pages"],
+    ["--pages", "1"],
+    ["--page", "1", "image"],
+    ["--pages", "x", "image"],
+    ["--pages", "-1", "image"],
+    ["--pages", "+1", "image"],
+    ["--pages", "4294967296", "image"],
+    ["--instructions", "18446744073709551616", "image"],
+    ["image", "--pages", "1"],
+    ["image", "1", "1", "1"],
+]
+
+
+def run(words, folder):
+    return subprocess.run([PROGRAM, *words], input=b"", capture_output=True, check=False, cwd=folder)
+
+
+def write(folder, words, odd=b""):
+    with open(os.path.join(folder, "image"), "wb") as file:
+        file.write(struct.pack(f"<{len(words)}I", *words) + odd)
+
+
+def looks():
+    with tempfile.TemporaryDirectory() as folder:
+        for options, words, ending in CASES:
+            write(folder, words)
+            done = run([*options, "image"], folder)
+            said = done.stderr.decode()
+            sound = done.returncode == 0 and said.startswith(f"ending {ending} load ") and said.count("\n") == 1
+            yield f"0: {ending}", sound, done
+        write(folder, [0x00700513, *WRITE_3[:1], 0x00010593, 0x00300613, 0x04000893, 0x00000073, *EXIT_0])
+        done = run(["image"], folder)
+        yield "0: three zeros are written", done.returncode == 0 and done.stdout == bytes(3), done
+        for words in USAGES:
+            done = run(words, folder)
+            sound = done.returncode == 2 and done.stderr.startswith(b"usage: rvrun") and not done.stdout
+            yield f"2: {words}", sound, done
+        done = run(["none"], folder)
+        yield "1: no image", done.returncode == 1 and b"cannot read the image none" in done.stderr, done
+        for words, odd in [([], b""), ([], b"abc"), (EXIT_0, b"x"), ([0x13] * 262_145, b"")]:
+            write(folder, words, odd)
+            done = run(["image"], folder)
+            sound = done.returncode == 1 and b"image is no raw image" in done.stderr and not done.stdout
+            yield f"1: an image of {4 * len(words) + len(odd)} bytes", sound, done
+
+
+def main():
+    sound = True
+    for name, good, done in looks():
+        said = "" if good else f": status {done.returncode}, wrote {done.stdout[:80]!r}, said {done.stderr[:200]!r}"
+        print(f"{'ok  ' if good else 'NOT '} {name}{said}")
+        sound = sound and good
+    return 0 if sound else 1
+
+
+if __name__ == "__main__":
+    sys.exit(main())
