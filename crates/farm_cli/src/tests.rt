@@ -3,7 +3,7 @@ use crate::script_rows::{Row, SCRIPTS};
 use crate::{Exit, farm_main};
 use farm_io::{MemorySink, MemorySource, ReliableSink, ReliableSource};
 use farm_kinds::NoMemory;
-use farm_tree::{MemoryTree, ReliableTree};
+use farm_tree::{MemoryTree, ReliableTree, TreeFiles};
 use std::alloc::{AllocError, Global};
 use std::process::Abort;
 use std::test::Fail;
@@ -23,7 +23,7 @@ fn words(alloc: Global, given: &[&str]) -> Result<Vec<String>, AllocError> {
 
 /// A tree of this one file.
 fn tree_of(alloc: Global, path: &str, text: &[u8]) -> Result<ReliableTree, NoMemory> {
-    let mut tree = ReliableTree::new(alloc);
+    let mut tree = ReliableTree::new(alloc, TreeFiles::new(alloc));
     if path.len() <= 4096 {
         tree.add(path, text)?;
     }
@@ -490,7 +490,7 @@ fn faults(rt: HostRuntime) -> Result<(), Fail> {
     let alloc = rt.alloc();
     for row in FAULTS.as_slice() {
         let name = row.name;
-        let mut tree = MemoryTree::new(alloc, failing(alloc, row.tree)?);
+        let mut tree = MemoryTree::new(alloc, TreeFiles::new(alloc), failing(alloc, row.tree)?);
         tree.add("farm.json", b"{}")?;
         let text = b"problem A 2\nsub".to_vec(alloc)?;
         let mut source = MemorySource::new(text, failing(alloc, row.input)?);

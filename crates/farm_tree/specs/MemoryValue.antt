@@ -1,5 +1,5 @@
 -- What a tree in memory stands for, and what setting a file does.
-use Rattle.std.specs.Prelude.{◌≡◌, ℕ, ◌+◌, ◌-◌, ◌^◌, min, List, [], ◌∷◌, Some, false, if◌then◌else◌}
+use Rattle.std.specs.Prelude.{◌≡◌, ℕ, List, [], ◌∷◌, Some, false, if◌then◌else◌}
 use Rattle.std.specs.Str.{bytes_eq}
 use Rattle.farm_tree.specs.declared.reads.TreeFile.{TreeFile}
 use Rattle.farm_tree.specs.Reading.{file_at}
@@ -9,13 +9,9 @@ pub record MemoryValue : Type 0 where
   pub files : List TreeFile
   -- the numbers of the calls that fail
   pub failing : List ℕ
-  -- how often it was read, and how often it failed
+  -- how often it was called, and how often it failed
   pub calls : ℕ
   pub faults : ℕ
-
--- one more, as far as the type goes
-abbrev pub raised : ℕ → ℕ
-raised n = min (n + 1) (2 ^ 64 - 1)
 
 -- the files, where the one at the path holds the bytes; a new one stands last
 abbrev pub with_file : List ℕ → List ℕ → List TreeFile → List TreeFile

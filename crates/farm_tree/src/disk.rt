@@ -1,24 +1,29 @@
-ghost use Rattle.std.specs.Prelude.{◌≡◌, ◌≤◌, length, take, None, IfOk, IfSome};
+ghost use Rattle.std.specs.Prelude.{◌≡◌, ◌≢◌, ◌≤◌, ℕ, length, take, None, IfOk, IfSome, All};
+ghost use Rattle.std.specs.Str.{IsUtf8};
 ghost use Rattle.std.specs.IoError.{error_kind};
-ghost use Rattle.farm_tree.specs.Reading.{file_limit};
+ghost use Rattle.farm_tree.specs.declared.entries.Entry.{Entry};
+ghost use Rattle.farm_tree.specs.Reading.{HasCause, CountsFault, file_limit, path_limit};
 ghost use Rattle.farm_tree.specs.Disk.{meaning, IsRefusal};
 
-use crate::reads::{FILE_LIMIT, Tree, TreeErr};
+use crate::entries::{Entries, Entry};
+use crate::reads::{FILE_LIMIT, PATH_LIMIT, Tree, TreeErr};
 use farm_kinds::Text;
 use std::alloc::Global;
-use std::fs::{File, Files, Metadata, OpenFile};
-use std::io;
+use std::fs::{DirEntry, File, Files, Metadata, OpenFile};
 use std::io::{ErrorKind, Read};
+use std::{fs, io};
 
 /// The files of `std` as a tree. It tells nothing of what they hold.
 ///
-/// Each error of a read raises the count, which stands still at the end of its type. That no file is there,
-/// or a folder is, that a file is too large, and want of memory are no errors.
+/// Each error of a call raises the count, which stands still at the end of its type. A listing of a path of more
+/// than 4,096 bytes, or of a folder in which a name is no UTF-8, is an error. That no file is there, or a folder
+/// is, that a file is too large, and want of memory are no errors. Links are followed; one that leads nowhere is
+/// listed as a file, which is absent.
 #[derive(Drop)]
 pub struct DiskTree<R> {
     pub files: R,
     pub alloc: Global,
-    /// How often a read has failed.
+    /// How often a call has failed.
     pub faults: u64,
 }
 
@@ -36,18 +41,89 @@ impl<R> DiskTree<R> {
     }
 }
 
-impl<R: Files> Tree for DiskTree<R> {
+impl<R: Files + Alloc<A = Global> + Clone + Drop> Tree for DiskTree<R> {
     ghost files = { λ _. None };
 
     ghost faults = { λ t. t.faults };
 
-    fn read(&mut self, path: &str) -> Result<Text, TreeErr> {
+    fn read(&mut self, path: &str) -> Result<Text, TreeErr>
+        ensures cause { HasCause self.old.faults self.new.faults result }
+        ensures counts { CountsFault self.old.faults self.new.faults result }
+        ensures short { IfOk result (λ bytes. length bytes ≤ file_limit) }
+        ensures kept { (self.new.files ≡ self.old.files) × (self.new.alloc ≡ self.old.alloc) }
+    {
         let answer = read_file(&self.files, self.alloc, path);
-        if let Err(TreeErr::Failed) = answer {
-            self.faults = self.faults.saturating_add(1);
-        }
+        count_fault(&mut self.faults, &answer);
         answer
     }
+
+    fn list(&mut self, path: &str) -> Result<Entries, TreeErr>
+        ensures cause { HasCause self.old.faults self.new.faults result }
+        ensures counts { CountsFault self.old.faults self.new.faults result }
+        ensures not_large { (len : ℕ) → result ≢ Err (TreeErr.TooLarge len) }
+        ensures within { IfOk result (λ _. length path.now ≤ path_limit) }
+        ensures text { IfOk result (λ entries. All (λ (entry : Entry). IsUtf8 entry.name) entries) }
+        ensures kept { (self.new.files ≡ self.old.files) × (self.new.alloc ≡ self.old.alloc) }
+    {
+        let answer = list_folder(&self.files, self.alloc, path);
+        count_fault(&mut self.faults, &answer);
+        answer
+    }
+}
+
+/// Raises the count where the call has failed.
+fn count_fault<A>(faults: &mut u64, answer: &Result<A, TreeErr>)
+    ensures counts { CountsFault faults.old faults.new answer.now }
+    ensures cause { HasCause faults.old faults.new answer.now }
+{
+    if let Err(TreeErr::Failed) = answer {
+        *faults = faults.saturating_add(1);
+    }
+}
+
+/// What the folder at the path holds.
+fn list_folder<R: Files + Alloc<A = Global> + Clone + Drop>(
+    files: &R,
+    alloc: Global,
+    path: &str,
+) -> Result<Entries, TreeErr>
+    ensures not_large { (len : ℕ) → result ≢ Err (TreeErr.TooLarge len) }
+    ensures within { IfOk result (λ _. length path.now ≤ path_limit) }
+    ensures text { IfOk result (λ entries. All (λ (entry : Entry). IsUtf8 entry.name) entries) }
+{
+    if path.len() > PATH_LIMIT {
+        return Err(TreeErr::Failed);
+    }
+    let mut entries = Entries::new(alloc);
+    for entry in fs::read_dir(files, path).map_err(meaning)? {
+        let entry = entry_of(files, alloc, &entry.map_err(meaning)?)?;
+        entries.push(entry).map_err(|_| TreeErr::NoMemory)?;
+    }
+    Ok(entries)
+}
+
+/// The entry of a folder: its name, and whether it is a folder.
+fn entry_of<R: Files>(
+    files: &R,
+    alloc: Global,
+    entry: &DirEntry<R, Global>,
+) -> Result<Entry, TreeErr>
+    ensures not_large { (len : ℕ) → result ≢ Err (TreeErr.TooLarge len) }
+    ensures text { IfOk result (λ found. IsUtf8 found.name) }
+{
+    let folder = match fs::metadata(files, entry.path()) {
+        Ok(about) => about.is_dir(),
+        Err(error) => match meaning(error) {
+            TreeErr::Absent => false,
+            failed => return Err(failed),
+        },
+    };
+    let name = entry.file_name().as_bytes();
+    let name = name.to_vec(alloc).map_err(|_| TreeErr::NoMemory)?;
+    Ok(Entry {
+        name: Text::from_vec(name),
+        folder,
+    })
 }
 
 /// The bytes of the file at the path.

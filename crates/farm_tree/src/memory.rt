@@ -1,9 +1,15 @@
-ghost use Rattle.std.specs.Prelude.{◌≡◌, ◌≢◌, ◌≤◌, ◌↔◌, [], length, Some, IfOk, OnOk, OnErr, Contains, option_map};
-ghost use Rattle.std.specs.Str.{bytes_eq};
+ghost use Rattle.std.specs.Prelude.{◌≡◌, ◌≢◌, ◌≤◌, ◌↔◌, ℕ, length, IsTrue, if◌then◌else◌, Some, IfOk, OnOk, OnErr, All, Contains, option_map};
+ghost use Rattle.std.specs.Str.{bytes_eq, IsUtf8};
 ghost use Rattle.std.specs.List.{position};
-ghost use Rattle.farm_tree.specs.Reading.{IsAnswer, HasCauseRead, file_at, file_limit};
-ghost use Rattle.farm_tree.specs.MemoryValue.{raised, with_file, SetsFile};
+ghost use Rattle.farm_io.specs.MemoryValue.{raised};
+ghost use Rattle.farm_tree.specs.declared.reads.TreeFile.{TreeFile};
+ghost use Rattle.farm_tree.specs.declared.entries.Entry.{Entry};
+ghost use Rattle.farm_tree.specs.Reading.{IsReadAnswer, HasCause, CountsFault, IsPath, file_at, file_limit, path_limit};
+ghost use Rattle.farm_tree.specs.Listing.{IsListAnswer};
+ghost use Rattle.farm_tree.specs.MemoryValue.{with_file, SetsFile};
 
+use crate::entries::{Entries, TreeFiles};
+use crate::listing::list_files;
 use crate::reads::{FILE_LIMIT, Tree, TreeErr, TreeFile};
 use farm_kinds::{NoMemory, Text};
 use std::alloc::{AllocError, Global};
@@ -17,22 +23,25 @@ pub struct ReliableTree {
 }
 
 impl Model for ReliableTree {
-    ghost use Rattle.std.specs.Prelude.{List};
+    ghost use Rattle.std.specs.Prelude.{List, All};
     ghost use Rattle.farm_tree.specs.declared.reads.TreeFile.{TreeFile};
+    ghost use Rattle.farm_tree.specs.Reading.{IsPath};
 
     ghost Value = { List TreeFile };
 
     ghost view = { λ t. t.files.items };
+
+    ghost invariant = { λ t. All (λ (file : TreeFile). IsPath file.path) t.files.items };
 }
 
 impl ReliableTree {
-    /// A tree of no files.
-    pub fn new(alloc: Global) -> ReliableTree
-        ensures { result ≡ [] }
+    /// A tree of these files. Where two have one path, the first counts.
+    pub fn new(alloc: Global, files: TreeFiles) -> ReliableTree
+        ensures { result ≡ files }
     {
         ReliableTree {
             alloc,
-            files: Vec::new(alloc),
+            files: files.into_vec(),
         }
     }
 
@@ -62,11 +71,18 @@ impl Tree for ReliableTree {
             None => Err(TreeErr::Absent),
         }
     }
+
+    fn list(&mut self, path: &str) -> Result<Entries, TreeErr> {
+        list_files(self.alloc, &self.files, path)
+    }
 }
 
 /// Puts the file, whose path is this one, in the place of the one at its path, or behind the others.
 fn set(files: &mut Vec<TreeFile>, path: &str, file: TreeFile) -> Result<(), NoMemory>
-    requires { file.path ≡ path.now }
+    requires path { file.path ≡ path.now }
+    requires fits { IsPath file.path }
+    requires paths { All (λ (file : TreeFile). IsPath file.path) files.old.items }
+    ensures paths { All (λ (file : TreeFile). IsPath file.path) files.new.items }
     ensures ok { OnOk result (files.new.items ≡ with_file path.now file.bytes files.old.items) }
     ensures err { OnErr result (files.new.items ≡ files.old.items) }
 {
@@ -96,7 +112,7 @@ fn place_of(files: &[TreeFile], path: &str) -> Option<usize>
 
 /// What a read of a file of these bytes gives.
 fn answer(alloc: Global, bytes: &[u8]) -> Result<Text, TreeErr>
-    ensures answer { IsAnswer (Some bytes.now) result }
+    ensures answer { IsReadAnswer (Some bytes.now) result }
     ensures not_failed { result ≢ Err TreeErr.Failed }
     ensures short { IfOk result (λ text. length text ≤ file_limit) }
 {
@@ -115,7 +131,8 @@ fn copy(alloc: Global, bytes: &[u8]) -> Result<Text, NoMemory>
     Ok(Text::from_vec(bytes.to_vec(alloc)?))
 }
 
-/// Files in memory, where the reads with the listed numbers fail. Reads are numbered from 0.
+/// Files in memory, where the calls with the listed numbers fail. Calls of `read` and of `list` are numbered
+/// together, from 0.
 #[derive(Drop)]
 pub struct MemoryTree {
     tree: ReliableTree,
@@ -133,12 +150,13 @@ impl Model for MemoryTree {
 }
 
 impl MemoryTree {
-    /// A tree of no files, of which the reads with the numbers in `failing` fail.
-    pub fn new(alloc: Global, failing: Vec<u64>) -> MemoryTree
-        ensures { result ≡ record { files = []; failing = failing.items; calls = 0; faults = 0 } }
+    /// A tree of these files, of which the calls with the numbers in `failing` fail. Where two files have one
+    /// path, the first counts.
+    pub fn new(alloc: Global, files: TreeFiles, failing: Vec<u64>) -> MemoryTree
+        ensures { result ≡ record { files = files; failing = failing.items; calls = 0; faults = 0 } }
     {
         MemoryTree {
-            tree: ReliableTree::new(alloc),
+            tree: ReliableTree::new(alloc, files),
             failing,
             calls: 0,
             faults: 0,
@@ -157,6 +175,24 @@ impl MemoryTree {
     {
         self.tree.add(path, bytes)
     }
+
+    /// Counts a call, and says whether it fails.
+    fn fails_now(&mut self) -> bool
+        ensures listed { IsTrue result ↔ Contains self.old.failing self.old.calls }
+        ensures calls { self.new.calls ≡ raised self.old.calls }
+        ensures later { self.old.faults ≤ self.new.faults }
+        ensures faults { self.new.faults ≡ (if result then raised self.old.faults else self.old.faults) }
+        ensures files { self.new.files ≡ self.old.files }
+        ensures failing { self.new.failing ≡ self.old.failing }
+    {
+        let call = self.calls;
+        self.calls = call.saturating_add(1);
+        if !self.failing.contains(&call) {
+            return false;
+        }
+        self.faults = self.faults.saturating_add(1);
+        true
+    }
 }
 
 impl Tree for MemoryTree {
@@ -165,20 +201,36 @@ impl Tree for MemoryTree {
     ghost faults = { λ t. t.faults };
 
     fn read(&mut self, path: &str) -> Result<Text, TreeErr>
-        ensures answer { IsAnswer (file_at self.old.files path.now) result }
+        ensures answer { IsReadAnswer (file_at self.old.files path.now) result }
         ensures same { self.new.files ≡ self.old.files }
-        ensures cause { HasCauseRead self.old.faults self.new.faults result }
+        ensures cause { HasCause self.old.faults self.new.faults result }
         ensures short { IfOk result (λ bytes. length bytes ≤ file_limit) }
         ensures listed { (result ≡ Err TreeErr.Failed) ↔ Contains self.old.failing self.old.calls }
         ensures calls { self.new.calls ≡ raised self.old.calls }
+        ensures counts { CountsFault self.old.faults self.new.faults result }
         ensures failing { self.new.failing ≡ self.old.failing }
     {
-        let call = self.calls;
-        self.calls = call.saturating_add(1);
-        if self.failing.contains(&call) {
-            self.faults = self.faults.saturating_add(1);
+        if self.fails_now() {
             return Err(TreeErr::Failed);
         }
         self.tree.read(path)
+    }
+
+    fn list(&mut self, path: &str) -> Result<Entries, TreeErr>
+        ensures answer { IsListAnswer path.now self.old.files result }
+        ensures same { self.new.files ≡ self.old.files }
+        ensures cause { HasCause self.old.faults self.new.faults result }
+        ensures not_large { (len : ℕ) → result ≢ Err (TreeErr.TooLarge len) }
+        ensures within { IfOk result (λ _. length path.now ≤ path_limit) }
+        ensures text { IfOk result (λ entries. All (λ (entry : Entry). IsUtf8 entry.name) entries) }
+        ensures listed { (result ≡ Err TreeErr.Failed) ↔ Contains self.old.failing self.old.calls }
+        ensures calls { self.new.calls ≡ raised self.old.calls }
+        ensures counts { CountsFault self.old.faults self.new.faults result }
+        ensures failing { self.new.failing ≡ self.old.failing }
+    {
+        if self.fails_now() {
+            return Err(TreeErr::Failed);
+        }
+        self.tree.list(path)
     }
 }
