@@ -1,0 +1,6 @@
+pub mod Members
+pub mod Ordered
+pub mod Strings
+pub mod Walks
+pub mod Answering
+pub mod Validators

@@ -1,0 +1,6 @@
+-- The bytes of texts.
+use Rattle.std.specs.Prelude.{ℕ, List, map, String, string_bytes}
+use Rattle.std.specs.Global.{Global}
+
+abbrev pub texts : List (String Global) → List (List ℕ)
+texts strings = map string_bytes strings
