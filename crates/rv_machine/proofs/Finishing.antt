@@ -1,16 +1,19 @@
-use Rattle.std.proofs.Common.{◌≡◌, ℕ, zero, suc, ◌+◌, ◌-◌, ◌%◌, ◌^◌, ◌<◌, ◌≤◌, Bool, true, false, not, nat_eq, nat_lt, min, List, length, Option, Some, None, Err, refl, sym, ap, ◌∙◌, arith, if◌then◌else◌}
+use Rattle.std.proofs.Common.{◌≡◌, ℕ, zero, suc, ◌+◌, ◌-◌, ◌%◌, ◌^◌, ◌<◌, ◌≤◌, Bool, true, false, not, nat_eq, nat_lt, min, List, length, Option, Some, None, Err, refl, sym, ap, ◌∙◌, arith, if◌then◌else◌, inl, inr, ◌/◌}
 use Rattle.rv_memory.specs.Paged as memory
 use Rattle.rv_machine.specs.declared.ending.Ending.{Ending}
-use Rattle.rv_machine.specs.declared.ending.Ending.TheVariants.{Time}
+use Rattle.rv_machine.specs.declared.ending.Ending.TheVariants.{Time, Memory}
 use Rattle.rv_machine.specs.declared.processor.Flow.TheVariants as flow
 use Rattle.rv_machine.specs.declared.processor.Stop.{Stop}
 use Rattle.rv_machine.specs.declared.processor.Stop.TheVariants as stop
-use Rattle.rv_machine.specs.Hart.{Effect, Moves, Ends, Calls, reg}
-use Rattle.rv_machine.specs.Operations.{instruction}
+use Rattle.rv_machine.specs.Hart.{Hart, Effect, Moves, Ends, Calls, reg, next_pc}
+use Rattle.rv_machine.specs.Operations.{instruction, fetched}
 use Rattle.rv_machine.specs.Inputs.{left_at}
 use Rattle.rv_machine.specs.Storage.{Storage, hart_of}
-use Rattle.rv_machine.specs.Executing.{Does}
+use Rattle.rv_machine.specs.Executing.{Does, Enters}
+use Rattle.rv_machine.specs.Decoded.{Keeps, IsWritten}
+use Rattle.rv_machine.specs.declared.processor.Stored.{Stored}
 use Rattle.rv_machine.specs.Running.{Stops, Gives}
+use Rattle.rv_machine.proofs.Doing.{instruction_fetched}
 use Rattle.rv_machine.specs.Stepping.{State, Outcome, Next, End, Finish, transfers, reads, writes, system_call, applied, machine_step, onward, finish_within, finish}
 
 -- ---- a step that goes on costs at least 1 and keeps the limits
@@ -97,50 +100,113 @@ finish_step s = finish_step-within (left s) s refl
 step_does : (s : State) → s.cost < s.limits.instructions → machine_step s ≡ applied s (instruction s.hart)
 step_does s h = grind arith
 
-next_applied : (s : State) (to : ℕ) (new : Storage) (e : Effect) → Does s.hart.pc (flow.Next to) e new → applied s e ≡ Next (record s { hart = hart_of new to; cost = s.cost + 1 })
-next_applied s to new (Moves h) d = ap (λ x. Next (record s { hart = x; cost = s.cost + 1 })) (sym d.0)
-next_applied s to new (Ends f h) d = absurd d
-next_applied s to new (Calls h) d = absurd d
+next_applied : (s : State) (new : Storage) (e : Effect) → Does s.hart flow.Next e new → applied s e ≡ Next (record s { hart = hart_of new (next_pc s.hart); cost = s.cost + 1 })
+next_applied s new (Moves h) d = ap (λ x. Next (record s { hart = x; cost = s.cost + 1 })) (sym d.0)
+next_applied s new (Ends f h) d = absurd d
+next_applied s new (Calls h) d = absurd d
 
-pub next_finish : (s : State) (to : ℕ) (new : Storage) → s.cost < s.limits.instructions → Does s.hart.pc (flow.Next to) (instruction s.hart) new → finish s ≡ finish (record s { hart = hart_of new to; cost = s.cost + 1 })
-next_finish s to new h d = finish_step s ∙ ap (onward finish) (step_does s h ∙ next_applied s to new (instruction s.hart) d)
+pub next_finish : (s : State) (new : Storage) → s.cost < s.limits.instructions → Does s.hart flow.Next (instruction s.hart) new → finish s ≡ finish (record s { hart = hart_of new (next_pc s.hart); cost = s.cost + 1 })
+next_finish s new h d = finish_step s ∙ ap (onward finish) (step_does s h ∙ next_applied s new (instruction s.hart) d)
 
-ended_applied : (s : State) (e : Ending) (new : Storage) (f : Effect) → Does s.hart.pc (flow.Stopped (stop.Ended e)) f new → applied s f ≡ End e (record s { hart = hart_of new s.hart.pc })
+pub next_keeps : (h : Hart) (new : Storage) (e : Effect) → Does h flow.Next e new → Keeps h.memory new.memory
+next_keeps h new (Moves g) d = d.1
+next_keeps h new (Ends f g) d = absurd d
+next_keeps h new (Calls g) d = absurd d
+
+stored_applied : (s : State) (w : Stored) (new : Storage) (e : Effect) → Does s.hart (flow.Stored w) e new → applied s e ≡ Next (record s { hart = hart_of new (next_pc s.hart); cost = s.cost + 1 })
+stored_applied s w new (Moves h) d = ap (λ x. Next (record s { hart = x; cost = s.cost + 1 })) (sym d.0)
+stored_applied s w new (Ends f h) d = absurd d
+stored_applied s w new (Calls h) d = absurd d
+
+pub stored_finish : (s : State) (w : Stored) (new : Storage) → s.cost < s.limits.instructions → Does s.hart (flow.Stored w) (instruction s.hart) new → finish s ≡ finish (record s { hart = hart_of new (next_pc s.hart); cost = s.cost + 1 })
+stored_finish s w new h d = finish_step s ∙ ap (onward finish) (step_does s h ∙ stored_applied s w new (instruction s.hart) d)
+
+pub stored_writes : (h : Hart) (w : Stored) (new : Storage) (e : Effect) → Does h (flow.Stored w) e new → IsWritten h.memory new.memory w
+stored_writes h w new (Moves g) d = d.1
+stored_writes h w new (Ends f g) d = absurd d
+stored_writes h w new (Calls g) d = absurd d
+
+jump_applied : (s : State) (to : ℕ) (new : Storage) (e : Effect) → Does s.hart (flow.Jump to) e new → applied s e ≡ Next (record s { hart = hart_of new to; cost = s.cost + 1 })
+jump_applied s to new (Moves h) d = ap (λ x. Next (record s { hart = x; cost = s.cost + 1 })) (sym d.0)
+jump_applied s to new (Ends f h) d = absurd d
+jump_applied s to new (Calls h) d = absurd d
+
+pub jump_finish : (s : State) (to : ℕ) (new : Storage) → s.cost < s.limits.instructions → Does s.hart (flow.Jump to) (instruction s.hart) new → finish s ≡ finish (record s { hart = hart_of new to; cost = s.cost + 1 })
+jump_finish s to new h d = finish_step s ∙ ap (onward finish) (step_does s h ∙ jump_applied s to new (instruction s.hart) d)
+
+pub jump_goes : (h : Hart) (to : ℕ) (new : Storage) (e : Effect) → Does h (flow.Jump to) e new → (to % 4 ≡ 0) × Keeps h.memory new.memory
+jump_goes h to new (Moves g) d = (d.1, d.2)
+jump_goes h to new (Ends f g) d = absurd d
+jump_goes h to new (Calls g) d = absurd d
+
+-- where an instruction does not go on it changes nothing
+pub stopped_keeps : (h : Hart) (new : Storage) (x : Stop) (e : Effect) → Does h (flow.Stopped x) e new → hart_of new h.pc ≡ h
+stopped_keeps h new (stop.Ended e) (Moves g) d = absurd d
+stopped_keeps h new (stop.Ended e) (Ends f g) d = d.2
+stopped_keeps h new (stop.Ended e) (Calls g) d = absurd d
+stopped_keeps h new stop.Call (Moves g) d = absurd d
+stopped_keeps h new stop.Call (Ends f g) d = absurd d
+stopped_keeps h new stop.Call (Calls g) d = d.1
+stopped_keeps h new stop.NoMemory e d = d
+
+ended_applied : (s : State) (e : Ending) (new : Storage) (f : Effect) → Does s.hart (flow.Stopped (stop.Ended e)) f new → applied s f ≡ End e (record s { hart = hart_of new s.hart.pc })
 ended_applied s e new (Moves h) d = absurd d
 ended_applied s e new (Ends f h) d = ap (λ x. End x (record s { hart = h })) (sym d.0) ∙ ap (λ x. End e (record s { hart = x })) (sym d.1)
 ended_applied s e new (Calls h) d = absurd d
 
-pub ended_finish : (s : State) (e : Ending) (new : Storage) → s.cost < s.limits.instructions → Does s.hart.pc (flow.Stopped (stop.Ended e)) (instruction s.hart) new → finish s ≡ record { ending = e; state = record s { hart = hart_of new s.hart.pc } }
+ended_finish : (s : State) (e : Ending) (new : Storage) → s.cost < s.limits.instructions → Does s.hart (flow.Stopped (stop.Ended e)) (instruction s.hart) new → finish s ≡ record { ending = e; state = record s { hart = hart_of new s.hart.pc } }
 ended_finish s e new h d = finish_step s ∙ ap (onward finish) (step_does s h ∙ ended_applied s e new (instruction s.hart) d)
 
-call_applied : (s : State) (new : Storage) (f : Effect) → Does s.hart.pc (flow.Stopped stop.Call) f new → applied s f ≡ system_call (record s { hart = hart_of new s.hart.pc })
+call_applied : (s : State) (new : Storage) (f : Effect) → Does s.hart (flow.Stopped stop.Call) f new → applied s f ≡ system_call (record s { hart = hart_of new s.hart.pc })
 call_applied s new (Moves h) d = absurd d
 call_applied s new (Ends f h) d = absurd d
-call_applied s new (Calls h) d = ap (λ x. system_call (record s { hart = x })) (sym d)
+call_applied s new (Calls h) d = ap (λ x. system_call (record s { hart = x })) (sym d.0)
 
-pub call_finish : (s : State) (new : Storage) → s.cost < s.limits.instructions → Does s.hart.pc (flow.Stopped stop.Call) (instruction s.hart) new → finish s ≡ onward finish (system_call (record s { hart = hart_of new s.hart.pc }))
+call_finish : (s : State) (new : Storage) → s.cost < s.limits.instructions → Does s.hart (flow.Stopped stop.Call) (instruction s.hart) new → finish s ≡ onward finish (system_call (record s { hart = hart_of new s.hart.pc }))
 call_finish s new h d = finish_step s ∙ ap (onward finish) (step_does s h ∙ call_applied s new (instruction s.hart) d)
 
 pub time_finish : (s : State) → s.limits.instructions ≤ s.cost → finish s ≡ time_out s
 time_finish s h = finish_step s ∙ ap (onward finish) (no_time s h)
 
+-- ---- the page of an instruction
+
+applied_hart : (s : State) (g : Hart) (e : Effect) → applied (record s { hart = g }) e ≡ applied s e
+applied_hart s g (Moves h) = refl
+applied_hart s g (Ends e h) = refl
+applied_hart s g (Calls h) = refl
+
+-- the run goes on from the touched page as it does from before
+pub fetched_finish : (s : State) → s.cost < s.limits.instructions → memory.is_over s.hart.memory (s.hart.pc / 4096) ≡ false → finish s ≡ finish (record s { hart = fetched s.hart })
+fetched_finish s h within =
+    let t : State = record s { hart = fetched s.hart } in
+    finish_step s
+    ∙ ap (onward finish) (step_does s h ∙ sym (step_does t h ∙ applied_hart s (fetched s.hart) (instruction (fetched s.hart)) ∙ ap (applied s) (instruction_fetched s.hart within)))
+    ∙ sym (finish_step t)
+
+over_instruction : (h : Hart) → memory.is_over h.memory (h.pc / 4096) ≡ true → instruction h ≡ Ends Memory h
+over_instruction h over = rw over refl
+
+pub over_finish : (s : State) → s.cost < s.limits.instructions → memory.is_over s.hart.memory (s.hart.pc / 4096) ≡ true → finish s ≡ record { ending = Memory; state = s }
+over_finish s h over = finish_step s ∙ ap (onward finish) (step_does s h ∙ ap (applied s) (over_instruction s.hart over))
+
 -- ---- on the way
 
--- the run from s comes through t
-pub record IsOnWay (s t : State) : Type 0 where
-  pub same : finish s ≡ finish t
-  pub cost : s.cost ≤ t.cost
-  pub limits : t.limits ≡ s.limits
-
-pub next_aligned : (pc to : ℕ) (new : Storage) (e : Effect) → Does pc (flow.Next to) e new → to % 4 ≡ 0
-next_aligned pc to new (Moves h) d = d.1
-next_aligned pc to new (Ends f h) d = absurd d
-next_aligned pc to new (Calls h) d = absurd d
-
-pub stopped_finish : (s t : State) (new : Storage) (x : Stop) → finish s ≡ finish t → t.cost < t.limits.instructions → Does t.hart.pc (flow.Stopped x) (instruction t.hart) new → Stops x s (record t { hart = hart_of new t.hart.pc })
+pub stopped_finish : (s t : State) (new : Storage) (x : Stop) → finish s ≡ finish t → t.cost < t.limits.instructions → Does t.hart (flow.Stopped x) (instruction t.hart) new → Stops x s (record t { hart = hart_of new t.hart.pc })
 stopped_finish s t new (stop.Ended e) same h d = same ∙ ended_finish t e new h d
-stopped_finish s t new stop.Call same h d = same ∙ call_finish t new h d
-stopped_finish s t new stop.NoMemory same h d = tt
+stopped_finish s t new stop.Call same h d = (same ∙ call_finish t new h d, same ∙ ap (λ g. finish (record t { hart = g })) (sym (stopped_keeps t.hart new stop.Call (instruction t.hart) d)))
+stopped_finish s t new stop.NoMemory same h d = same ∙ ap (λ g. finish (record t { hart = g })) (sym d)
+
+-- what comes of a page that is not entered
+pub entered_finish : (s t : State) (new : Storage) (x : Stop) → finish s ≡ finish t → t.cost < t.limits.instructions → Enters (Err x) t.hart new → Stops x s (record t { hart = hart_of new t.hart.pc })
+entered_finish s t new (stop.Ended e) same h d = elim d [
+  | inl over ↦ same ∙ over_finish t h over.1 ∙ ap (λ f. record { ending = f; state = t }) (sym over.0) ∙ ap (λ k. record { ending = e; state = record t { hart = k } }) (sym over.2)
+  | inr enters ↦ same ∙ fetched_finish t h enters.0 ∙ ended_finish (record t { hart = fetched t.hart }) e new h enters.2
+]
+entered_finish s t new stop.Call same h d = absurd d
+entered_finish s t new stop.NoMemory same h d = elim d [
+  | inl stays ↦ same ∙ ap (λ k. finish (record t { hart = k })) (sym stays)
+  | inr enters ↦ same ∙ fetched_finish t h enters.0 ∙ ap (λ k. finish (record t { hart = k })) (sym enters.1)
+]
 
 end_given : (e : Ending) (o : Outcome) (t : State) → Gives (Err (stop.Ended e)) o t → onward finish o ≡ record { ending = e; state = t }
 end_given e (Next u) t g = absurd g

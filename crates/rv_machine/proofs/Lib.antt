@@ -1,7 +1,9 @@
 pub mod Kept
+pub mod Breaking
 pub mod Registers
 pub mod Doing
 pub mod Small
 pub mod Finishing
+pub mod Pausing
 pub mod Outputs
 pub mod Repeating

@@ -1,9 +1,14 @@
-use Rattle.std.proofs.Common.{◌≡◌, ℕ, Bool, true, false, List, [], ◌∷◌, Option, Some, if◌then◌else◌, arith, subst}
+use Rattle.std.proofs.Common.{◌≡◌, ◌<◌, ℕ, Bool, true, false, List, [], ◌∷◌, Option, Some, if◌then◌else◌, arith, subst}
 use Rattle.rv_word.specs.declared.instr.Op.{Op}
 use Rattle.rv_word.specs.declared.instr.Op.TheVariants.{Lui, Auipc, Jal, Jalr, Beq, Bne, Blt, Bge, Bltu, Bgeu, Lb, Lh, Lw, Lbu, Lhu, Sb, Sh, Sw, Addi, Slti, Sltiu, Xori, Ori, Andi, Slli, Srli, Srai, Add, Sub, Sll, Slt, Sltu, Xor, Srl, Sra, Or, And, Mul, Mulh, Mulhsu, Mulhu, Div, Divu, Rem, Remu, Fence, Ecall, Ebreak}
 use Rattle.rv_word.specs.declared.instr.Instr.{Instr}
 use Rattle.rv_word.specs.Table.{Row, table, read, instruction_of, form_r, form_i, form_h, form_s, form_b, form_u, form_j, bare}
-use Rattle.rv_machine.specs.Caching.{IsSmall}
+
+-- the registers of an instruction are among the 32
+pub record IsSmall (i : Instr) : Type 0 where
+  pub rd : i.rd < 32
+  pub rs1 : i.rs1 < 32
+  pub rs2 : i.rs2 < 32
 
 small_r : (o : Op) (w : ℕ) → IsSmall (form_r o w)
 small_r o w = record { rd = omega arith; rs1 = omega arith; rs2 = omega arith }

@@ -1,34 +1,42 @@
-use Rattle.std.specs.Prelude.{◌≡◌, ℕ, ◌%◌, List}
+use Rattle.std.specs.Prelude.{◌≡◌, ℕ, ◌/◌, ◌%◌, ◌⊎◌, true, false, Option, Some, None, Result, Ok, Err}
+use Rattle.rv_word.specs.Table.{instruction_of}
 use Rattle.rv_memory.specs.Paged as memory
 use Rattle.rv_memory.specs.declared.memory.MemFault.{MemFault}
 use Rattle.rv_memory.specs.declared.memory.MemFault.TheVariants as faults
 use Rattle.rv_machine.specs.declared.ending.Ending.TheVariants.{Trap, Memory}
 use Rattle.rv_machine.specs.declared.ending.Trap.TheVariants.{Misaligned}
-use Rattle.rv_machine.specs.declared.ending.Trap.TheVariants as trap
 use Rattle.rv_machine.specs.declared.processor.Flow.{Flow}
-use Rattle.rv_machine.specs.declared.processor.Flow.TheVariants.{Next, Stopped}
+use Rattle.rv_machine.specs.declared.processor.Flow.TheVariants.{Next, Stored, Jump, Stopped}
 use Rattle.rv_machine.specs.declared.processor.Stop.{Stop}
 use Rattle.rv_machine.specs.declared.processor.Stop.TheVariants.{Ended, Call, NoMemory}
-use Rattle.rv_machine.specs.Hart.{Effect, Moves, Ends, Calls}
-use Rattle.rv_machine.specs.Operations.{instruction}
+use Rattle.rv_word.specs.declared.instr.Instr.{Instr}
+use Rattle.rv_word.specs.declared.instr.Op.TheVariants.{Ebreak}
+use Rattle.rv_machine.specs.declared.running.Fetch.{Fetch}
+use Rattle.rv_machine.specs.declared.running.Fetch.TheVariants.{Ready, Break, Illegal, OutOfMemory}
+use Rattle.rv_machine.specs.Decoded.{IsStep, Keeps, IsWritten, instr_of, is_decoded}
+use Rattle.rv_machine.specs.Hart.{Hart, Effect, Moves, Ends, Calls, next_pc}
+use Rattle.rv_machine.specs.Operations.{fetched, instruction}
 use Rattle.rv_machine.specs.Storage.{Storage, hart_of}
-use Rattle.rv_machine.specs.Caching.{IsReady}
-use Rattle.rv_machine.specs.declared.cache.Entry.{Entry}
-use Rattle.rv_machine.specs.declared.processor.Fetch.{Fetch}
-use Rattle.rv_machine.specs.declared.processor.Fetch.TheVariants.{Ready, Illegal, OverLimit, OutOfMemory}
 
--- an instruction at pc has the effect; there may also be no memory for it
-abbrev pub Does : ℕ → Flow → Effect → Storage → Type 0
-Does pc (Next to) (Moves h) new = (hart_of new to ≡ h) × (to % 4 ≡ 0)
-Does pc (Next to) (Ends e h) new = ⊥
-Does pc (Next to) (Calls h) new = ⊥
-Does pc (Stopped (Ended e)) (Moves h) new = ⊥
-Does pc (Stopped (Ended e)) (Ends f h) new = (e ≡ f) × (hart_of new pc ≡ h)
-Does pc (Stopped (Ended e)) (Calls h) new = ⊥
-Does pc (Stopped Call) (Moves h) new = ⊥
-Does pc (Stopped Call) (Ends e h) new = ⊥
-Does pc (Stopped Call) (Calls h) new = hart_of new pc ≡ h
-Does pc (Stopped NoMemory) o new = Unit {0}
+-- an instruction of the hart, whose page is touched, has the effect; where it does not go on it changes nothing, and
+-- there may also be no memory for it
+abbrev pub Does : Hart → Flow → Effect → Storage → Type 0
+Does h Next (Moves g) new = (hart_of new (next_pc h) ≡ g) × Keeps h.memory new.memory
+Does h Next (Ends e g) new = ⊥
+Does h Next (Calls g) new = ⊥
+Does h (Stored w) (Moves g) new = (hart_of new (next_pc h) ≡ g) × IsWritten h.memory new.memory w
+Does h (Stored w) (Ends e g) new = ⊥
+Does h (Stored w) (Calls g) new = ⊥
+Does h (Jump to) (Moves g) new = (hart_of new to ≡ g) × (to % 4 ≡ 0) × Keeps h.memory new.memory
+Does h (Jump to) (Ends e g) new = ⊥
+Does h (Jump to) (Calls g) new = ⊥
+Does h (Stopped (Ended e)) (Moves g) new = ⊥
+Does h (Stopped (Ended e)) (Ends f g) new = (e ≡ f) × (hart_of new h.pc ≡ g) × (hart_of new h.pc ≡ h)
+Does h (Stopped (Ended e)) (Calls g) new = ⊥
+Does h (Stopped Call) (Moves g) new = ⊥
+Does h (Stopped Call) (Ends e g) new = ⊥
+Does h (Stopped Call) (Calls g) new = (hart_of new h.pc ≡ g) × (hart_of new h.pc ≡ h)
+Does h (Stopped NoMemory) o new = hart_of new h.pc ≡ h
 
 -- how a refused access stops the processor
 abbrev pub stop_of : MemFault → Stop
@@ -36,9 +44,23 @@ stop_of faults.Misaligned = Ended (Trap Misaligned)
 stop_of (faults.OverLimit n) = Ended Memory
 stop_of faults.NoMemory = NoMemory
 
--- the instruction at pc is ready in its entry, or the fetch stops the processor as the instruction says
-abbrev pub Readies : ℕ → Fetch → Storage → memory.State → List Entry → Type 0
-Readies pc Ready old new es = IsReady pc old.memory new es
-Readies pc Illegal old new es = Does pc (Stopped (Ended (Trap trap.Illegal))) (instruction (hart_of old pc)) (record old { memory = new })
-Readies pc OverLimit old new es = Does pc (Stopped (Ended Memory)) (instruction (hart_of old pc)) (record old { memory = new })
-Readies pc OutOfMemory old new es = Unit {0}
+-- the hart's page is touched as for a fetch, where the limit allows it, and the word there is an instruction that goes
+-- on; there may also be no memory
+abbrev pub Enters : Result ℕ Stop → Hart → Storage → Type 0
+Enters (Ok here) h new = (memory.is_over h.memory (h.pc / 4096) ≡ false) × (hart_of new h.pc ≡ fetched h)
+Enters (Err (Ended e)) h new =
+    ((e ≡ Memory) × (memory.is_over h.memory (h.pc / 4096) ≡ true) × (hart_of new h.pc ≡ h))
+    ⊎ ((memory.is_over h.memory (h.pc / 4096) ≡ false) × (hart_of new h.pc ≡ fetched h) × Does (fetched h) (Stopped (Ended e)) (instruction (fetched h)) new)
+Enters (Err Call) h new = ⊥
+Enters (Err NoMemory) h new = (hart_of new h.pc ≡ h) ⊎ ((memory.is_over h.memory (h.pc / 4096) ≡ false) × (hart_of new h.pc ≡ fetched h))
+
+abbrev pub IsBreak : Option Instr → Type 0
+IsBreak None = ⊥
+IsBreak (Some i) = i.op ≡ Ebreak
+
+-- the word at an address is fetched as a step, or is no instruction
+abbrev pub Fetches : Fetch → memory.State → ℕ → Instr → Type 0
+Fetches Ready m pc s = (instruction_of (memory.word_at m pc) ≡ Some (instr_of s)) × IsStep s × (is_decoded s.op ≡ true)
+Fetches Break m pc s = IsBreak (instruction_of (memory.word_at m pc))
+Fetches Illegal m pc s = instruction_of (memory.word_at m pc) ≡ None
+Fetches OutOfMemory m pc s = Unit {0}

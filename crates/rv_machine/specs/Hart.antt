@@ -6,6 +6,9 @@ use Rattle.rv_machine.specs.declared.ending.Ending.{Ending}
 use Rattle.rv_machine.specs.declared.ending.Ending.TheVariants.{Trap, Memory}
 use Rattle.rv_machine.specs.declared.ending.Trap.TheVariants.{Jump, Misaligned}
 
+-- ---- RISC-V Unprivileged ISA, "RV32I": "Programmers' Model", "Control Transfer Instructions" and "Load and Store
+-- Instructions"
+
 -- what instructions read and change: the 32 registers, the program counter, and the bytes with the set of touched pages
 pub record Hart : Type 0 where
   pub regs : List ℕ

@@ -5,5 +5,5 @@ pub mod Stepping
 pub mod Running
 pub mod Storage
 pub mod Executing
-pub mod Caching
+pub mod Decoded
 pub mod Laws

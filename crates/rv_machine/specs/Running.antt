@@ -1,4 +1,4 @@
-use Rattle.std.specs.Prelude.{◌≡◌, ℕ, ◌+◌, ◌^◌, ◌≤◌, true, List, Option, Some, None, Result, Ok, Err, if◌then◌else◌}
+use Rattle.std.specs.Prelude.{◌≡◌, ℕ, ◌+◌, ◌^◌, ◌<◌, ◌≤◌, true, List, Option, Some, None, Result, Ok, Err, if◌then◌else◌}
 use Rattle.farm_kinds.specs.declared.Limits.{Limits}
 use Rattle.farm_kinds.specs.declared.NoMemory.{NoMemory}
 use Rattle.rv_memory.specs.Paged as memory
@@ -7,6 +7,7 @@ use Rattle.rv_machine.specs.declared.ending.Ending.TheVariants.{Memory}
 use Rattle.rv_machine.specs.declared.processor.Stop.{Stop}
 use Rattle.rv_machine.specs.declared.processor.Stop.TheVariants as stop
 use Rattle.rv_machine.specs.Inputs.{Inputs}
+use Rattle.rv_machine.specs.Storage.{Storage, hart_of}
 use Rattle.rv_machine.specs.Stepping.{State, Outcome, Next, End, Finish, system_call, onward, finish, bare, opening, is_too_large}
 
 -- a machine: where it stands, and what it answered once it had run
@@ -31,16 +32,36 @@ finish_of r = finish_from r.answer r.state
 
 -- ---- parts of a run
 
--- the machine has come from s to t, where an instruction is a system call or does not go on
+-- the machine has come from s to t, where an instruction is a system call or does not go on; where there was no memory,
+-- the run would go on from t as it does from s
 abbrev pub Stops : Stop → State → State → Type 0
 Stops (stop.Ended e) s t = finish s ≡ record { ending = e; state = t }
-Stops stop.Call s t = finish s ≡ onward finish (system_call t)
-Stops stop.NoMemory s t = Unit {0}
+Stops stop.Call s t = (finish s ≡ onward finish (system_call t)) × (finish s ≡ finish t)
+Stops stop.NoMemory s t = finish s ≡ finish t
 
 -- the cost has not fallen, and the limits are the same
 pub record IsLater (s t : State) : Type 0 where
   pub cost : s.cost ≤ t.cost
   pub limits : t.limits ≡ s.limits
+
+-- the run from s comes through t
+pub record IsOnWay (s t : State) : Type 0 where
+  pub same : finish s ≡ finish t
+  pub later : IsLater s t
+
+-- the state has this hart, cost and limit
+pub record IsStateOf (s : State) (p : Storage) (pc cost limit : ℕ) : Type 0 where
+  pub has_hart : s.hart ≡ hart_of p pc
+  pub has_cost : s.cost ≡ cost
+  pub has_limit : s.limits.instructions ≡ limit
+
+abbrev pub moved : State → Storage → ℕ → ℕ → State
+moved s p pc cost = record s { hart = hart_of p pc; cost = cost }
+
+-- the machine has come from s to t, where it leaves a page, which took time, or stops
+abbrev pub Pauses : Option Stop → State → State → Type 0
+Pauses None s t = IsOnWay s t × (s.cost < t.cost)
+Pauses (Some x) s t = Stops x s t × IsLater s t × (x ≡ stop.Call → t.cost < t.limits.instructions)
 
 -- n bytes at an address may move
 pub record Admitted (s : State) (at n : ℕ) : Type 0 where

@@ -1,12 +1,13 @@
 //! A machine that runs RV32IM programs and counts their instructions, pages and bytes of output.
 #![tactic(auto)]
 
-mod cache;
+mod code;
 mod ending;
 mod files;
 mod laws;
 mod machine;
 mod processor;
+mod running;
 #[cfg(test)]
 mod tests;
 

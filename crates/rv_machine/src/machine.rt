@@ -4,9 +4,11 @@ ghost use Rattle.rv_memory.specs.Paged as memory;
 ghost use Rattle.rv_machine.specs.Running as running;
 ghost use Rattle.rv_machine.specs.Stepping as stepping;
 
+use crate::code::{Code, forget_stale};
 use crate::ending::{Ending, Trap};
 use crate::files::Files;
-use crate::processor::{Flow, Processor, Stop, next_pc};
+use crate::processor::{Processor, Stop, next_pc};
+use crate::running::{enter, run_in_page};
 use farm_kinds::{Limits, NoMemory};
 use rv_memory::Memory;
 use std::alloc::Global;
@@ -20,6 +22,7 @@ const BASE: u32 = 0x1_0000;
 pub struct Machine<'a> {
     limits: Limits,
     processor: Processor,
+    code: Code,
     pc: u32,
     cost: u64,
     files: Files<'a>,
@@ -32,12 +35,13 @@ impl<'a> Model for Machine<'a> {
     ghost use Rattle.rv_machine.specs.Storage.{hart_of};
     ghost use Rattle.rv_machine.specs.Inputs.{inputs_of};
     ghost use Rattle.rv_machine.specs.Running.{Run};
+    ghost use Rattle.rv_machine.specs.Decoded.{IsCode};
 
     ghost Value = { Run };
 
     ghost view = { λ m. record { state = record { limits = m.limits; hart = hart_of m.processor m.pc; inputs = inputs_of m.files; output = m.output.items; cost = m.cost }; answer = m.answer } };
 
-    ghost invariant = { λ m. (m.pc % 4 ≡ 0) × (length m.output.items ≤ m.limits.output) };
+    ghost invariant = { λ m. (m.pc % 4 ≡ 0) × (length m.output.items ≤ m.limits.output) × IsCode m.processor.memory m.code };
 }
 
 impl<'a> Machine<'a> {
@@ -64,10 +68,10 @@ impl<'a> Machine<'a> {
             }
             answer = None;
         }
-        let processor = Processor::new(alloc, memory, image.len() / 4)?;
         Ok(Machine {
             limits,
-            processor,
+            processor: Processor::new(memory),
+            code: Code::new(alloc),
             pc: BASE,
             cost: 0,
             files,
@@ -77,10 +81,12 @@ impl<'a> Machine<'a> {
     }
 
     /// Runs the program to its end. Called again, it gives the same answer and changes nothing: after `NoMemory` it is
-    /// `NoMemory` again, and the output, the cost and the pages are those of a run that was not finished.
+    /// `NoMemory` again, and the output, the cost and the pages are those of a run that was not finished: going on from
+    /// there would end as the whole run ends.
     pub fn run(&mut self) -> Result<Ending, NoMemory>
         ensures ok { IfOk result (λ e. running.finish_of self.old ≡ record { ending = e; state = self.new.state }) }
         ensures kept { self.new.answer ≡ Some result }
+        ensures onward { running.finish_of self.new ≡ running.finish_of self.old }
         ensures again { IfSome self.old.answer (λ answer. (result ≡ answer) × (self.new ≡ self.old)) }
     {
         if let Some(answer) = self.answer {
@@ -115,6 +121,7 @@ impl<'a> Machine<'a> {
 
     fn finish(&mut self) -> Result<Ending, NoMemory>
         ensures ok { IfOk result (λ e. stepping.finish self.old.state ≡ record { ending = e; state = self.new.state }) }
+        ensures unfinished { OnErr result (stepping.finish self.old.state ≡ stepping.finish self.new.state) }
     {
         loop {
             match self.run_to_stop() {
@@ -136,23 +143,30 @@ impl<'a> Machine<'a> {
         ensures time { result ≡ Stop.Call → self.new.state.cost < self.new.state.limits.instructions }
     {
         let limit = self.limits.instructions;
-        let mut pc = self.pc;
-        let mut cost = self.cost;
-        let stop = loop {
-            if cost >= limit {
-                break Stop::Ended(Ending::Time);
+        loop {
+            if self.cost >= limit {
+                return Stop::Ended(Ending::Time);
             }
-            match self.processor.step(pc) {
-                Flow::Next(to) => {
-                    pc = to;
-                    cost += 1;
-                }
-                Flow::Stopped(stop) => break stop,
+            let here = match enter(&mut self.processor, &mut self.code, self.pc) {
+                Ok(here) => here,
+                Err(stop) => return stop,
+            };
+            let pause = run_in_page(
+                &mut self.processor,
+                &self.code,
+                here,
+                self.pc,
+                self.cost,
+                limit,
+            );
+            self.pc = pause.pc;
+            self.cost = limit - pause.left;
+            forget_stale(&mut self.code, pause.stale);
+            match pause.stop {
+                Some(stop) => return stop,
+                None => {}
             }
-        };
-        self.pc = pc;
-        self.cost = cost;
-        stop
+        }
     }
 }
 
@@ -162,7 +176,8 @@ impl<'a> Machine<'a> {
     // Carries out the system call at pc, whose number is in x17.
     fn call(&mut self) -> Result<(), Stop>
         requires time { self.old.state.cost < self.old.state.limits.instructions }
-        ensures { running.Gives result (stepping.system_call self.old.state) self.new.state }
+        ensures gives { running.Gives result (stepping.system_call self.old.state) self.new.state }
+        ensures unchanged { result ≡ Err Stop.NoMemory → self.new.state ≡ self.old.state }
     {
         match self.processor.register(17) {
             93 => {
@@ -179,7 +194,8 @@ impl<'a> Machine<'a> {
     // Reads up to x12 bytes from the descriptor in x10 to x11.
     fn read(&mut self) -> Result<(), Stop>
         requires time { self.old.state.cost < self.old.state.limits.instructions }
-        ensures { running.Gives result (stepping.read_call self.old.state) self.new.state }
+        ensures gives { running.Gives result (stepping.read_call self.old.state) self.new.state }
+        ensures unchanged { result ≡ Err Stop.NoMemory → self.new.state ≡ self.old.state }
     {
         let descriptor = self.processor.register(10);
         match self.files.left(descriptor) {
@@ -198,12 +214,13 @@ impl<'a> Machine<'a> {
     // Reads what is left at a descriptor, as far as there is room for it.
     fn read_left(&mut self, descriptor: u32, at: u32, room: u32, left: &'a [u8]) -> Result<(), Stop>
         requires time { self.old.state.cost < self.old.state.limits.instructions }
-        ensures { running.Gives result (stepping.reads self.old.state descriptor at room (Some left.entry.now)) self.new.state }
+        ensures gives { running.Gives result (stepping.reads self.old.state descriptor at room (Some left.entry.now)) self.new.state }
+        ensures unchanged { result ≡ Err Stop.NoMemory → self.new.state ≡ self.old.state }
     {
         let n = at_most(room, left);
         self.admit(at, n)?;
         let (bytes, rest) = left.split_at(n as usize);
-        match self.processor.copy_in(at, bytes) {
+        match self.processor.copy_in(&mut self.code, at, bytes) {
             Ok(()) => {}
             Err(_) => return Err(Stop::NoMemory),
         }
@@ -215,7 +232,8 @@ impl<'a> Machine<'a> {
     // Writes the x12 bytes at x11 to the descriptor in x10.
     fn write(&mut self) -> Result<(), Stop>
         requires time { self.old.state.cost < self.old.state.limits.instructions }
-        ensures { running.Gives result (stepping.write_call self.old.state) self.new.state }
+        ensures gives { running.Gives result (stepping.write_call self.old.state) self.new.state }
+        ensures unchanged { result ≡ Err Stop.NoMemory → self.new.state ≡ self.old.state }
     {
         let at = self.processor.register(11);
         let n = self.processor.register(12);
@@ -232,19 +250,24 @@ impl<'a> Machine<'a> {
     // Appends n bytes of memory to the output.
     fn write_output(&mut self, at: u32, n: u32) -> Result<(), Stop>
         requires time { self.old.state.cost < self.old.state.limits.instructions }
-        ensures { running.Gives result (stepping.writes self.old.state 1 at n) self.new.state }
+        ensures gives { running.Gives result (stepping.writes self.old.state 1 at n) self.new.state }
+        ensures unchanged { result ≡ Err Stop.NoMemory → self.new.state ≡ self.old.state }
     {
         self.admit(at, n)?;
         if self.output.len() as u64 + n as u64 > self.limits.output as u64 {
             return Err(Stop::Ended(Ending::Output));
         }
-        match self.processor.touch(at, n) {
-            Ok(()) => {}
-            Err(_) => return Err(Stop::NoMemory),
-        }
+        let written = self.output.len();
         match self.processor.copy_out(at, n, &mut self.output) {
             Ok(()) => {}
             Err(_) => return Err(Stop::NoMemory),
+        }
+        match self.processor.touch(at, n) {
+            Ok(()) => {}
+            Err(_) => {
+                self.output.truncate(written);
+                return Err(Stop::NoMemory);
+            }
         }
         self.resume(n, n);
         Ok(())
@@ -253,7 +276,8 @@ impl<'a> Machine<'a> {
     // Lets n bytes of memory go.
     fn write_nothing(&mut self, at: u32, n: u32) -> Result<(), Stop>
         requires time { self.old.state.cost < self.old.state.limits.instructions }
-        ensures { running.Gives result (stepping.writes self.old.state 2 at n) self.new.state }
+        ensures gives { running.Gives result (stepping.writes self.old.state 2 at n) self.new.state }
+        ensures unchanged { result ≡ Err Stop.NoMemory → self.new.state ≡ self.old.state }
     {
         self.admit(at, n)?;
         match self.processor.touch(at, n) {

@@ -1,20 +1,19 @@
-ghost use Rattle.std.specs.Prelude.{ℕ, List, ◌≡◌, ◌≢◌, ◌+◌, ◌-◌, ◌*◌, ◌/◌, ◌%◌, ◌^◌, ◌<◌, ◌≤◌, ◌++◌, IfOk, IfErr, OnOk, OnErr, true, false, [], length, nat_eq, int_lt, slice_index, slice_set};
+ghost use Rattle.std.specs.Prelude.{ℕ, List, ◌≡◌, ◌≢◌, ◌+◌, ◌-◌, ◌*◌, ◌/◌, ◌%◌, ◌^◌, ◌<◌, ◌≤◌, ◌++◌, IfOk, IfErr, OnOk, OnErr, if◌then◌else◌, Some, true, false, [], length, get_or, nat_eq, int_lt, slice_index, slice_set};
 ghost use Rattle.std.specs.Int.{cast_signed, w8, w16};
 ghost use Rattle.rv_machine.specs.Hart as hart;
 ghost use Rattle.rv_machine.specs.Operations as operations;
 ghost use Rattle.rv_machine.specs.Storage.{hart_of};
-ghost use Rattle.rv_machine.specs.Executing.{Does, Readies, stop_of};
-ghost use Rattle.rv_machine.specs.Caching.{IsCached, IsSmall, DiffersAt};
+ghost use Rattle.rv_machine.specs.Executing.{Does, stop_of};
+ghost use Rattle.rv_machine.specs.Decoded.{IsCode, IsStep, instr_of};
+ghost use Rattle.rv_machine.specs.declared.code.Code.{Code};
 ghost use Rattle.rv_word.specs.Effect as effect;
-ghost use Rattle.rv_word.specs.Table.{instruction_of};
 ghost use Rattle.rv_memory.specs.Paged as memory;
 
-use crate::cache::{Entry, empty_entries, entry_at, forget, forget_all, is_kept, keep};
+use crate::code::{Code, SINK, forget_all};
 use crate::ending::{Ending, Trap};
 use farm_kinds::NoMemory;
 use rv_memory::{MemFault, Memory};
-use rv_word::{Instr, Op, alu, decode};
-use std::alloc::Global;
+use rv_word::{Instr, Op, alu};
 use std::marker::Model;
 
 /// Why the processor does not go on by itself.
@@ -25,58 +24,46 @@ pub enum Stop {
     NoMemory,
 }
 
-/// What comes after an instruction: the address of the next one, or a stop.
+/// What comes after an instruction: the next word, also after a store, another address, or a stop.
 #[derive(Clone, Copy)]
 pub enum Flow {
-    Next(u32),
+    Next,
+    Stored(Stored),
+    Jump(u32),
     Stopped(Stop),
 }
 
-/// What comes of a fetch.
+/// Where an instruction stored: the place of the page in memory, and the address.
 #[derive(Clone, Copy)]
-pub enum Fetch {
-    Ready,
-    Illegal,
-    OverLimit,
-    OutOfMemory,
+pub struct Stored {
+    pub place: usize,
+    pub at: u32,
 }
 
-/// The registers and the memory, with the instructions that were decoded.
+/// The registers and the memory. The last register takes what is written to x0.
 #[derive(Drop)]
 pub struct Processor {
-    regs: [u32; 32],
+    regs: [u32; 33],
     memory: Memory,
-    entries: Vec<Entry>,
 }
 
 impl Model for Processor {
-    ghost use Rattle.std.specs.Prelude.{◌≡◌, slice_index};
+    ghost use Rattle.std.specs.Prelude.{take};
     ghost use Rattle.rv_machine.specs.Storage.{Storage};
-    ghost use Rattle.rv_machine.specs.Caching.{IsCached};
 
     ghost Value = { Storage };
 
-    ghost view = { λ p. record { regs = p.regs; memory = p.memory } };
-
-    ghost invariant = { λ p. (IsCached p.memory p.entries.items) × (slice_index p.regs 0 ≡ 0) };
+    ghost view = { λ p. record { regs = take 32 p.regs; memory = p.memory } };
 }
 
 impl Processor {
-    /// A processor over a memory, with the registers of the start: x2, the stack pointer, is 0x7FFFFFF0. There is room
-    /// for the decoded instructions of a program of so many words, up to 4,096.
-    pub fn new(alloc: Global, memory: Memory, words: usize) -> Result<Processor, NoMemory>
-        ensures { IfOk result (λ p. p ≡ record { regs = hart.first_regs; memory = memory }) }
+    /// A processor over a memory, with the registers of the start: x2, the stack pointer, is 0x7FFFFFF0.
+    pub fn new(memory: Memory) -> Processor
+        ensures { result ≡ record { regs = hart.first_regs; memory = memory } }
     {
-        let mut regs = [0; 32];
+        let mut regs = [0; 33];
         regs[2] = 0x7FFF_FFF0;
-        match empty_entries(alloc, room_for(words)) {
-            Ok(entries) => Ok(Processor {
-                regs,
-                memory,
-                entries,
-            }),
-            Err(_) => Err(NoMemory),
-        }
+        Processor { regs, memory }
     }
 
     /// How many pages were touched.
@@ -99,7 +86,7 @@ impl Processor {
         requires { r < 32 }
         ensures { self.new ≡ record self.old { regs = hart.written self.old.regs r v } }
     {
-        self.write(r, v);
+        self.write(if r == 0 { SINK } else { r }, v);
     }
 
     /// Whether the pages of n bytes at an address are within the limit, with those that were touched.
@@ -115,6 +102,8 @@ impl Processor {
         requires space { at + n ≤ 2 ^ 32 }
         requires room { memory.fits self.old.memory at n ≡ true }
         ensures ok { OnOk result (self.new ≡ record self.old { memory = memory.touch_range self.old.memory at n }) }
+        ensures code { (c : Code) → IsCode self.old.memory c → IsCode self.new.memory c }
+        ensures unchanged { OnErr result (self.new ≡ self.old) }
     {
         match self.memory.touch_range(at, n) {
             Ok(()) => Ok(()),
@@ -122,27 +111,51 @@ impl Processor {
         }
     }
 
-    /// Puts bytes from an address on, whose pages are touched.
-    pub fn copy_in(&mut self, at: u32, bytes: &[u8]) -> Result<(), NoMemory>
+    /// Puts bytes from an address on, whose pages are touched. The steps of their words are forgotten.
+    pub fn copy_in(&mut self, code: &mut Code, at: u32, bytes: &[u8]) -> Result<(), NoMemory>
         requires space { at + length bytes.now ≤ 2 ^ 32 }
         requires few { length bytes.now < 2 ^ 32 }
         requires room { memory.fits self.old.memory at (length bytes.now) ≡ true }
+        requires code { IsCode self.old.memory code.old }
         ensures ok { OnOk result (self.new ≡ record self.old { memory = memory.store_bytes (memory.touch_range self.old.memory at (length bytes.now)) at bytes.now }) }
+        ensures code { IsCode self.new.memory code.new }
+        ensures unchanged { OnErr result (self.new ≡ self.old) }
     {
         match self.memory.touch_range(at, bytes.len() as u32) {
             Ok(()) => {
                 self.memory.copy_in(at, bytes);
-                forget_all(&mut self.entries, at, bytes);
+                forget_all(code, &self.memory, at, bytes);
                 Ok(())
             }
             Err(_) => Err(NoMemory),
         }
     }
 
-    /// Appends the n bytes from an address on.
+    /// The place of the page of an address in memory; the page is touched.
+    pub fn place(&mut self, at: u32) -> Result<usize, MemFault>
+        ensures place { IfOk result (λ k. k ≡ memory.place self.new.memory.pages (at / 4096)) }
+        ensures touched { OnOk result (self.new ≡ record self.old { memory = memory.touch self.old.memory (at / 4096) }) }
+        ensures allowed { OnOk result (memory.is_over self.old.memory (at / 4096) ≡ false) }
+        ensures refused { IfErr result (memory.Refuses 1 self.old.memory at) }
+        ensures unchanged { OnErr result (self.new ≡ self.old) }
+    {
+        self.memory.place(at)
+    }
+
+    /// The word at an address, whose page was touched.
+    pub fn word(&mut self, at: u32) -> Result<u32, MemFault>
+        requires { memory.is_touched self.old.memory (at / 4096) ≡ true }
+        ensures value { IfOk result (λ v. v ≡ memory.word_at self.old.memory at) }
+        ensures unchanged { self.new ≡ self.old }
+    {
+        self.memory.load32(at)
+    }
+
+    /// Appends the n bytes from an address on, which are the same once their pages are touched.
+    #[tactic(auto, using(crate::proofs::Outputs::bytes_at_touch_range))]
     pub fn copy_out(&self, at: u32, n: u32, out: &mut Vec<u8>) -> Result<(), NoMemory>
         requires { at + n ≤ 2 ^ 32 }
-        ensures ok { OnOk result (out.new.items ≡ out.old.items ++ memory.bytes_at self.now.memory at n) }
+        ensures ok { OnOk result (out.new.items ≡ out.old.items ++ memory.bytes_at (memory.touch_range self.now.memory at n) at n) }
         ensures unchanged { OnErr result (out.new.items ≡ out.old.items) }
     {
         match self.memory.copy_out(at, n, out) {
@@ -152,6 +165,7 @@ impl Processor {
     }
 
     #[inline(always)]
+    #[tactic(auto, using(crate::proofs::Registers::read_first))]
     fn reg(&self, r: u8) -> u32
         requires { r < 32 }
         ensures { result ≡ slice_index self.now.regs r }
@@ -159,70 +173,72 @@ impl Processor {
         self.regs[r as usize]
     }
 
-    // Writes a register; x0 is 0 again.
+    // Writes the register of a step.
     #[inline(always)]
-    #[tactic(auto, using(crate::proofs::Registers::written_twice))]
+    #[tactic(auto, using(crate::proofs::Registers::written_step))]
     fn write(&mut self, r: u8, v: u32)
-        requires { r < 32 }
-        ensures { self.new ≡ record self.old { regs = hart.written self.old.regs r v } }
+        requires some { 0 < r }
+        requires within { r < 33 }
+        ensures { self.new ≡ record self.old { regs = hart.written self.old.regs (if nat_eq r 32 then 0 else r) v } }
     {
         self.regs[r as usize] = v;
-        self.regs[0] = 0;
     }
 
     #[inline(always)]
     fn address(&self, i: Instr, pc: u32) -> u32
-        requires { IsSmall i }
-        ensures { result ≡ hart.address (hart_of self.now pc) i }
+        requires { IsStep i }
+        ensures { result ≡ hart.address (hart_of self.now pc) (instr_of i) }
     {
         self.reg(i.rs1).wrapping_add(i.imm.cast_unsigned())
     }
 
-    // Gives rd a value.
+    // Gives rd a value (RISC-V Unprivileged ISA, "Integer Computational Instructions").
     #[inline(always)]
     fn give(&mut self, pc: u32, i: Instr, v: u32) -> Flow
-        requires small { IsSmall i }
+        requires step { IsStep i }
         requires aligned { pc % 4 ≡ 0 }
-        ensures { Does pc result (hart.gives (hart_of self.old pc) i v) self.new }
+        ensures does { Does (hart_of self.old pc) result (hart.gives (hart_of self.old pc) (instr_of i) v) self.new }
+        ensures next { result ≡ Flow.Next }
     {
         self.write(i.rd, v);
-        Flow::Next(next_pc(pc))
+        Flow::Next
     }
 
+    // RISC-V Unprivileged ISA, "Control Transfer Instructions".
     #[inline(always)]
     fn jump(&mut self, pc: u32, i: Instr, to: u32) -> Flow
-        requires small { IsSmall i }
+        requires step { IsStep i }
         requires aligned { pc % 4 ≡ 0 }
-        ensures { Does pc result (hart.jumps (hart_of self.old pc) i to) self.new }
+        ensures does { Does (hart_of self.old pc) result (hart.jumps (hart_of self.old pc) (instr_of i) to) self.new }
     {
         if to % 4 != 0 {
             return Flow::Stopped(Stop::Ended(Ending::Trap(Trap::Jump)));
         }
         self.write(i.rd, next_pc(pc));
-        Flow::Next(to)
+        Flow::Jump(to)
     }
 
     #[inline(always)]
     fn branch(&mut self, pc: u32, i: Instr, taken: bool) -> Flow
         requires aligned { pc % 4 ≡ 0 }
-        ensures { Does pc result (hart.branches (hart_of self.old pc) i taken) self.new }
+        ensures does { Does (hart_of self.old pc) result (hart.branches (hart_of self.old pc) (instr_of i) taken) self.new }
     {
         if !taken {
-            return Flow::Next(next_pc(pc));
+            return Flow::Next;
         }
         let to = relative(pc, i);
         if to % 4 != 0 {
             return Flow::Stopped(Stop::Ended(Ending::Trap(Trap::Jump)));
         }
-        Flow::Next(to)
+        Flow::Jump(to)
     }
 
     #[inline(always)]
     fn compute(&mut self, pc: u32, i: Instr, op: Op) -> Flow
-        requires small { IsSmall i }
+        requires step { IsStep i }
         requires aligned { pc % 4 ≡ 0 }
         requires op { effect.HasEffect op }
-        ensures { Does pc result (operations.computes op (hart_of self.old pc) i) self.new }
+        ensures does { Does (hart_of self.old pc) result (operations.computes op (hart_of self.old pc) (instr_of i)) self.new }
     {
         let v = alu(op, self.reg(i.rs1), self.reg(i.rs2));
         self.give(pc, i, v)
@@ -230,10 +246,10 @@ impl Processor {
 
     #[inline(always)]
     fn compute_imm(&mut self, pc: u32, i: Instr, op: Op) -> Flow
-        requires small { IsSmall i }
+        requires step { IsStep i }
         requires aligned { pc % 4 ≡ 0 }
         requires op { effect.HasEffect op }
-        ensures { Does pc result (operations.computes_imm op (hart_of self.old pc) i) self.new }
+        ensures does { Does (hart_of self.old pc) result (operations.computes_imm op (hart_of self.old pc) (instr_of i)) self.new }
     {
         let v = alu(op, self.reg(i.rs1), i.imm.cast_unsigned());
         self.give(pc, i, v)
@@ -242,11 +258,11 @@ impl Processor {
 
 impl Processor {
     #[inline(always)]
-    #[tactic(auto, using(crate::proofs::Kept::cached_touch))]
+    #[tactic(auto, using(crate::proofs::Kept::kept_touch))]
     fn load_byte(&mut self, pc: u32, i: Instr) -> Flow
-        requires small { IsSmall i }
+        requires step { IsStep i }
         requires aligned { pc % 4 ≡ 0 }
-        ensures { Does pc result (operations.loads 1 operations.signed_byte (hart_of self.old pc) i) self.new }
+        ensures does { Does (hart_of self.old pc) result (operations.loads 1 operations.signed_byte (hart_of self.old pc) (instr_of i)) self.new }
     {
         let at = self.address(i, pc);
         match self.memory.load8(at) {
@@ -256,11 +272,11 @@ impl Processor {
     }
 
     #[inline(always)]
-    #[tactic(auto, using(crate::proofs::Kept::cached_touch))]
+    #[tactic(auto, using(crate::proofs::Kept::kept_touch))]
     fn load_byte_unsigned(&mut self, pc: u32, i: Instr) -> Flow
-        requires small { IsSmall i }
+        requires step { IsStep i }
         requires aligned { pc % 4 ≡ 0 }
-        ensures { Does pc result (operations.loads 1 memory.byte_at (hart_of self.old pc) i) self.new }
+        ensures does { Does (hart_of self.old pc) result (operations.loads 1 memory.byte_at (hart_of self.old pc) (instr_of i)) self.new }
     {
         let at = self.address(i, pc);
         match self.memory.load8(at) {
@@ -270,11 +286,11 @@ impl Processor {
     }
 
     #[inline(always)]
-    #[tactic(auto, using(crate::proofs::Kept::cached_touch))]
+    #[tactic(auto, using(crate::proofs::Kept::kept_touch))]
     fn load_half(&mut self, pc: u32, i: Instr) -> Flow
-        requires small { IsSmall i }
+        requires step { IsStep i }
         requires aligned { pc % 4 ≡ 0 }
-        ensures { Does pc result (operations.loads 2 operations.signed_half (hart_of self.old pc) i) self.new }
+        ensures does { Does (hart_of self.old pc) result (operations.loads 2 operations.signed_half (hart_of self.old pc) (instr_of i)) self.new }
     {
         let at = self.address(i, pc);
         match self.memory.load16(at) {
@@ -284,11 +300,11 @@ impl Processor {
     }
 
     #[inline(always)]
-    #[tactic(auto, using(crate::proofs::Kept::cached_touch))]
+    #[tactic(auto, using(crate::proofs::Kept::kept_touch))]
     fn load_half_unsigned(&mut self, pc: u32, i: Instr) -> Flow
-        requires small { IsSmall i }
+        requires step { IsStep i }
         requires aligned { pc % 4 ≡ 0 }
-        ensures { Does pc result (operations.loads 2 memory.half_at (hart_of self.old pc) i) self.new }
+        ensures does { Does (hart_of self.old pc) result (operations.loads 2 memory.half_at (hart_of self.old pc) (instr_of i)) self.new }
     {
         let at = self.address(i, pc);
         match self.memory.load16(at) {
@@ -298,11 +314,11 @@ impl Processor {
     }
 
     #[inline(always)]
-    #[tactic(auto, using(crate::proofs::Kept::cached_touch))]
+    #[tactic(auto, using(crate::proofs::Kept::kept_touch))]
     fn load_word(&mut self, pc: u32, i: Instr) -> Flow
-        requires small { IsSmall i }
+        requires step { IsStep i }
         requires aligned { pc % 4 ≡ 0 }
-        ensures { Does pc result (operations.loads 4 memory.word_at (hart_of self.old pc) i) self.new }
+        ensures does { Does (hart_of self.old pc) result (operations.loads 4 memory.word_at (hart_of self.old pc) (instr_of i)) self.new }
     {
         let at = self.address(i, pc);
         match self.memory.load32(at) {
@@ -313,80 +329,57 @@ impl Processor {
 
     #[inline(always)]
     fn store8(&mut self, pc: u32, i: Instr) -> Flow
-        requires small { IsSmall i }
+        requires step { IsStep i }
         requires aligned { pc % 4 ≡ 0 }
-        ensures { Does pc result (operations.stores 1 memory.store8 (hart_of self.old pc) i) self.new }
+        ensures does { Does (hart_of self.old pc) result (operations.stores 1 memory.store8 (hart_of self.old pc) (instr_of i)) self.new }
     {
         let at = self.address(i, pc);
         let v = self.reg(i.rs2);
-        match self.memory.store8(at, v) {
-            Ok(()) => {
-                forget(&mut self.entries, at);
-                Flow::Next(next_pc(pc))
-            }
-            Err(fault) => Flow::Stopped(of_fault(fault)),
-        }
+        let place = match self.memory.store8(at, v) {
+            Ok(place) => place,
+            Err(fault) => return Flow::Stopped(of_fault(fault)),
+        };
+        Flow::Stored(Stored { place, at })
     }
 
     #[inline(always)]
     fn store16(&mut self, pc: u32, i: Instr) -> Flow
-        requires small { IsSmall i }
+        requires step { IsStep i }
         requires aligned { pc % 4 ≡ 0 }
-        ensures { Does pc result (operations.stores 2 memory.store16 (hart_of self.old pc) i) self.new }
+        ensures does { Does (hart_of self.old pc) result (operations.stores 2 memory.store16 (hart_of self.old pc) (instr_of i)) self.new }
     {
         let at = self.address(i, pc);
         let v = self.reg(i.rs2);
-        match self.memory.store16(at, v) {
-            Ok(()) => {
-                forget(&mut self.entries, at);
-                Flow::Next(next_pc(pc))
-            }
-            Err(fault) => Flow::Stopped(of_fault(fault)),
-        }
+        let place = match self.memory.store16(at, v) {
+            Ok(place) => place,
+            Err(fault) => return Flow::Stopped(of_fault(fault)),
+        };
+        Flow::Stored(Stored { place, at })
     }
 
     #[inline(always)]
     fn store32(&mut self, pc: u32, i: Instr) -> Flow
-        requires small { IsSmall i }
+        requires step { IsStep i }
         requires aligned { pc % 4 ≡ 0 }
-        ensures { Does pc result (operations.stores 4 memory.store32 (hart_of self.old pc) i) self.new }
+        ensures does { Does (hart_of self.old pc) result (operations.stores 4 memory.store32 (hart_of self.old pc) (instr_of i)) self.new }
     {
         let at = self.address(i, pc);
         let v = self.reg(i.rs2);
-        match self.memory.store32(at, v) {
-            Ok(()) => {
-                forget(&mut self.entries, at);
-                Flow::Next(next_pc(pc))
-            }
-            Err(fault) => Flow::Stopped(of_fault(fault)),
-        }
+        let place = match self.memory.store32(at, v) {
+            Ok(place) => place,
+            Err(fault) => return Flow::Stopped(of_fault(fault)),
+        };
+        Flow::Stored(Stored { place, at })
     }
 }
 
 impl Processor {
-    /// Fetches the instruction at pc, whose page is touched, decodes it and carries it out.
-    #[inline(always)]
-    pub fn step(&mut self, pc: u32) -> Flow
-        requires aligned { pc % 4 ≡ 0 }
-        ensures { Does pc result (operations.instruction (hart_of self.old pc)) self.new }
-    {
-        match ready(&mut self.memory, &mut self.entries, pc) {
-            Fetch::Ready => {
-                let i = entry_at(&self.entries, pc);
-                self.operate(pc, i)
-            }
-            Fetch::Illegal => Flow::Stopped(Stop::Ended(Ending::Trap(Trap::Illegal))),
-            Fetch::OverLimit => Flow::Stopped(Stop::Ended(Ending::Memory)),
-            Fetch::OutOfMemory => Flow::Stopped(Stop::NoMemory),
-        }
-    }
-
     /// Carries out an instruction that stands at pc.
     #[inline(always)]
-    fn operate(&mut self, pc: u32, i: Instr) -> Flow
-        requires small { IsSmall i }
+    pub fn operate(&mut self, pc: u32, i: Instr) -> Flow
+        requires step { IsStep i }
         requires aligned { pc % 4 ≡ 0 }
-        ensures { Does pc result (operations.operation i.op (hart_of self.old pc) i) self.new }
+        ensures does { Does (hart_of self.old pc) result (operations.operation i.op (hart_of self.old pc) (instr_of i)) self.new }
     {
         match i.op {
             Op::Lui => self.give(pc, i, i.imm.cast_unsigned()),
@@ -434,7 +427,7 @@ impl Processor {
             Op::Divu => self.compute(pc, i, Op::Divu),
             Op::Rem => self.compute(pc, i, Op::Rem),
             Op::Remu => self.compute(pc, i, Op::Remu),
-            Op::Fence => Flow::Next(next_pc(pc)),
+            Op::Fence => Flow::Next,
             Op::Ecall => Flow::Stopped(Stop::Call),
             Op::Ebreak => Flow::Stopped(Stop::Ended(Ending::Trap(Trap::Break))),
         }
@@ -465,19 +458,6 @@ fn signed_half(v: u32) -> u32
     i32::from((v as u16).cast_signed()).cast_unsigned()
 }
 
-// For how many instructions there is room: a power of two.
-fn room_for(words: usize) -> usize
-    ensures { 0 < result }
-{
-    if words <= 64 {
-        64
-    } else if words <= 512 {
-        512
-    } else {
-        4096
-    }
-}
-
 /// The address of the next instruction, which is 0 behind the last word of the address space.
 #[inline(always)]
 pub fn next_pc(pc: u32) -> u32
@@ -492,42 +472,6 @@ fn relative(pc: u32, i: Instr) -> u32
     ensures { result ≡ (pc + effect.bits i.imm) % 2 ^ 32 }
 {
     pc.wrapping_add(i.imm.cast_unsigned())
-}
-
-// Sees that the instruction at pc is in its entry.
-#[inline(always)]
-fn ready(memory: &mut Memory, entries: &mut Vec<Entry>, pc: u32) -> Fetch
-    requires aligned { pc % 4 ≡ 0 }
-    requires cached { IsCached memory.old entries.old.items }
-    ensures cached { IsCached memory.new entries.new.items }
-    ensures fetched { (regs : List ℕ) → Readies pc result (record { regs = regs; memory = memory.old }) memory.new entries.new.items }
-{
-    if is_kept(entries, pc) {
-        return Fetch::Ready;
-    }
-    fetch_anew(memory, entries, pc)
-}
-
-// Fetches and decodes the instruction at pc, and keeps it.
-#[inline(never)]
-fn fetch_anew(memory: &mut Memory, entries: &mut Vec<Entry>, pc: u32) -> Fetch
-    requires aligned { pc % 4 ≡ 0 }
-    requires cached { IsCached memory.old entries.old.items }
-    ensures cached { IsCached memory.new entries.new.items }
-    ensures fetched { (regs : List ℕ) → Readies pc result (record { regs = regs; memory = memory.old }) memory.new entries.new.items }
-{
-    let word = match memory.load32(pc) {
-        Ok(word) => word,
-        Err(MemFault::OverLimit { .. }) => return Fetch::OverLimit,
-        Err(_) => return Fetch::OutOfMemory,
-    };
-    match decode(word) {
-        Some(i) => {
-            keep(entries, pc, i);
-            Fetch::Ready
-        }
-        None => Fetch::Illegal,
-    }
 }
 
 // Why the machine stops at a fault of its memory.

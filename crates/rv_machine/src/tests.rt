@@ -26,8 +26,19 @@ const ECHO: [u32; 12] = [
     0x0000_0073,
 ];
 
-/// Counts by 1, puts the instruction that counts by 2 in place of that, and counts again.
-const PATCH: [u32; 10] = [
+/// Puts an instruction that counts by 5 in place of the next one, which counts by 1.
+const AHEAD: [u32; 7] = [
+    0x0000_0297,
+    0x0182_A303,
+    0x0062_A623,
+    0x0015_0513,
+    0x05D0_0893,
+    0x0000_0073,
+    0x0055_0513,
+];
+
+/// Counts by 1, puts an instruction that counts by 5 in place of the one before, and counts again.
+const BACK: [u32; 10] = [
     0x0000_0297,
     0x0242_A303,
     0x0020_0393,
@@ -37,7 +48,98 @@ const PATCH: [u32; 10] = [
     0xFE03_9AE3,
     0x05D0_0893,
     0x0000_0073,
+    0x0055_0513,
+];
+
+/// Counts by 1, 17 and 33, by the highest byte of the instruction.
+const BYTE: [u32; 10] = [
+    0x0000_0297,
+    0x0030_0393,
+    0x0010_0313,
+    0x0015_0513,
+    0x0062_87A3,
+    0x0013_0313,
+    0xFFF3_8393,
+    0xFE03_98E3,
+    0x05D0_0893,
+    0x0000_0073,
+];
+
+/// Counts by 1 and 7, by the upper half of the instruction.
+const HALF: [u32; 9] = [
+    0x0000_0297,
+    0x0020_0393,
+    0x0750_0313,
+    0x0015_0513,
+    0x0062_9723,
+    0xFFF3_8393,
+    0xFE03_9AE3,
+    0x05D0_0893,
+    0x0000_0073,
+];
+
+/// Puts a loop over the end of a page, which counts to 3, and runs it.
+const EDGE: [u32; 18] = [
+    0x0001_22B7,
+    0x0000_0497,
+    0x02C4_A303,
+    0xFE62_AE23,
+    0x0304_A303,
+    0x0062_A023,
+    0x0344_A303,
+    0x0062_A223,
+    0x0384_A303,
+    0x0062_A423,
+    0x0030_0393,
+    0xFFC2_8067,
+    0x0015_0513,
+    0xFFF3_8393,
+    0xFE03_9CE3,
+    0x03C4_8067,
+    0x05D0_0893,
+    0x0000_0073,
+];
+
+/// Puts an instruction that returns into each of 60 pages, and calls it.
+const MANY: [u32; 14] = [
+    0x0002_02B7,
+    0x0000_0497,
+    0x0284_A303,
+    0x03C0_0393,
+    0x0000_1E37,
+    0x0062_A023,
+    0x0002_80E7,
+    0x01C2_82B3,
+    0xFFF3_8393,
+    0xFE03_98E3,
+    0x0080_006F,
+    0x0000_8067,
+    0x05D0_0893,
+    0x0000_0073,
+];
+
+/// A word counts by 1, then it is the number 5, which is added, and then it counts by 2.
+const TURN: [u32; 20] = [
+    0x0002_02B7,
+    0x0000_0497,
+    0x03C4_A303,
+    0x0062_A223,
+    0x0344_A303,
+    0x0062_A023,
+    0x0002_80E7,
+    0x0050_0313,
+    0x0062_A023,
+    0x0002_A303,
+    0x0065_0533,
+    0x0384_A303,
+    0x0062_A023,
+    0x0100_006F,
+    0x0015_0513,
     0x0025_0513,
+    0x0000_8067,
+    0x0002_80E7,
+    0x05D0_0893,
+    0x0000_0073,
 ];
 
 /// Counts by 1, reads an instruction in place of that, and carries it out.
@@ -193,8 +295,34 @@ fn traps(rt: HostRuntime) -> Result<(), Fail> {
 
 #[test]
 fn code_that_changes(rt: HostRuntime) -> Result<(), Fail> {
-    let end = (Ending::Exit(3), 13, 1);
-    check(&rt, &PATCH, AMPLE, reading(b""), end, b"")?;
+    for (words, instructions, pages, ending, cost, touched) in [
+        (AHEAD.as_slice(), 1000, 1, Ending::Exit(5), 6, 1),
+        (BACK.as_slice(), 1000, 1, Ending::Exit(6), 13, 1),
+        (BYTE.as_slice(), 1000, 1, Ending::Exit(51), 20, 1),
+        (HALF.as_slice(), 1000, 1, Ending::Exit(8), 13, 1),
+        (EDGE.as_slice(), 1000, 3, Ending::Exit(3), 24, 3),
+        (EDGE.as_slice(), 15, 3, Ending::Time, 15, 3),
+        (EDGE.as_slice(), 1000, 2, Ending::Memory, 5, 2),
+        (MANY.as_slice(), 1000, 61, Ending::Exit(0), 368, 61),
+        (MANY.as_slice(), 1000, 30, Ending::Memory, 179, 30),
+        (MANY.as_slice(), 100, 61, Ending::Time, 100, 17),
+        (TURN.as_slice(), 1000, 2, Ending::Exit(8), 21, 2),
+        (TURN.as_slice(), 12, 2, Ending::Time, 12, 2),
+    ] {
+        let limits = Limits {
+            instructions,
+            pages,
+            ..AMPLE
+        };
+        check(
+            &rt,
+            words,
+            limits,
+            reading(b""),
+            (ending, cost, touched),
+            b"",
+        )?;
+    }
     let end = (Ending::Exit(17), 25, 1);
     check(
         &rt,

@@ -116,10 +116,11 @@ impl Memory {
         Ok(read32(&self.pages[k].bytes, at))
     }
 
-    /// Stores the low 8 bits of the value at the address, whose page is touched.
+    /// Stores the low 8 bits of the value at the address, whose page is touched; gives the place of that page.
     #[inline(always)]
     #[tactic(auto, using(crate::proofs::Laws::changes_store8, crate::proofs::Laws::touches_store8))]
-    pub fn store8(&mut self, at: u32, value: u32) -> Result<(), MemFault>
+    pub fn store8(&mut self, at: u32, value: u32) -> Result<usize, MemFault>
+        ensures place { IfOk result (λ k. k ≡ paged.place self.new.pages (at / 4096)) }
         ensures stored { OnOk result (self.new ≡ paged.store8 self.old at value) }
         ensures changes { OnOk result (paged.ChangesBytes self.old self.new at (value % 0x100 ∷ [])) }
         ensures touches { OnOk result (paged.TouchesPage self.old self.new (at / 4096)) }
@@ -130,10 +131,12 @@ impl Memory {
         self.set8(at, value)
     }
 
-    /// Stores the low 16 bits of the value at the address, the lowest byte first; its page is touched.
+    /// Stores the low 16 bits of the value at the address, the lowest byte first; its page is touched. Gives the place of
+    /// that page.
     #[inline(always)]
     #[tactic(auto, using(crate::proofs::Laws::changes_store16, crate::proofs::Laws::touches_store16))]
-    pub fn store16(&mut self, at: u32, value: u32) -> Result<(), MemFault>
+    pub fn store16(&mut self, at: u32, value: u32) -> Result<usize, MemFault>
+        ensures place { IfOk result (λ k. k ≡ paged.place self.new.pages (at / 4096)) }
         ensures stored { OnOk result (self.new ≡ paged.store16 self.old at value) }
         ensures changes { OnOk result (paged.ChangesBytes self.old self.new at (paged.half_bytes value)) }
         ensures touches { OnOk result (paged.TouchesPage self.old self.new (at / 4096)) }
@@ -144,10 +147,11 @@ impl Memory {
         self.set16(at, value)
     }
 
-    /// Stores the value at the address, the lowest byte first; its page is touched.
+    /// Stores the value at the address, the lowest byte first; its page is touched. Gives the place of that page.
     #[inline(always)]
     #[tactic(auto, using(crate::proofs::Laws::changes_store32, crate::proofs::Laws::touches_store32))]
-    pub fn store32(&mut self, at: u32, value: u32) -> Result<(), MemFault>
+    pub fn store32(&mut self, at: u32, value: u32) -> Result<usize, MemFault>
+        ensures place { IfOk result (λ k. k ≡ paged.place self.new.pages (at / 4096)) }
         ensures stored { OnOk result (self.new ≡ paged.store32 self.old at value) }
         ensures changes { OnOk result (paged.ChangesBytes self.old self.new at (paged.word_bytes value)) }
         ensures touches { OnOk result (paged.TouchesPage self.old self.new (at / 4096)) }
@@ -156,6 +160,14 @@ impl Memory {
         ensures unchanged { OnErr result (self.new ≡ self.old) }
     {
         self.set32(at, value)
+    }
+
+    /// The place of the page of an address, if it was touched.
+    pub fn find(&self, at: u32) -> Option<usize>
+        ensures some { IfSome result (λ k. (k < length self.now.pages) × (k ≡ paged.place self.now.pages (at / 4096))) }
+        ensures none { IfNone result (paged.place self.now.pages (at / 4096) ≡ length self.now.pages) }
+    {
+        look(&self.recent, &self.index, &self.pages, at / 4096)
     }
 
     /// Whether the pages of `count` bytes from the address on may be touched: the touched ones and the new ones
@@ -223,7 +235,8 @@ impl Memory {
 
     #[inline(always)]
     #[tactic(auto, using(crate::proofs::Places::indexed_set, crate::proofs::Places::whole_set))]
-    fn set8(&mut self, at: u32, value: u32) -> Result<(), MemFault>
+    fn set8(&mut self, at: u32, value: u32) -> Result<usize, MemFault>
+        ensures place { IfOk result (λ k. k ≡ paged.place self.new.pages (at / 4096)) }
         ensures stored { OnOk result (self.new ≡ paged.store8 self.old at value) }
         ensures whole { OnOk result (paged.IsWhole self.old.pages) }
         ensures allowed { OnOk result (paged.Allows 1 self.old at) }
@@ -233,12 +246,13 @@ impl Memory {
         let k = self.place(at)?;
         let page = &mut self.pages[k];
         write8(&mut page.bytes, at, value);
-        Ok(())
+        Ok(k)
     }
 
     #[inline(always)]
     #[tactic(auto, using(crate::proofs::Places::indexed_set, crate::proofs::Places::whole_set, crate::proofs::Storing::store16_in_page, crate::proofs::Storing::length_set_bytes))]
-    fn set16(&mut self, at: u32, value: u32) -> Result<(), MemFault>
+    fn set16(&mut self, at: u32, value: u32) -> Result<usize, MemFault>
+        ensures place { IfOk result (λ k. k ≡ paged.place self.new.pages (at / 4096)) }
         ensures stored { OnOk result (self.new ≡ paged.store16 self.old at value) }
         ensures whole { OnOk result (paged.IsWhole self.old.pages) }
         ensures allowed { OnOk result (paged.Allows 2 self.old at) }
@@ -251,12 +265,13 @@ impl Memory {
         let k = self.place(at)?;
         let page = &mut self.pages[k];
         write16(&mut page.bytes, at, value);
-        Ok(())
+        Ok(k)
     }
 
     #[inline(always)]
     #[tactic(auto, using(crate::proofs::Places::indexed_set, crate::proofs::Places::whole_set, crate::proofs::Storing::store32_in_page, crate::proofs::Storing::length_set_bytes))]
-    fn set32(&mut self, at: u32, value: u32) -> Result<(), MemFault>
+    fn set32(&mut self, at: u32, value: u32) -> Result<usize, MemFault>
+        ensures place { IfOk result (λ k. k ≡ paged.place self.new.pages (at / 4096)) }
         ensures stored { OnOk result (self.new ≡ paged.store32 self.old at value) }
         ensures whole { OnOk result (paged.IsWhole self.old.pages) }
         ensures allowed { OnOk result (paged.Allows 4 self.old at) }
@@ -269,12 +284,13 @@ impl Memory {
         let k = self.place(at)?;
         let page = &mut self.pages[k];
         write32(&mut page.bytes, at, value);
-        Ok(())
+        Ok(k)
     }
 
-    // The place of the page of an address, which is touched.
+    /// The place of the page of an address among the touched ones, in the order in which they were touched. The page is
+    /// touched.
     #[inline(always)]
-    fn place(&mut self, at: u32) -> Result<usize, MemFault>
+    pub fn place(&mut self, at: u32) -> Result<usize, MemFault>
         ensures ok { IfOk result (λ k. (k < length self.new.pages) × (k ≡ paged.place self.new.pages (at / 4096))) }
         ensures touched { OnOk result (self.new ≡ paged.touch self.old (at / 4096)) }
         ensures allowed { OnOk result (paged.is_over self.old (at / 4096) ≡ false) }
@@ -349,6 +365,7 @@ impl Memory {
     }
 
     // The place of a page, which is the next to be guessed, or the number of pages where it was not touched.
+    #[cold]
     #[inline(never)]
     fn recall(&mut self, number: u32) -> usize
         ensures place { result ≡ paged.place self.old.pages number }
@@ -365,6 +382,7 @@ impl Memory {
     }
 
     // Touches a new page; gives its place.
+    #[cold]
     #[inline(never)]
     fn touch(&mut self, number: u32) -> Result<usize, MemFault>
         requires number { number < 1048576 }

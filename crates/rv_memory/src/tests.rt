@@ -8,11 +8,11 @@ const AT: u32 = 0x0001_0000;
 fn what_is_stored_is_loaded(rt: HostRuntime) {
     let mut memory = Memory::new(rt.alloc(), 2);
     assert!(rt; memory.load32(AT) == Ok(0));
-    assert!(rt; memory.store32(AT, 0x1234_5678) == Ok(()));
+    assert!(rt; memory.store32(AT, 0x1234_5678) == Ok(0));
     assert!(rt; memory.load8(AT) == Ok(0x78));
     assert!(rt; memory.load16(AT + 2) == Ok(0x1234));
-    assert!(rt; memory.store16(AT, 0xFFFF_ABCD) == Ok(()));
-    assert!(rt; memory.store8(AT + 3, 0x1FF) == Ok(()));
+    assert!(rt; memory.store16(AT, 0xFFFF_ABCD) == Ok(0));
+    assert!(rt; memory.store8(AT + 3, 0x1FF) == Ok(0));
     assert!(rt; memory.load32(AT) == Ok(0xFF34_ABCD));
     assert!(rt; memory.pages() == 1);
     assert!(rt; memory.load16(AT + 1) == Err(MemFault::Misaligned));

@@ -6,5 +6,6 @@ pub returns-in-Err-Ended : goal.returns-in-Err-Ended
 returns-in-Err-Ended c =
     record {
       ok = c.loop-ending.invariant.same
-          ∙ call_ended c.loop-ending.self.state c.run_to_stop.new.self.state c.call.new.self.state c.in-Err-Ended.ending c.in-Call.ensures.stops (rw c.in-Err-Ended.field-0-is at c.in-Err-Ended.ensures);
+          ∙ call_ended c.loop-ending.self.state c.run_to_stop.new.self.state c.call.new.self.state c.in-Err-Ended.ending c.in-Call.ensures.stops.0 (rw c.in-Err-Ended.field-0-is at c.in-Err-Ended.ensures.gives);
+      unfinished = tt;
     }

@@ -1,5 +1,5 @@
 use Rattle.std.proofs.Common.{◌-◌}
-use Rattle.rv_machine.proofs.Finishing.{IsOnWay}
+use Rattle.rv_machine.specs.Running.{IsOnWay}
 use Rattle.rv_machine.proofs.machine.Machine.finish.Given as goal
 
 abbrev pub invariant-loop-ending : goal.invariant-loop-ending

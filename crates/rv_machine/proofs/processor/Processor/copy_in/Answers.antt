@@ -1,9 +1,11 @@
 use Rattle.std.proofs.Common.{length}
-use Rattle.rv_machine.specs.Caching.{IsCached}
-use Rattle.rv_machine.proofs.Kept.{cached_touch_range}
+use Rattle.rv_machine.specs.Decoded.{IsCode}
+use Rattle.rv_machine.proofs.Kept.{kept, keeps_touch_range}
 use Rattle.rv_machine.proofs.processor.Processor.copy_in.Goals as goal
 
-pub invariant_of-self : goal.invariant_of-self
-invariant_of-self c =
-    let touched : IsCached c.touch_range.new.self c.self.inside.entries.items = rw c.in-Ok.ensures.touched (cached_touch_range c.self.inside.memory c.self.inside.entries.items c.args.at (length c.args.bytes.now) c.self.invariant.0) in
-    (rw c.copy_in.ensures (c.forget_all.ensures c.touch_range.new.self touched), c.self.invariant.1)
+pub returns-in-Ok-clause-code : goal.returns-in-Ok-clause-code
+returns-in-Ok-clause-code c =
+    let n = length c.args.bytes.now in
+    let before : IsCode c.self.inside.memory c.args.code.now = rw (← c.self.view_is) at c.requires.code in
+    let touched : IsCode c.touch_range.new.self c.args.code.now = rw c.in-Ok.ensures.touched (kept c.self.inside.memory _ c.args.code.now (keeps_touch_range c.self.inside.memory c.args.at n) before) in
+    c.forget_all.ensures.fresh c.touch_range.new.self touched c.in-Ok.ensures.covered c.copy_in.ensures

@@ -1,7 +1,11 @@
-use Rattle.std.proofs.Common.{◌/◌}
-use Rattle.rv_machine.proofs.Kept.{cached_touch}
+use Rattle.std.proofs.Common.{ℕ, ap, ◌∙◌}
+use Rattle.std.specs.Int.{cast_signed, w8}
+use Rattle.rv_word.specs.Effect.{bits}
+use Rattle.rv_machine.specs.Decoded.{instr_of}
+use Rattle.rv_machine.specs.Operations as operations
+use Rattle.rv_machine.proofs.Doing.{loads_does}
 use Rattle.rv_machine.proofs.processor.Processor.load_byte.Goals as goal
 
-pub invariant_of-self : goal.invariant_of-self
-invariant_of-self c =
-    (rw c.in-Ok.ensures.touched (cached_touch c.self.inside.memory c.self.inside.entries.items (c.address-at.result / 4096) c.self.invariant.0), c.self.invariant.1)
+pub returns-in-Ok : goal.returns-in-Ok
+returns-in-Ok c =
+    record { does = loads_does 1 operations.signed_byte c.args.self.now _ c.load8.new.self c.args.pc (instr_of c.args.i) c.address-at.result _ c.give.result c.give.new.self c.self.view_is c.address-at.ensures c.in-Ok.ensures.allowed c.in-Ok.ensures.touched (c.signed_byte.ensures ∙ ap (λ (x : ℕ). bits (cast_signed w8 x)) c.in-Ok.ensures.value) c.give.ensures.next c.give.ensures.does }

@@ -1,10 +1,12 @@
-use Rattle.rv_machine.proofs.Kept.{cached_touch_range}
+use Rattle.rv_machine.proofs.Kept.{kept, keeps_touch_range}
 use Rattle.rv_machine.proofs.processor.Processor.touch.Goals as goal
 use Rattle.rv_machine.proofs.processor.Processor.touch.Goals.{in-Ok, in-Err}
 
-pub invariant_of-self : goal.invariant_of-self
-invariant_of-self c =
+pub returns-clause-code : goal.returns-clause-code
+returns-clause-code c =
+    λ code k.
+    let m = c.self.inside.memory in
     elim c.match-touch_range.branch [
-      | in-Ok w ↦ (rw w.in-Ok.ensures.touched (cached_touch_range c.self.inside.memory c.self.inside.entries.items c.args.at c.args.n c.self.invariant.0), c.self.invariant.1)
-      | in-Err w ↦ (rw w.in-Err.ensures.unchanged c.self.invariant.0, c.self.invariant.1)
+      | in-Ok w ↦ rw w.in-Ok.ensures.touched (kept m _ code (keeps_touch_range m c.args.at c.args.n) (rw (← c.self.view_is) at k))
+      | in-Err w ↦ rw w.in-Err.ensures.unchanged (rw (← c.self.view_is) at k)
     ]
