@@ -1,21 +1,24 @@
 #!/usr/bin/env python3
-"""Speed and memory of the machine beside two plain C interpreters of the same machine, in one run.
+"""Speed and memory of the machine beside three plain C interpreters of the same machine, in one run.
 
-cached: a decoded cache by pc and one switch a step (the machine's own shape); threaded: whole pages are decoded and
-each instruction jumps to the next by computed goto. All three have the same meter, page limit and calls. Prints
-million instructions a second (the best of the rounds, which are taken in turn), ratios and peak memory.
+cached: a decoded cache by pc and one switch a step; threaded: whole pages are decoded and each instruction jumps to
+the next by computed goto; paged: whole pages are decoded, and one switch a step (by clang -O3 where it is there, else
+by gcc -O2 as the others). All four have the same meter, page limit and calls. Prints million instructions a second (the
+best of the rounds, which are taken in turn), ratios, their geometric means and peak memory.
 
 usage: bench.py [ROUNDS]    RVRUN names the machine's program, if it is not crates/rvrun/out/rvrun
 """
+import math
 import os
 import re
+import shutil
 import subprocess
 import sys
 
 HERE = os.path.dirname(os.path.abspath(__file__))
 OUT = os.path.join(HERE, "..", "out")
 RVRUN = os.environ.get("RVRUN", os.path.join(HERE, "..", "..", "crates", "rvrun", "out", "rvrun"))
-PROGRAMS = ["arithmetic", "walk", "calls"]
+PROGRAMS = ["arithmetic", "walk", "calls", "hashing", "backtracking", "matrices"]
 ENDING = re.compile(r"ending (\S+) cost (\d+) pages (\d+) load (\d+) run (\d+)")
 
 
@@ -25,8 +28,10 @@ def build():
     if done.returncode == 77:
         sys.exit(0)
     done.check_returncode()
-    for name in ["cached", "threaded", "peak"]:
-        subprocess.run(["gcc", "-O2", "-Wall", "-Wextra", "-o", os.path.join(OUT, name),
+    paged = ["clang", "-O3"] if shutil.which("clang") else ["gcc", "-O2"]
+    for name, compiler in [("cached", ["gcc", "-O2"]), ("threaded", ["gcc", "-O2"]), ("paged", paged),
+                           ("peak", ["gcc", "-O2"])]:
+        subprocess.run([*compiler, "-Wall", "-Wextra", "-o", os.path.join(OUT, name),
                         os.path.join(HERE, name + ".c")], check=True)
 
 
@@ -57,9 +62,11 @@ def main():
         print(f"skipped: {RVRUN} is not there; build it by 'rt run' in crates/rvrun, or name it in RVRUN")
         return
     build()
-    interpreters = {"machine": RVRUN, "cached": os.path.join(OUT, "cached"), "threaded": os.path.join(OUT, "threaded")}
-    print(f"{'program':<11}{'instructions':>13}" + "".join(f"{name + ' M/s':>15}" for name in interpreters)
-          + f"{'/cached':>9}{'/threaded':>11}   peak MiB")
+    others = ["cached", "threaded", "paged"]
+    interpreters = {"machine": RVRUN, **{name: os.path.join(OUT, name) for name in others}}
+    ratios = {name: [] for name in others}
+    print(f"{'program':<13}{'instructions':>13}" + "".join(f"{name + ' M/s':>15}" for name in interpreters)
+          + "".join(f"{'/' + name:>11}" for name in others) + "   peak MiB")
     for program in PROGRAMS:
         best, peak, meaning = {}, {}, {}
         for _ in range(rounds):
@@ -70,9 +77,12 @@ def main():
                 peak[name] = max(peak.get(name, 0), memory)
         if len(set(meaning.values())) != 1:
             sys.exit(f"{program}: the interpreters disagree: {meaning}")
-        print(f"{program:<11}{meaning['machine'][2]:>13}" + "".join(f"{best[name]:>15.0f}" for name in interpreters)
-              + f"{best['machine'] / best['cached']:>9.2f}{best['machine'] / best['threaded']:>11.2f}   "
+        for name in others:
+            ratios[name].append(best["machine"] / best[name])
+        print(f"{program:<13}{meaning['machine'][2]:>13}" + "".join(f"{best[name]:>15.0f}" for name in interpreters)
+              + "".join(f"{best['machine'] / best[name]:>11.2f}" for name in others) + "   "
               + ", ".join(f"{name} {peak[name] / 1024:.1f}" for name in interpreters))
+    print("geometric means: " + ", ".join(f"/{name} {math.prod(ratios[name]) ** (1 / len(PROGRAMS)):.2f}" for name in others))
     for name, path in interpreters.items():
         times = sorted((load, total) for _, load, total, _ in (run(path, "echo", b"7\n") for _ in range(21)))
         print(f"{name}: a small image loads in {times[10][0] / 1e3:.1f} us and runs in "

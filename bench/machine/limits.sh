@@ -1,5 +1,5 @@
 #!/bin/sh
-# Runs programs against limits of instructions, pages and output on the machine and on both C interpreters, and
+# Runs programs against limits of instructions, pages and output on the machine and on the three C interpreters, and
 # compares ending, cost, pages and output. Prints a line a run.
 set -eu
 here=$(cd "$(dirname "$0")" && pwd)
@@ -7,7 +7,7 @@ out=$here/../out
 run=${RVRUN:-$here/../../crates/rvrun/out/rvrun}
 [ -x "$run" ] || { echo "skipped: $run is not there; build it by 'rt run' in crates/rvrun, or name it in RVRUN"; exit 0; }
 "$here/../programs/build.sh" || { [ $? = 77 ] && exit 0; exit 1; }
-for name in cached threaded; do gcc -O2 -Wall -Wextra -o "$out/$name" "$here/$name.c"; done
+for name in cached threaded paged; do gcc -O2 -Wall -Wextra -o "$out/$name" "$here/$name.c"; done
 cat "$here"/../programs/*.c >"$out/source.txt"
 # the smallest images: exit, a jump to itself, and a word that is no instruction
 printf '\223\010\320\005\163\000\000\000' >"$out/exit.rv32"
@@ -16,7 +16,7 @@ printf '\000\000\000\000' >"$out/zero.rv32"
 
 failed=0
 while read -r name instructions pages bytes; do
-    for which in "$run" "$out/cached" "$out/threaded"; do
+    for which in "$run" "$out/cached" "$out/threaded" "$out/paged"; do
         "$which" --instructions "$instructions" --pages "$pages" --output "$bytes" "$out/$name.rv32" \
             <"$out/source.txt" >"$out/wrote" 2>"$out/ending"
         echo "$(sed 's/ load.*//' "$out/ending"), $(wc -c <"$out/wrote") bytes, sum $(cksum <"$out/wrote" | cut -d' ' -f1)"
