@@ -5,9 +5,11 @@
 
 PROGRAM is the built program, `crates/farm/out/farm` of this repository if none is given. The scripts
 have 10,000, 100,000 and 1,000,000 lines, and one has 100 MB. Printed are, for each, lines and bytes a
-second (the best of some runs, reading a file and writing to one), the most memory, the calls of read and
-write as `strace` counts them, and whether the replies are those of an independent model, byte for byte.
-The last lines print what a line costs as the script grows. The most memory is that of a run from a pipe.
+second (the best of some runs, reading a file and writing to one), those of a straightforward C++ program
+that plays the same lines (`script.cc`, in turn with the program, where there is `g++`), the most memory, the
+calls of read and write as `strace` counts them, and whether the replies are those of an independent model,
+byte for byte. The last lines print what a line costs as the script grows. The most memory is that of a run
+from a pipe.
 """
 
 import fcntl
@@ -57,6 +59,25 @@ def run(program, source, target):
     return seconds, usage.ru_utime + usage.ru_stime, child.returncode
 
 
+def build_peer():
+    """The C++ program that plays the same lines, where it can be built."""
+    if shutil.which("g++") is None:
+        return None
+    peer = os.path.join(OUT, "peer")
+    source = os.path.join(os.path.dirname(os.path.abspath(__file__)), "script.cc")
+    subprocess.run(["g++", "-O2", "-std=c++20", "-Wall", "-Wextra", "-o", peer, source], check=True)
+    return peer
+
+
+def print_peer(count, seconds, results, want, got):
+    """What the peer's runs say, beside the seconds of the program; whether its replies are as wanted."""
+    least = min(result[0] for result in results)
+    same = filecmp.cmp(want, got, shallow=False)
+    print(f"  C++: {least:.4f} s; {count / least:,.0f} lines/s; ratio {least / seconds:.2f}"
+          f"{'' if same else '; its replies are NOT those of the model'}")
+    return same
+
+
 def most_memory(program, source):
     """The most memory, in MiB, of a run from a pipe, seen where all was read and the end has not come."""
     child = subprocess.Popen([program, "script"], stdin=subprocess.PIPE, stdout=subprocess.DEVNULL)
@@ -92,10 +113,14 @@ def calls(program, source):
     return counts
 
 
-def measure(program, name, amount, runs):
+def measure(program, peer, name, amount, runs):
     script = make(name, amount)
     source, want, got = path(name, ".lines"), path(name, ".replies"), path(name, ".out")
-    results = [run(program, source, got) for _ in range(runs)]
+    results, peers = [], []
+    for _ in range(runs):
+        results.append(run(program, source, got))
+        if peer:
+            peers.append(run(peer, source, path(name, ".peer")))
     seconds = min(result[0] for result in results)
     processor = min(result[1] for result in results)
     status = results[0][2]
@@ -105,6 +130,8 @@ def measure(program, name, amount, runs):
     print(f"{name}: {script.count} lines, {script.size} bytes; {script.replied} replies, {script.reply_size} bytes")
     print(f"  status {status}; {replies} replies came, {'as the model gives them' if same else 'NOT those of the model'}")
     print(f"  {seconds:.4f} s ({processor:.4f} s of the processor); {script.count / seconds:,.0f} lines/s; {script.size / seconds / 1e6:,.1f} MB/s")
+    if peer:
+        same = print_peer(script.count, seconds, peers, want, path(name, ".peer")) and same
     print(f"  most memory {most_memory(program, source):,.1f} MiB")
     counts = calls(program, source)
     if counts is None:
@@ -119,13 +146,16 @@ def measure(program, name, amount, runs):
 
 def main():
     program, _ = program_and_numbers(sys.argv[1:])
+    peer = build_peer()
+    if peer is None:
+        print("no g++ here: the C++ program is not run beside")
     empty = os.path.join(OUT, "empty")
     open(empty, "w").close()
     start = min(run(program, empty, os.path.join(OUT, "none"))[1] for _ in range(9))
     print(f"no lines: {start * 1000:.2f} ms of the processor, which the costs below do not count")
     costs, sound = [], True
     for name, amount, runs in SCRIPTS:
-        count, processor, right = measure(program, name, amount, runs)
+        count, processor, right = measure(program, peer, name, amount, runs)
         costs.append((name, (processor - start) / count))
         sound = sound and right
     least = min(cost for _, cost in costs)
