@@ -1,0 +1,59 @@
+//! `package_info FOLDER`: reads a problem package and says what it has, or its first fault.
+#![tactic(auto)]
+
+mod faults;
+mod report;
+
+use crate::faults::fault_text;
+use crate::report::report;
+use farm_tree::DiskTree;
+use package_folder::read_package;
+use std::io::Write;
+use std::process::ExitCode;
+use std::{env, io};
+
+/// How many instructions a second of time limit stands for, by the standard settings of a contest.
+const INSTRUCTIONS_PER_SECOND: u32 = 10_000_000;
+
+const USAGE: &str = "usage: package_info FOLDER
+
+Reads a problem package (Kattis problem package format, legacy) and prints its
+name, its limits, how outputs are checked, and its tests in order, each with the
+bytes of its input and its answer. A folder that is no package is told on
+standard error, by its first fault.
+
+Status: 0 a package, 1 no package, or it could not be read or printed, 2 usage.
+";
+
+fn main(rt: HostRuntime) -> ExitCode {
+    match run(&rt) {
+        Ok(status) => ExitCode::from(status),
+        Err(error) => {
+            let _ = eprintln!(rt; "package_info: {error}");
+            ExitCode::from(1)
+        }
+    }
+}
+
+/// Reads the package that the words name, and gives the status.
+fn run(rt: &HostRuntime) -> io::Result<u8> {
+    let words = env::args(rt)?.collect::<Vec<String>>(rt.alloc())?;
+    let [_, folder] = words.as_slice() else {
+        rt.eprint(USAGE)?;
+        return Ok(2);
+    };
+    let path = folder.as_str();
+    let mut tree = DiskTree::new(rt, rt.alloc());
+    match read_package(rt.alloc(), &mut tree, path, INSTRUCTIONS_PER_SECOND) {
+        Ok(package) => {
+            let text = report(rt.alloc(), &package)?;
+            io::writer(rt).write_all(text.as_slice())?;
+            Ok(0)
+        }
+        Err(fault) => {
+            let text = fault_text(rt.alloc(), &fault)?;
+            eprintln!(rt; "package_info: {path}: {text}")?;
+            Ok(1)
+        }
+    }
+}
