@@ -23,258 +23,93 @@ const ECHO: [(&str, &str); 7] = [
     ("p/data/secret/01.desc", "seven\n"),
 ];
 
-/// What to change in these files, and what is then read. A file without text is left out.
-const ROWS: [(&[(&str, Option<&str>)], &str); 38] = [
-    (&[], "Echo 100000 16384 8388608 default sample/1 secret/01"),
+/// What to change in these files, and what is then read: `PATH=TEXT` for a file with this text, in which `~` is a line
+/// feed, and `PATH` alone for one that is left out.
+const ROWS: &str = concat!(
+    " => Echo 100000 16384 8388608 default sample/1 secret/01\n",
     // problem.yaml
-    (&[("p/problem.yaml", None)], "no problem.yaml"),
-    (
-        &[("p/problem.yaml", None), ("p/problem.yaml/x", Some(""))],
-        "no problem.yaml",
-    ),
-    (
-        &[("p/problem.yaml", Some(""))],
-        " 100000 16384 8388608 default sample/1 secret/01",
-    ),
-    (
-        &[("p/problem.yaml", Some("name: a\nname: b\n"))],
-        "problem.yaml line 2",
-    ),
+    "p/problem.yaml => no problem.yaml\n",
+    "p/problem.yaml|p/problem.yaml/x= => no problem.yaml\n",
+    "p/problem.yaml= =>  100000 16384 8388608 default sample/1 secret/01\n",
+    "p/problem.yaml=name: a~name: b~ => problem.yaml line 2\n",
     // domjudge-problem.ini
-    (
-        &[("p/domjudge-problem.ini", None)],
-        "Echo 10000000 16384 8388608 default sample/1 secret/01",
-    ),
-    (
-        &[("p/domjudge-problem.ini", Some("color=red\ntimelimit=0\n"))],
-        "domjudge-problem.ini line 2",
-    ),
-    (
-        &[("p/domjudge-problem.ini", Some("timelimit=1000\n"))],
-        "Echo 10000000000 16384 8388608 default sample/1 secret/01",
-    ),
+    "p/domjudge-problem.ini => Echo 10000000 16384 8388608 default sample/1 secret/01\n",
+    "p/domjudge-problem.ini=color=red~timelimit=0~ => domjudge-problem.ini line 2\n",
+    "p/domjudge-problem.ini=timelimit=1000~ => Echo 10000000000 16384 8388608 default sample/1 secret/01\n",
     // flags
-    (
-        &[(
-            "p/problem.yaml",
-            Some("validator_flags: case_sensitive fast\n"),
-        )],
-        "flags word 2",
-    ),
-    (
-        &[("p/problem.yaml", Some("validator_flags: float_tolerance\n"))],
-        "flags word 1",
-    ),
-    (
-        &[(
-            "p/problem.yaml",
-            Some("validator_flags: float_tolerance -1\n"),
-        )],
-        "flags word 2",
-    ),
-    (
-        &[(
-            "p/problem.yaml",
-            Some("validation: custom\nvalidator_flags: fast\n"),
-        )],
-        "no validator",
-    ),
+    "p/problem.yaml=validator_flags: case_sensitive fast~ => flags word 2\n",
+    "p/problem.yaml=validator_flags: float_tolerance~ => flags word 1\n",
+    "p/problem.yaml=validator_flags: float_tolerance -1~ => flags word 2\n",
+    "p/problem.yaml=validation: custom~validator_flags: fast~ => no validator\n",
     // groups
-    (
-        &[("p/data/testdata.yaml", Some(""))],
-        "groups testdata.yaml",
-    ),
-    (
-        &[
-            ("p/data/secret/testdata.yaml", Some("")),
-            ("p/data/secret/g/testdata.yaml", Some("")),
-        ],
-        "groups secret/g/testdata.yaml",
-    ),
-    (
-        &[
-            ("p/data/other/testdata.yaml", Some("")),
-            ("p/data/secret/01.ans", None),
-        ],
-        "groups other/testdata.yaml",
-    ),
-    (
-        &[
-            ("p/testdata.yaml", Some("")),
-            ("p/data/secret/a-testdata.yaml", Some("")),
-            ("p/data/testdata.yaml/x", Some("")),
-        ],
-        "Echo 100000 16384 8388608 default sample/1 secret/01",
-    ),
+    "p/data/testdata.yaml= => groups testdata.yaml\n",
+    "p/data/secret/testdata.yaml=|p/data/secret/g/testdata.yaml= => groups secret/g/testdata.yaml\n",
+    "p/data/other/testdata.yaml=|p/data/secret/01.ans => groups other/testdata.yaml\n",
+    "p/testdata.yaml=|p/data/secret/a-testdata.yaml=|p/data/testdata.yaml/x= => Echo 100000 16384 8388608 default sample/1 secret/01\n",
     // answers
-    (
-        &[("p/data/secret/01.ans", None)],
-        "missing answer secret/01",
-    ),
-    (
-        &[
-            ("p/data/secret/01.ans", None),
-            ("p/data/sample/1.ans", None),
-        ],
-        "missing answer sample/1",
-    ),
-    (
-        &[
-            ("p/data/secret/01.ans", None),
-            ("p/data/secret/01.ans/x", Some("")),
-        ],
-        "missing answer secret/01",
-    ),
-    (
-        &[
-            ("p/data/secret/2.ans", Some("")),
-            ("p/data/3.in", Some("")),
-            ("p/data/samples/4.in", Some("")),
-            ("p/data/secret/5.IN", Some("")),
-        ],
-        "Echo 100000 16384 8388608 default sample/1 secret/01",
-    ),
+    "p/data/secret/01.ans => missing answer secret/01\n",
+    "p/data/secret/01.ans|p/data/sample/1.ans => missing answer sample/1\n",
+    "p/data/secret/01.ans|p/data/secret/01.ans/x= => missing answer secret/01\n",
+    "p/data/secret/2.ans=|p/data/3.in=|p/data/samples/4.in=|p/data/secret/5.IN= => Echo 100000 16384 8388608 default sample/1 secret/01\n",
     // tests
-    (
-        &[("p/data/sample/1.in", None), ("p/data/secret/01.in", None)],
-        "no tests",
-    ),
-    (
-        &[("p/data/sample/1.in", None)],
-        "Echo 100000 16384 8388608 default secret/01",
-    ),
-    (
-        &[
-            ("p/data/secret/a.in", Some("")),
-            ("p/data/secret/a.ans", Some("")),
-            ("p/data/secret/a-b.in", Some("")),
-            ("p/data/secret/a-b.ans", Some("")),
-            ("p/data/secret/g/h/x.in", Some("")),
-            ("p/data/secret/g/h/x.ans", Some("")),
-        ],
-        "Echo 100000 16384 8388608 default sample/1 secret/01 secret/a secret/a-b secret/g/h/x",
-    ),
-    (
-        &[
-            ("p/data/sample/z.in", Some("")),
-            ("p/data/sample/z.ans", Some("")),
-            ("p/data/secret/.in", Some("")),
-            ("p/data/secret/.ans", Some("")),
-        ],
-        "Echo 100000 16384 8388608 default sample/1 sample/z secret/ secret/01",
-    ),
+    "p/data/sample/1.in|p/data/secret/01.in => no tests\n",
+    "p/data/sample/1.in => Echo 100000 16384 8388608 default secret/01\n",
+    "p/data/secret/a.in=|p/data/secret/a.ans=|p/data/secret/a-b.in=|p/data/secret/a-b.ans=|p/data/secret/g/h/x.in=|p/data/secret/g/h/x.ans= => Echo 100000 16384 8388608 default sample/1 secret/01 secret/a secret/a-b secret/g/h/x\n",
+    "p/data/sample/z.in=|p/data/sample/z.ans=|p/data/secret/.in=|p/data/secret/.ans= => Echo 100000 16384 8388608 default sample/1 sample/z secret/ secret/01\n",
     // wide answers
-    (
-        &[("p/data/secret/01.ans", Some("1 1000000000000.0\n"))],
-        "wide answer secret/01 token 1",
-    ),
-    (
-        &[("p/data/secret/01.ans", Some("1 999999999999.9\n"))],
-        "Echo 100000 16384 8388608 default sample/1 secret/01",
-    ),
-    (
-        &[
-            ("p/problem.yaml", Some("name: Echo\n")),
-            ("p/data/secret/01.ans", Some("1 1000000000000.0\n")),
-        ],
-        "Echo 100000 16384 8388608 default sample/1 secret/01",
-    ),
+    "p/data/secret/01.ans=1 1000000000000.0~ => wide answer secret/01 token 1\n",
+    "p/data/secret/01.ans=1 999999999999.9~ => Echo 100000 16384 8388608 default sample/1 secret/01\n",
+    "p/problem.yaml=name: Echo~|p/data/secret/01.ans=1 1000000000000.0~ => Echo 100000 16384 8388608 default sample/1 secret/01\n",
     // validators
-    (
-        &[("p/output_validators/check.cpp", Some("int"))],
-        "Echo 100000 16384 8388608 default sample/1 secret/01",
-    ),
-    (
-        &[
-            ("p/problem.yaml", Some("validation: custom")),
-            ("p/output_validators/check.cpp", Some("int")),
-        ],
-        "source validator check.cpp",
-    ),
-    (
-        &[
-            ("p/problem.yaml", Some("validation: custom")),
-            ("p/output_validators/check.rv32/main", Some("int")),
-        ],
-        "source validator check.rv32",
-    ),
-    (
-        &[
-            ("p/problem.yaml", Some("validation: custom")),
-            ("p/output_validators/a.rv32", Some("1234")),
-            ("p/output_validators/b", Some("")),
-        ],
-        "many validators 2",
-    ),
-    (
-        &[
-            ("p/problem.yaml", Some("validation: custom")),
-            ("p/output_validators", Some("1234")),
-        ],
-        "no validator",
-    ),
-    (
-        &[
-            ("p/problem.yaml", Some("validation: custom")),
-            ("p/output_validators/a.rv32", Some("12345")),
-        ],
-        "bad validator a.rv32",
-    ),
-    (
-        &[
-            ("p/problem.yaml", Some("validation: custom")),
-            ("p/output_validators/a.rv32", Some("")),
-        ],
-        "bad validator a.rv32",
-    ),
-    (
-        &[
-            (
-                "p/problem.yaml",
-                Some("validation: custom\nvalidator_flags: 'a b'"),
-            ),
-            ("p/output_validators/a.rv32", Some("1234")),
-        ],
-        " 100000 16384 8388608 custom 4 a b sample/1 secret/01",
-    ),
-    (
-        &[
-            ("p/problem.yaml", Some("validation: custom")),
-            ("p/output_validators/.rv32", Some("12345678")),
-        ],
-        " 100000 16384 8388608 custom 8  sample/1 secret/01",
-    ),
+    "p/output_validators/check.cpp=int => Echo 100000 16384 8388608 default sample/1 secret/01\n",
+    "p/problem.yaml=validation: custom|p/output_validators/check.cpp=int => source validator check.cpp\n",
+    "p/problem.yaml=validation: custom|p/output_validators/check.rv32/main=int => source validator check.rv32\n",
+    "p/problem.yaml=validation: custom|p/output_validators/a.rv32=1234|p/output_validators/b= => many validators 2\n",
+    "p/problem.yaml=validation: custom|p/output_validators=1234 => no validator\n",
+    "p/problem.yaml=validation: custom|p/output_validators/a.rv32=12345 => bad validator a.rv32\n",
+    "p/problem.yaml=validation: custom|p/output_validators/a.rv32= => bad validator a.rv32\n",
+    "p/problem.yaml=validation: custom~validator_flags: 'a b'|p/output_validators/a.rv32=1234 =>  100000 16384 8388608 custom 4 a b sample/1 secret/01\n",
+    "p/problem.yaml=validation: custom|p/output_validators/.rv32=12345678 =>  100000 16384 8388608 custom 8  sample/1 secret/01\n",
     // the order of faults
-    (
-        &[
-            ("p/problem.yaml", Some("x")),
-            ("p/domjudge-problem.ini", Some("timelimit=0")),
-        ],
-        "problem.yaml line 1",
-    ),
-    (
-        &[
-            ("p/problem.yaml", Some("validator_flags: x")),
-            ("p/data/testdata.yaml", Some("")),
-        ],
-        "flags word 1",
-    ),
-];
+    "p/problem.yaml=x|p/domjudge-problem.ini=timelimit=0 => problem.yaml line 1\n",
+    "p/problem.yaml=validator_flags: x|p/data/testdata.yaml= => flags word 1\n",
+);
 
 /// The files with these changes.
-fn changed(alloc: Global, changes: &[(&str, Option<&str>)]) -> Result<ReliableTree, Fail> {
+fn changed(alloc: Global, changes: &str) -> Result<ReliableTree, Fail> {
     let mut files = TreeFiles::new(alloc);
     for (path, text) in ECHO {
-        if !changes.iter().any(|change| change.0 == path) {
+        if !changes.split('|').any(|change| path_of(change) == path) {
             put(alloc, &mut files, path, text)?;
         }
     }
-    for (path, text) in changes {
-        if let Some(text) = text {
-            put(alloc, &mut files, path, text)?;
+    for change in changes.split('|') {
+        if let Some((path, text)) = change.split_once('=') {
+            put(
+                alloc,
+                &mut files,
+                path,
+                text.replace(alloc, '~', "\n")?.as_str(),
+            )?;
         }
     }
     Ok(ReliableTree::new(alloc, files))
+}
+
+/// The path of a change.
+fn path_of(change: &str) -> &str {
+    match change.split_once('=') {
+        Some((path, _)) => path,
+        None => change,
+    }
+}
+
+/// Adds a file to a tree, where its path is one.
+fn add(tree: &mut ReliableTree, path: &str, bytes: &[u8]) -> Result<(), Fail> {
+    if path.len() <= 4096 {
+        tree.add(path, bytes)?;
+    }
+    Ok(())
 }
 
 fn put(alloc: Global, files: &mut TreeFiles, path: &str, text: &str) -> Result<(), Fail> {
@@ -364,10 +199,12 @@ fn fault_told(alloc: Global, fault: &PackageFault) -> Result<String, AllocError>
 #[test]
 fn each_fault_beside_a_near_miss(rt: HostRuntime) -> Result<(), Fail> {
     let alloc = rt.alloc();
-    for (changes, expected) in ROWS {
-        let mut tree = changed(alloc, changes)?;
-        let answer = read_package(alloc, &mut tree, "p", 10_000_000);
-        assert_eq!(rt; told(alloc, &answer)?.as_str(), expected, "{changes:?}");
+    for row in ROWS.lines() {
+        if let Some((changes, expected)) = row.split_once(" => ") {
+            let mut tree = changed(alloc, changes)?;
+            let answer = read_package(alloc, &mut tree, "p", 10_000_000);
+            assert_eq!(rt; told(alloc, &answer)?.as_str(), expected, "{changes}");
+        }
     }
     Ok(())
 }
@@ -415,14 +252,14 @@ fn a_file_has_at_most_16_mebibytes(rt: HostRuntime) -> Result<(), Fail> {
             "Echo 100000 16384 8388608 default sample/1 secret/01",
         ),
     ];
-    let mut large = vec![in alloc; b' '; FILE_LIMIT]?;
-    large.push(b' ')?;
+    let just = vec![in alloc; b' '; FILE_LIMIT]?;
+    let large = vec![in alloc; b' '; FILE_LIMIT + 1]?;
     for (path, expected) in rows {
-        let mut tree = changed(alloc, &[])?;
-        tree.add(path, large.as_slice())?;
+        let mut tree = changed(alloc, "")?;
+        add(&mut tree, path, large.as_slice())?;
         let answer = read_package(alloc, &mut tree, "p", 10_000_000);
         assert_eq!(rt; told(alloc, &answer)?.as_str(), expected, "{path}");
-        tree.add(path, &large[..FILE_LIMIT])?;
+        add(&mut tree, path, just.as_slice())?;
         if path.ends_with(".in") {
             let answer = read_package(alloc, &mut tree, "p", 10_000_000);
             assert!(rt; answer.is_ok(), "{path}");
@@ -462,17 +299,12 @@ impl Tree for Heavy {
 fn the_tests_have_at_most_256_mebibytes(rt: HostRuntime) -> Result<(), Fail> {
     let alloc = rt.alloc();
     for (count, expected) in [(8u32, "8 tests"), (9, "too much 285212672")] {
-        let mut tree = changed(
-            alloc,
-            &[("p/data/sample/1.in", None), ("p/data/secret/01.in", None)],
-        )?;
+        let mut tree = changed(alloc, "p/data/sample/1.in|p/data/secret/01.in")?;
         for test in 0..count {
             let input = format!(in alloc; "p/data/secret/{test}.in")?;
             let answer = format!(in alloc; "p/data/secret/{test}.ans")?;
-            if input.len() <= 4096 && answer.len() <= 4096 {
-                tree.add(input.as_str(), b"")?;
-                tree.add(answer.as_str(), b"")?;
-            }
+            add(&mut tree, input.as_str(), b"")?;
+            add(&mut tree, answer.as_str(), b"")?;
         }
         let answer = read_package(alloc, &mut Heavy { alloc, tree }, "p", 10_000_000);
         let shown = match &answer {
@@ -488,14 +320,12 @@ fn the_tests_have_at_most_256_mebibytes(rt: HostRuntime) -> Result<(), Fail> {
 fn a_package_has_at_most_1000_tests(rt: HostRuntime) -> Result<(), Fail> {
     let alloc = rt.alloc();
     for (count, expected) in [(998u32, "1000 tests"), (999, "too many tests 1001")] {
-        let mut tree = changed(alloc, &[])?;
+        let mut tree = changed(alloc, "")?;
         for test in 0..count {
             let input = format!(in alloc; "p/data/secret/g/{test}.in")?;
             let answer = format!(in alloc; "p/data/secret/g/{test}.ans")?;
-            if input.len() <= 4096 && answer.len() <= 4096 {
-                tree.add(input.as_str(), b"")?;
-                tree.add(answer.as_str(), b"")?;
-            }
+            add(&mut tree, input.as_str(), b"")?;
+            add(&mut tree, answer.as_str(), b"")?;
         }
         let answer = read_package(alloc, &mut tree, "p", 10_000_000);
         let shown = match &answer {
