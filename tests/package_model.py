@@ -7,7 +7,8 @@ expressions, which is not how the program does it.
 import re
 
 FIELD = re.compile(rb"(.*?):(?: (.*)|)\Z", re.DOTALL)
-SINGLE = re.compile(rb"'((?:[^']|'')*)'(.*)\Z", re.DOTALL)
+# A quote that ends a text is not followed by another one: two stand for one.
+SINGLE = re.compile(rb"'((?:[^']|'')*)'(?!')(.*)\Z", re.DOTALL)
 DOUBLE = re.compile(rb'"((?:[^"\\]|\\.)*)"(.*)\Z', re.DOTALL)
 ESCAPES = {b'"': b'"', b"\\": b"\\", b"n": b"\n", b"t": b"\t"}
 TIME = re.compile(rb"[0-9]+(\.[0-9]{1,3})?\Z")
