@@ -1,6 +1,6 @@
 ghost use Rattle.std.specs.Prelude.{◌≡◌, ◌++◌, ◌∷◌, [], ℕ, List, OnOk, OnErr};
 
-use crate::outcomes::{Answer, MatrixRow, NoMemory};
+use crate::outcomes::{Answer, MatrixRow, NoMemory, TableRow};
 use std::alloc::Global;
 use std::marker::Model;
 
@@ -85,6 +85,13 @@ impl Numbers {
         Numbers { numbers }
     }
 
+    /// Gives the numbers back, without taking memory.
+    pub fn into_vec(self) -> Vec<u32>
+        ensures { result.items ≡ self }
+    {
+        self.numbers
+    }
+
     /// Adds a number at the end. At `NoMemory` nothing changes.
     pub fn push(&mut self, number: u32) -> Result<(), NoMemory>
         ensures ok { OnOk result (self.new ≡ self.old ++ number ∷ []) }
@@ -133,6 +140,13 @@ impl Answers {
         Answers { answers }
     }
 
+    /// Gives the answers back, without taking memory.
+    pub fn into_vec(self) -> Vec<Answer>
+        ensures { result.items ≡ self }
+    {
+        self.answers
+    }
+
     /// Adds an answer at the end. At `NoMemory` nothing changes.
     pub fn push(&mut self, answer: Answer) -> Result<(), NoMemory>
         ensures ok { OnOk result (self.new ≡ self.old ++ answer ∷ []) }
@@ -174,6 +188,20 @@ impl MatrixRows {
         }
     }
 
+    /// The rows of a vector, without taking memory.
+    pub fn from_vec(rows: Vec<MatrixRow>) -> MatrixRows
+        ensures { result ≡ rows.items }
+    {
+        MatrixRows { rows }
+    }
+
+    /// Gives the rows back, without taking memory.
+    pub fn into_vec(self) -> Vec<MatrixRow>
+        ensures { result.items ≡ self }
+    {
+        self.rows
+    }
+
     /// Adds a row at the end. At `NoMemory` nothing changes.
     pub fn push(&mut self, row: MatrixRow) -> Result<(), NoMemory>
         ensures ok { OnOk result (self.new ≡ self.old ++ row ∷ []) }
@@ -184,6 +212,61 @@ impl MatrixRows {
 
     /// The rows in order.
     pub fn as_slice(&self) -> &[MatrixRow]
+        ensures { result.now ≡ self.now }
+    {
+        self.rows.as_slice()
+    }
+}
+
+/// The rows of a table of verdicts. Contracts see a list.
+#[derive(Debug, Drop)]
+pub struct TableRows {
+    rows: Vec<TableRow>,
+}
+
+impl Model for TableRows {
+    ghost use Rattle.std.specs.Prelude.{List};
+    ghost use Rattle.farm_kinds.specs.declared.outcomes.TableRow.{TableRow};
+
+    ghost Value = { List TableRow };
+
+    ghost view = { λ t. t.rows.items };
+}
+
+impl TableRows {
+    /// No rows.
+    pub fn new(alloc: Global) -> TableRows
+        ensures { result ≡ [] }
+    {
+        TableRows {
+            rows: Vec::new(alloc),
+        }
+    }
+
+    /// The rows of a vector, without taking memory.
+    pub fn from_vec(rows: Vec<TableRow>) -> TableRows
+        ensures { result ≡ rows.items }
+    {
+        TableRows { rows }
+    }
+
+    /// Gives the rows back, without taking memory.
+    pub fn into_vec(self) -> Vec<TableRow>
+        ensures { result.items ≡ self }
+    {
+        self.rows
+    }
+
+    /// Adds a row at the end. At `NoMemory` nothing changes.
+    pub fn push(&mut self, row: TableRow) -> Result<(), NoMemory>
+        ensures ok { OnOk result (self.new ≡ self.old ++ row ∷ []) }
+        ensures err { OnErr result (self.new ≡ self.old) }
+    {
+        self.rows.push(row).map_err(|_| NoMemory)
+    }
+
+    /// The rows in order.
+    pub fn as_slice(&self) -> &[TableRow]
         ensures { result.now ≡ self.now }
     {
         self.rows.as_slice()

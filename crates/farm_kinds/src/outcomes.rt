@@ -1,4 +1,5 @@
 use crate::kinds::Kind;
+use crate::names::Name;
 use std::alloc::AllocError;
 
 /// No memory was left. What the call would have changed is as before.
@@ -119,4 +120,17 @@ pub struct MatrixRow {
     pub new: Answer,
     /// How many members have this pair.
     pub count: u32,
+}
+
+/// The verdict of a submission, as a table of verdicts lists it.
+#[derive(Clone, Copy, Debug)]
+pub struct TableRow {
+    /// The number of the submission.
+    pub number: u32,
+    /// The team that submitted it.
+    pub team: Name,
+    /// The problem that it was submitted to.
+    pub problem: Name,
+    /// What is known of it.
+    pub verdict: Verdict,
 }
