@@ -5,7 +5,8 @@ use Rattle.std.specs.List.{flat_map}
 use Rattle.std.proofs.lemmas.List.{take_more, append-nil, length-take}
 use Rattle.farm_kinds.specs.declared.outcomes.Answer.{Answer}
 use Rattle.farm_kinds.specs.declared.outcomes.MatrixRow.{MatrixRow}
-use Rattle.farm_model.specs.Texts.{line_of, answer_text, board_lines, matrix_line}
+use Rattle.farm_kinds.specs.declared.outcomes.TableRow.{TableRow}
+use Rattle.farm_model.specs.Texts.{line_of, answer_text, board_lines, matrix_line, table_line}
 
 board-push : (n : ℕ) (answers : List Answer) (next : Answer) → board_lines n (answers ++ next ∷ []) ≡ board_lines n answers ++ line_of (decimal (n + length answers) ∷ answer_text next ∷ [])
 board-push n [] next =
@@ -32,10 +33,18 @@ board_pushed old new answers i d h e =
     let row : List ℕ = line_of (decimal (i + 1) ∷ answer_text (get_or answers i d) ∷ []) in
     ap (λ t. t ++ row) e ∙ append_assoc old (board_lines 1 (take i answers)) row ∙ ap (λ t. old ++ t) (sym (board_more answers i d h))
 
-matrix-push : (rows : List MatrixRow) (next : MatrixRow) → flat_map matrix_line (rows ++ next ∷ []) ≡ flat_map matrix_line rows ++ matrix_line next
-matrix-push [] next = append-nil (matrix_line next)
-matrix-push (row ∷ rows) next = ap (λ t. matrix_line row ++ t) (matrix-push rows next) ∙ sym (append_assoc (matrix_line row) (flat_map matrix_line rows) (matrix_line next))
+rows-push : {X : Type 0} (line : X → List ℕ) (rows : List X) (next : X) → flat_map line (rows ++ next ∷ []) ≡ flat_map line rows ++ line next
+rows-push line [] next = append-nil (line next)
+rows-push line (row ∷ rows) next = ap (λ t. line row ++ t) (rows-push line rows next) ∙ sym (append_assoc (line row) (flat_map line rows) (line next))
+
+-- one row more
+rows_more : {X : Type 0} (line : X → List ℕ) (rows : List X) (i : ℕ) (d : X) → i < length rows → flat_map line (take (i + 1) rows) ≡ flat_map line (take i rows) ++ line (get_or rows i d)
+rows_more line rows i d h = ap (flat_map line) (take_more rows i d h) ∙ rows-push line (take i rows) (get_or rows i d)
 
 -- one row more of a matrix
 pub matrix_more : (rows : List MatrixRow) (i : ℕ) (d : MatrixRow) → i < length rows → flat_map matrix_line (take (i + 1) rows) ≡ flat_map matrix_line (take i rows) ++ matrix_line (get_or rows i d)
-matrix_more rows i d h = ap (flat_map matrix_line) (take_more rows i d h) ∙ matrix-push (take i rows) (get_or rows i d)
+matrix_more rows i d h = rows_more matrix_line rows i d h
+
+-- one row more of a table
+pub table_more : (rows : List TableRow) (i : ℕ) (d : TableRow) → i < length rows → flat_map table_line (take (i + 1) rows) ≡ flat_map table_line (take i rows) ++ table_line (get_or rows i d)
+table_more rows i d h = rows_more table_line rows i d h

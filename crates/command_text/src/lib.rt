@@ -11,6 +11,7 @@ mod lists;
 mod numbers;
 mod replies;
 mod rows;
+mod tables;
 #[cfg(test)]
 mod tests;
 mod texts;
@@ -21,3 +22,4 @@ pub use laws::written_event_is_read;
 pub use lines::read_line;
 pub use numbers::{read_moment, read_number};
 pub use replies::{push_bad_line, push_reply, push_too_long, write_reply};
+pub use tables::write_table;

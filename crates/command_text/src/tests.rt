@@ -1,10 +1,10 @@
 use crate::{
     push_bad_line, push_reply, push_too_long, read_line, write_event, write_event_words,
-    write_reply,
+    write_reply, write_table,
 };
 use farm_kinds::{
     Answer, Answers, Class, Event, How, Kind, LineFault, MatrixRow, MatrixRows, Name, NoMemory,
-    Reply, Task, Text, Verdict,
+    Reply, TableRow, TableRows, Task, Text, Verdict,
 };
 use std::alloc::Global;
 use std::test::Fail;
@@ -378,5 +378,24 @@ fn a_matrix_has_the_old_answer_before_the_new_one(rt: HostRuntime) -> Result<(),
     assert!(rt;
         text.as_slice() == b"wrong-answer correct 2\ncorrect pending 1\nmatrix 3".as_slice()
     );
+    Ok(())
+}
+
+#[test]
+fn a_table_has_a_line_for_each_row(rt: HostRuntime) -> Result<(), Fail> {
+    let mut rows = TableRows::new(rt.alloc());
+    for (number, team, verdict) in [
+        (1, name(b"alpha"), Verdict::Tests(Kind::Correct)),
+        (4, name(b"delta"), Verdict::CompilerError),
+    ] {
+        rows.push(TableRow {
+            number,
+            team,
+            problem: name(b"echo"),
+            verdict,
+        })?;
+    }
+    let text = write_table(rt.alloc(), &rows)?;
+    assert!(rt; text.as_slice() == b"1 alpha echo correct\n4 delta echo compiler-error\n".as_slice());
     Ok(())
 }

@@ -13,6 +13,7 @@ use Rattle.farm_kinds.specs.declared.outcomes.Class.TheVariants.{High, Normal, L
 use Rattle.farm_kinds.specs.declared.outcomes.How.{How}
 use Rattle.farm_kinds.specs.declared.outcomes.How.TheVariants as how
 use Rattle.farm_kinds.specs.declared.outcomes.MatrixRow.{MatrixRow}
+use Rattle.farm_kinds.specs.declared.outcomes.TableRow.{TableRow}
 use Rattle.farm_kinds.specs.declared.events.Event.{Event}
 use Rattle.farm_kinds.specs.declared.events.Event.TheVariants as event
 use Rattle.farm_kinds.specs.declared.events.Reply.{Reply}
@@ -166,3 +167,13 @@ rows_text r = []
 -- the lines of a reply
 abbrev pub reply_text : Reply → List ℕ
 reply_text r = rows_text r ++ line_of (reply_words r)
+
+-- Tables of verdicts
+
+-- the number of a submission, its team, its problem and its verdict
+abbrev pub table_line : TableRow → List ℕ
+table_line row = line_of (decimal row.number ∷ row.team ∷ row.problem ∷ verdict_text row.verdict ∷ [])
+
+-- the lines of a table
+abbrev pub table_text : List TableRow → List ℕ
+table_text rows = flat_map table_line rows
