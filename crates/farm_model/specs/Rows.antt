@@ -1,5 +1,6 @@
--- Rows of results, their completions, and what is reported of them
--- (DOMjudge manual, "Lazy judging": a verdict is final once no other result can change it).
+-- Rows of results, their completions, and what is reported of them. Priorities, remapping and lazy evaluation are
+-- DOMjudge's (its manual, `results_prio`, `results_remap`, `lazy_eval_results`); where lazy judging stops, and that
+-- the earliest rank decides on equal priority, are this project's own profile.
 use Rattle.std.specs.Prelude.{ℕ, ◌-◌, List, [], ◌∷◌, map, slice_set, Option, Some, None, Bool, true, false, not, ◌==◌, find, flat_map}
 use Rattle.std.specs.List.{list_all, list_any}
 use Rattle.std.specs.Option.{option_map}

@@ -1,5 +1,4 @@
--- Completions of a row by places, the cells that matter, and what later results make of a row
--- (DOMjudge manual, "Lazy judging").
+-- Completions of a row by places, the cells that matter, and what later results make of a row.
 use Rattle.std.specs.Prelude.{◌≡◌, ◌≢◌, ℕ, List, [], ◌∷◌, Option, Some, None, slice_get}
 use Rattle.std.specs.List.{Contains}
 use Rattle.farm_kinds.specs.declared.kinds.Kind.{Kind}

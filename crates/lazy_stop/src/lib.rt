@@ -1,5 +1,8 @@
 //! Lazy stopping: a row of results, whether its verdict can still change, and which of its empty
-//! cells can change it (DOMjudge manual, "Lazy judging").
+//! cells can change it.
+//!
+//! Lazy evaluation is DOMjudge's (its manual, `lazy_eval_results`). The exact place where judging stops,
+//! and that the earliest rank decides on equal priority, are this project's own profile.
 //!
 //! A row is seen as a rule and a list of cells. Its verdict is settled once every way to fill its
 //! empty cells has that verdict. [`Row`] never forms one of these ways: it keeps its best filled cell,

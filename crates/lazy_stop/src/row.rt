@@ -110,8 +110,8 @@ impl Row {
         may_change_verdict(&self.rule, self.extremes, self.best, rank as usize - 1)
     }
 
-    /// What is reported of the judging (DOMjudge manual, "Lazy judging"). Lazily, `Final` comes as soon
-    /// as no outcome of the empty cells can change the verdict, and in full mode once no cell is empty.
+    /// What is reported of the judging. Lazily, `Final` comes as soon as no outcome of the empty cells can
+    /// change the verdict, and in full mode once no cell is empty.
     pub fn answer(&self, mode: Mode) -> Answer
         requires { 0 < length self.now.cells }
         ensures { result ≡ answer_of self.now.rule mode self.now.cells }
