@@ -10,12 +10,18 @@ pub record IsInToken (text : List ℕ) (len : ℕ) : Type 0 where
   pub within : len ≤ length text
   pub passes : (k : ℕ) → k < len → is_token_byte (slice_index text k) ≡ true
 
+-- where both texts go on with the same byte, it is white space
+abbrev pub EndsCommon : List ℕ → List ℕ → ℕ → Type 0
+EndsCommon answer output len =
+    len < length answer → len < length output
+    → slice_index answer len ≡ slice_index output len → is_space (slice_index answer len) ≡ true
+
 -- the longest front of both texts that is of the token in front of each, and equal
 pub record IsCommon (answer output : List ℕ) (len : ℕ) : Type 0 where
   pub in_answer : IsInToken answer len
   pub in_output : IsInToken output len
   pub same : take len answer ≡ take len output
-  pub longest : len < length answer → len < length output → slice_index answer len ≡ slice_index output len → is_space (slice_index answer len) ≡ true
+  pub longest : EndsCommon answer output len
 
 -- the bytes of a token in front end at `len`
 abbrev pub ends_token : List ℕ → ℕ → Bool

@@ -21,7 +21,8 @@ name_fields v = record { bytes = v ++ replicate (32 - length v) 0; len = length 
 pub name_fields_back : (n : Inside) → IsNameShape n → name_fields (name_text n) ≡ n
 name_fields_back n h =
     let e : length (take n.len n.bytes) ≡ n.len = length-take-le n.len n.bytes (subst (λ (m : ℕ). n.len ≤ m) (sym h.whole) h.within) in
-    let b : take n.len n.bytes ++ replicate (32 - length (take n.len n.bytes)) 0 ≡ n.bytes = rw e (sym h.zeros) in
+    let text : List ℕ = name_text n in
+    let b : text ++ replicate (32 - length text) 0 ≡ n.bytes = rw e (sym h.zeros) in
     let one : List ℕ → Inside = λ x. record { bytes = x; len = length (take n.len n.bytes) } in
     let two : ℕ → Inside = λ y. record { bytes = n.bytes; len = y } in
     ap one b ∙ ap two e

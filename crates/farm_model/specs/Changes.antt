@@ -68,16 +68,22 @@ abbrev pub with_new_judging : State → Class → ℕ → JudgingDetails → Sta
 with_new_judging s class cells judged =
     record s { judge = add_judging s.judge class cells; details = s.details ++ judged ∷ [] }
 
+abbrev pub submission_as : ℕ → Bool → ℕ → Submission
+submission_as problem broken current = record { problem = problem; broken = broken; current = current }
+
 -- a submission whose current judging is the next one
 abbrev pub with_submission : State → ℕ → Bool → State
 with_submission s problem broken = record s {
-  submissions = s.submissions ++ (record { problem = problem; broken = broken; current = length s.judge.judgings + 1 }) ∷ [];
+  submissions = s.submissions ++ submission_as problem broken (length s.judge.judgings + 1) ∷ [];
 }
 
 -- a submission and its current judging
 abbrev pub submitted : State → ℕ → Class → Bool → State
 submitted s problem class broken =
     with_new_judging (with_submission s problem broken) class (cells_for s.problems problem broken) (details_of (length s.submissions + 1) None)
+
+abbrev pub submitted_reply : State → Reply
+submitted_reply s = reply.Submitted (length s.submissions + 1) (length s.judge.judgings + 1)
 
 -- Rejudgings
 
@@ -147,7 +153,7 @@ accepted s (event.Replace who name tests) = let n = number_or_0 (problem_number 
     (logged (with_version s n tests) (event.Replace who name tests), reply.Problem name (version_of s.problems n + 1))
 accepted s (event.Host name) = (with_host s name, reply.Host name)
 accepted s (event.Submit problem class broken) =
-    (submitted s (number_or_0 (problem_number s.problems problem)) class broken, reply.Submitted (length s.submissions + 1) (length s.judge.judgings + 1))
+    (submitted s (number_or_0 (problem_number s.problems problem)) class broken, submitted_reply s)
 accepted s (event.Claim host) = by_judge s claim_reply (judge_claim s.judge (number_or_0 (up_number s.hosts host)))
 accepted s (event.Result host j test kind) = by_judge s (count_reply j test) (judge_result s.judge j test kind)
 accepted s (event.Entry j test kind) = by_judge s (count_reply j test) (judge_enter s.judge j test kind)

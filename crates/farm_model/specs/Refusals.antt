@@ -149,7 +149,8 @@ refusal_of s (event.Claim host) = first_of (
 refusal_of s (event.Result host j test kind) = first_of (
     no_host s.hosts host
     ∷ option_map (count_reply j test) (result_refusal s.judge.judgings j test (remap_of s.judge.rule kind)) ∷ [])
-refusal_of s (event.Entry j test kind) = option_map (count_reply j test) (entry_refusal s.judge.judgings j test (remap_of s.judge.rule kind))
+refusal_of s (event.Entry j test kind) =
+    option_map (count_reply j test) (entry_refusal s.judge.judgings j test (remap_of s.judge.rule kind))
 refusal_of s (event.Renew host j test) = first_of (
     no_host s.hosts host
     ∷ option_map (renewed_reply j test) (renew_refusal s.judge (number_or_0 (up_number s.hosts host)) j test) ∷ [])
