@@ -218,6 +218,3 @@ known_at text (suc n) within passes =
 
 pub known_front : (text : List ℕ) (len : ℕ) → IsInToken text len → len + prefix_len is_token_byte (take (length text - len) (drop len text)) ≡ prefix_len is_token_byte text
 known_front text len known = rw (take_rest text len) (sym (known_at text len known.within known.passes))
-
-pub none_known : (text : List ℕ) → IsInToken text 0
-none_known text = record { within = omega arith; passes = λ k lt. absurd (omega arith) }

@@ -21,9 +21,6 @@ task_is a b h =
 same_self : (a : Task) → same_task a a ≡ true
 same_self a = and_from (eqb a.judging a.judging) (eqb a.test a.test) (eq-eqb a.judging a.judging refl) (eq-eqb a.test a.test refl)
 
-pub no_leases : IsSinglyLeased []
-no_leases = record { most = λ task. omega arith }
-
 pub some_of : (p : Lease → Bool) (xs : List Lease) → IsSinglyLeased xs → IsSinglyLeased (filter p xs)
 some_of p xs h = record { most = λ task. omega (arith, count_parts p (on task) xs, h.most task) }
 

@@ -19,15 +19,6 @@ pub record IsSeen (list places : List ℕ) (at : ℕ) : Type 0 where
   pub there : (k : ℕ) → k < at → has earlier (get_or list k 0) ≡ true
   pub written : (k : ℕ) → k < at → get_or places (get_or list k 0 - 1) 0 ≡ k
 
-pub none_seen : (list places : List ℕ) → IsSeen list places 0
-none_seen list places = record {
-  earlier = [];
-  rest = refl;
-  among = λ m h. cc;
-  there = λ k l. absurd (omega arith);
-  written = λ k l. absurd (omega arith);
-}
-
 -- one step of the search
 step : (list earlier : List ℕ) (at : ℕ) → at < length list → first_twice_after earlier (drop at list) ≡ cond (has earlier (get_or list at 0)) (Some (get_or list at 0)) (first_twice_after (get_or list at 0 ∷ earlier) (drop (at + 1) list))
 step list earlier at l = at_drop_more (first_twice_after earlier) list at 0 l
