@@ -6,6 +6,7 @@ use crate::replies::{claim_reply, count_reply, renewed_reply};
 use farm_kinds::{Kind, Name, Reply};
 
 impl Contest {
+    /// A host asks for a task, which it then holds for as long as the settings say.
     pub fn claim(&mut self, host: Name) -> Reply
         ensures { Stepped self.old (events.Claim host) self.new result }
     {
@@ -15,6 +16,7 @@ impl Contest {
         }
     }
 
+    /// A host's result of a task that was handed out; it counts also after the host's lease ended.
     pub fn result(&mut self, host: Name, judging: u32, test: u32, kind: Kind) -> Reply
         ensures { Stepped self.old (events.Result host judging test kind) self.new result }
     {
@@ -24,12 +26,14 @@ impl Contest {
         }
     }
 
+    /// A result from outside, also of a task that was never handed out.
     pub fn enter(&mut self, judging: u32, test: u32, kind: Kind) -> Reply
         ensures { Stepped self.old (events.Entry judging test kind) self.new result }
     {
         count_reply(judging, test, self.judge.enter(judging, test, kind))
     }
 
+    /// A host asks to hold its task for as long again, from now on.
     pub fn renew(&mut self, host: Name, judging: u32, test: u32) -> Reply
         ensures { Stepped self.old (events.Renew host judging test) self.new result }
     {
@@ -39,6 +43,7 @@ impl Contest {
         }
     }
 
+    /// Time goes on to this moment, in seconds, and leases end. Time does not go back.
     pub fn tick(&mut self, moment: u64) -> Reply
         ensures { Stepped self.old (events.Tick moment) self.new result }
     {

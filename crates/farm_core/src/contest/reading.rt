@@ -8,6 +8,7 @@ use crate::places::is_verified;
 use farm_kinds::{Answer, Answers, NoMemory, Reply};
 
 impl Contest {
+    /// What the jury sees of a judging.
     pub fn show(&self, judging: u32) -> Reply
         ensures { Stepped self.now (events.Show judging) self.now result }
     {
@@ -17,6 +18,7 @@ impl Contest {
         }
     }
 
+    /// What the public sees of each submission. `NoMemory` where its rows find no room.
     pub fn board(&self) -> Reply
         ensures { Stepped self.now events.Board self.now result }
     {

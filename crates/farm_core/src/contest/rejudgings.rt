@@ -140,6 +140,7 @@ impl Contest {
         })
     }
 
+    /// How the answers of a rejudging differ from the old ones. `NoMemory` where its rows find no room.
     pub fn matrix(&self, rejudging: u32) -> Reply
         ensures { Stepped self.now (events.Matrix rejudging) self.now result }
     {

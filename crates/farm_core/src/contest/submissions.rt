@@ -10,6 +10,7 @@ use farm_kinds::{Class, MAX_JUDGINGS, MAX_SUBMISSIONS, Name, NoMemory, Reply};
 use farm_model::{JudgingDetails, Submission};
 
 impl Contest {
+    /// A submission to a problem, with its judging. At `NoMemory` nothing changes.
     pub fn submit(&mut self, problem: Name, class: Class, broken: bool) -> Reply
         ensures { Stepped self.old (events.Submit problem class broken) self.new result }
     {
