@@ -7,3 +7,4 @@ pub mod Finishing
 pub mod Pausing
 pub mod Outputs
 pub mod Repeating
+pub mod Placing

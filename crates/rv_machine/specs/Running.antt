@@ -1,4 +1,4 @@
-use Rattle.std.specs.Prelude.{◌≡◌, ℕ, ◌+◌, ◌^◌, ◌<◌, ◌≤◌, true, List, Option, Some, None, Result, Ok, Err, if◌then◌else◌}
+use Rattle.std.specs.Prelude.{◌≡◌, ℕ, ◌+◌, ◌^◌, ◌<◌, ◌≤◌, true, List, length, Option, Some, None, Result, Ok, Err, if◌then◌else◌}
 use Rattle.farm_kinds.specs.declared.Limits.{Limits}
 use Rattle.farm_kinds.specs.declared.NoMemory.{NoMemory}
 use Rattle.rv_memory.specs.Paged as memory
@@ -8,7 +8,7 @@ use Rattle.rv_machine.specs.declared.processor.Stop.{Stop}
 use Rattle.rv_machine.specs.declared.processor.Stop.TheVariants as stop
 use Rattle.rv_machine.specs.Inputs.{Inputs}
 use Rattle.rv_machine.specs.Storage.{Storage, hart_of}
-use Rattle.rv_machine.specs.Stepping.{State, Outcome, Next, End, Finish, system_call, onward, finish, bare, opening, is_too_large}
+use Rattle.rv_machine.specs.Stepping.{State, Outcome, Next, End, Finish, system_call, onward, finish, start, filled, bare, opening, is_too_large}
 
 -- a machine: where it stands, and what it answered once it had run
 pub record Run : Type 0 where
@@ -20,6 +20,21 @@ abbrev pub loaded : List ℕ → Limits → Inputs → Run
 loaded image limits inputs =
     if is_too_large image limits then record { state = bare limits inputs; answer = Some (Ok Memory) }
     else record { state = opening image limits inputs; answer = None }
+
+-- a machine that has not run, with nothing in memory, whose program begins at an address
+abbrev pub blank : ℕ → Limits → Inputs → Run
+blank entry limits inputs = record { state = start entry limits inputs; answer = None }
+
+-- bytes are put at an address; where their pages are not within the limit, that is the answer, and a machine that has its
+-- answer stays as it is
+abbrev pub placed_where : Option (Result Ending NoMemory) → ℕ → List ℕ → Run → Run
+placed_where None at bytes r =
+    if memory.fits r.state.hart.memory at (length bytes) then record r { state = filled at bytes r.state }
+    else record r { answer = Some (Ok Memory) }
+placed_where (Some answer) at bytes r = r
+
+abbrev pub placed : ℕ → List ℕ → Run → Run
+placed at bytes r = placed_where r.answer at bytes r
 
 abbrev pub finish_from : Option (Result Ending NoMemory) → State → Finish
 finish_from None s = finish s

@@ -103,22 +103,30 @@ finish_within (suc n) s = onward (finish_within n) (machine_step s)
 unfoldable pub finish : State → Finish
 finish s = finish_within (s.limits.instructions - s.cost) s
 
--- the start, with nothing in memory
-abbrev pub bare : Limits → Inputs → State
-bare limits inputs =
+-- the start of a program at an address, with nothing in memory
+abbrev pub start : ℕ → Limits → Inputs → State
+start entry limits inputs =
     record {
       limits = limits;
-      hart = record { regs = first_regs; pc = 0x10000; memory = record { limit = limits.pages; pages = [] } };
+      hart = record { regs = first_regs; pc = entry; memory = record { limit = limits.pages; pages = [] } };
       inputs = inputs;
       output = [];
       cost = 0;
     }
 
+-- bytes stand at an address, and their pages are touched
+abbrev pub filled : ℕ → List ℕ → State → State
+filled at bytes s =
+    let t = touched s at (length bytes) in
+    record t { hart = record t.hart { memory = memory.store_bytes t.hart.memory at bytes } }
+
+-- the start of a raw image, with nothing in memory
+abbrev pub bare : Limits → Inputs → State
+bare limits inputs = start 0x10000 limits inputs
+
 -- the image stands at 0x10000
 abbrev pub opening : List ℕ → Limits → Inputs → State
-opening image limits inputs =
-    let s = touched (bare limits inputs) 0x10000 (length image) in
-    record s { hart = record s.hart { memory = memory.store_bytes s.hart.memory 0x10000 image } }
+opening image limits inputs = filled 0x10000 image (bare limits inputs)
 
 abbrev pub is_too_large : List ℕ → Limits → Bool
 is_too_large image limits = not (memory.fits (record { limit = limits.pages; pages = [] }) 0x10000 (length image))

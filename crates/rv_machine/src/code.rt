@@ -253,6 +253,9 @@ pub fn forget_all(code: &mut Code, memory: &Memory, at: u32, bytes: &[u8])
     ensures fresh { (m : paged.State) → decoded.IsCode m code.old → paged.AllTouched m at (length bytes.now) → memory.now ≡ paged.store_bytes m at bytes.now → decoded.IsCode memory.now code.new }
     ensures numbers { code.new.numbers ≡ code.old.numbers }
 {
+    if code.numbers.is_empty() {
+        return;
+    }
     let mut done = 0;
     while done < bytes.len() {
         let here = at + done as u32;

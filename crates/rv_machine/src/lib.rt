@@ -13,5 +13,5 @@ mod tests;
 
 pub use ending::{Ending, Trap};
 pub use files::{Extra, Files};
-pub use laws::finish_is_the_first_ending;
+pub use laws::{an_image_is_placed, finish_is_the_first_ending};
 pub use machine::Machine;

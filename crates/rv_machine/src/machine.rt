@@ -49,6 +49,7 @@ impl<'a> Machine<'a> {
 
     /// A machine at the start of a run: the image stands at 0x10000, where the program begins, and the stack pointer
     /// is 0x7FFFFFF0. An image of more pages than the limit is not loaded, and its run ends as `Ending::Memory`.
+    #[tactic(auto, using(crate::proofs::Placing::loads_by_placing))]
     pub fn load(
         alloc: Global,
         image: &[u8],
@@ -59,25 +60,49 @@ impl<'a> Machine<'a> {
         ensures value { IfOk result (λ m. m ≡ running.loaded image.now limits (inputs_of files.entry)) }
         ensures run { IfOk result (λ m. running.finish_of m ≡ stepping.run_of image.now limits (inputs_of files.entry)) }
     {
-        let mut memory = Memory::new(alloc, limits.pages);
-        let mut answer = Some(Ok(Ending::Memory));
-        if memory.fits(BASE, image.len() as u32) {
-            match memory.touch_range(BASE, image.len() as u32) {
-                Ok(()) => memory.copy_in(BASE, image),
-                Err(_) => return Err(NoMemory),
-            }
-            answer = None;
-        }
-        Ok(Machine {
+        let mut machine = Machine::blank(alloc, limits, files, BASE);
+        machine.place(BASE, image)?;
+        Ok(machine)
+    }
+
+    /// A machine with nothing in memory, whose program begins at `entry`; the stack pointer is 0x7FFFFFF0.
+    pub fn blank(alloc: Global, limits: Limits, files: Files<'a>, entry: u32) -> Machine<'a>
+        requires { entry % 4 ≡ 0 }
+        ensures { result ≡ running.blank entry limits (inputs_of files.entry) }
+    {
+        Machine {
             limits,
-            processor: Processor::new(memory),
+            processor: Processor::new(Memory::new(alloc, limits.pages)),
             code: Code::new(alloc),
-            pc: BASE,
+            pc: entry,
             cost: 0,
             files,
             output: Vec::new(alloc),
-            answer,
-        })
+            answer: None,
+        }
+    }
+
+    /// Puts bytes at an address, and touches their pages. Where these are more than the limit nothing is put, and the
+    /// run ends as `Ending::Memory` before its first instruction; after `NoMemory` it ends as that. A machine that has
+    /// ended, by its run or by such a call, stays as it is.
+    pub fn place(&mut self, at: u32, bytes: &[u8]) -> Result<(), NoMemory>
+        requires { at + length bytes.now ≤ 2 ^ 32 }
+        ensures placed { OnOk result (self.new ≡ running.placed at bytes.now self.old) }
+        ensures refused { IfErr result (λ error. self.new ≡ record self.old { answer = Some (Err error) }) }
+        ensures waits { OnErr result (self.old.answer ≡ None) }
+    {
+        if let Some(_) = self.answer {
+            return Ok(());
+        }
+        if !self.processor.fits(at, bytes.len() as u64) {
+            self.answer = Some(Ok(Ending::Memory));
+            return Ok(());
+        }
+        let placed = self.processor.copy_in(&mut self.code, at, bytes);
+        if let Err(error) = placed {
+            self.answer = Some(Err(error));
+        }
+        placed
     }
 
     /// Runs the program to its end. Called again, it gives the same answer and changes nothing: after `NoMemory` it is
@@ -300,7 +325,7 @@ impl<'a> Machine<'a> {
         if n as u64 > self.limits.instructions - self.cost - 1 {
             return Err(Stop::Ended(Ending::Time));
         }
-        if !self.processor.fits(at, n) {
+        if !self.processor.fits(at, n as u64) {
             return Err(Stop::Ended(Ending::Memory));
         }
         Ok(())

@@ -90,7 +90,7 @@ impl Processor {
     }
 
     /// Whether the pages of n bytes at an address are within the limit, with those that were touched.
-    pub fn fits(&self, at: u32, n: u32) -> bool
+    pub fn fits(&self, at: u32, n: u64) -> bool
         requires { at + n ≤ 2 ^ 32 }
         ensures { result ≡ memory.fits self.now.memory at n }
     {
@@ -105,7 +105,7 @@ impl Processor {
         ensures code { (c : Code) → IsCode self.old.memory c → IsCode self.new.memory c }
         ensures unchanged { OnErr result (self.new ≡ self.old) }
     {
-        match self.memory.touch_range(at, n) {
+        match self.memory.touch_range(at, n as u64) {
             Ok(()) => Ok(()),
             Err(_) => Err(NoMemory),
         }
@@ -114,14 +114,13 @@ impl Processor {
     /// Puts bytes from an address on, whose pages are touched. The steps of their words are forgotten.
     pub fn copy_in(&mut self, code: &mut Code, at: u32, bytes: &[u8]) -> Result<(), NoMemory>
         requires space { at + length bytes.now ≤ 2 ^ 32 }
-        requires few { length bytes.now < 2 ^ 32 }
         requires room { memory.fits self.old.memory at (length bytes.now) ≡ true }
         requires code { IsCode self.old.memory code.old }
         ensures ok { OnOk result (self.new ≡ record self.old { memory = memory.store_bytes (memory.touch_range self.old.memory at (length bytes.now)) at bytes.now }) }
         ensures code { IsCode self.new.memory code.new }
         ensures unchanged { OnErr result (self.new ≡ self.old) }
     {
-        match self.memory.touch_range(at, bytes.len() as u32) {
+        match self.memory.touch_range(at, bytes.len() as u64) {
             Ok(()) => {
                 self.memory.copy_in(at, bytes);
                 forget_all(code, &self.memory, at, bytes);

@@ -349,3 +349,71 @@ fn descriptors(rt: HostRuntime) -> Result<(), Fail> {
     let end = (Ending::Exit(42), 30, 2);
     check(&rt, &VALIDATOR, AMPLE, files, end, b"iaf")
 }
+
+/// Exits with 0.
+const EXIT: [u32; 2] = [0x05D0_0893, 0x0000_0073];
+
+// Runs a program of which words are placed at two addresses.
+fn check_placed<R: Abort + AllocGlobal>(
+    rt: &R,
+    entry: u32,
+    first: (u32, &[u32]),
+    second: (u32, &[u32]),
+    pages: u32,
+    end: (Ending, u64, u32),
+) -> Result<(), Fail> {
+    let limits = Limits { pages, ..AMPLE };
+    assert!(rt; entry % 4 == 0);
+    let mut machine = Machine::blank(rt.alloc(), limits, reading(b""), entry);
+    for (at, words) in [first, second] {
+        let bytes = image_of(rt.alloc(), words)?;
+        assert!(rt; at as u64 + bytes.len() as u64 <= 1 << 32);
+        machine.place(at, bytes.as_slice())?;
+    }
+    assert!(rt; machine.run()? == end.0);
+    assert_eq!(rt; machine.cost(), end.1);
+    assert_eq!(rt; machine.pages(), end.2);
+    Ok(())
+}
+
+#[test]
+fn placed_bytes_are_run(rt: HostRuntime) -> Result<(), Fail> {
+    let exit = EXIT.as_slice();
+    let none = [].as_slice();
+    let done = |pages| (Ending::Exit(0), 2, pages);
+    let over = |pages| (Ending::Memory, 0, pages);
+    for (entry, first, second, pages, end) in [
+        (0x1_0054, (0x1_0054, exit), (0x1_0054, none), 1, done(1)),
+        (
+            0x1_0054,
+            (0x1_0058, &exit[1..]),
+            (0x1_0054, &exit[..1]),
+            1,
+            done(1),
+        ),
+        (0x1_0054, (0x3_0000, none), (0x1_0054, exit), 1, done(1)),
+        (0x1_0054, (0x1_0054, exit), (0x1_1000, exit), 1, over(1)),
+        (0x1_0054, (0x1_1000, exit), (0x1_0FFC, exit), 1, over(1)),
+        (0x1_0054, (0x1_0FFC, exit), (0x1_0054, exit), 1, over(0)),
+        (0x1_0FFC, (0x1_0FFC, exit), (0, none), 2, done(2)),
+        (0xFFFF_FFF8, (0xFFFF_FFF8, exit), (0, none), 1, done(1)),
+        (0x1_0054, (0x1_0054, exit), (0, exit), 2, done(2)),
+        (
+            0x2_0000,
+            (0x1_0054, exit),
+            (0, none),
+            2,
+            (Ending::Trap(Trap::Illegal), 0, 2),
+        ),
+        (
+            0x2_0000,
+            (0x1_0054, exit),
+            (0, none),
+            1,
+            (Ending::Memory, 0, 1),
+        ),
+    ] {
+        check_placed(&rt, entry, first, second, pages, end)?;
+    }
+    Ok(())
+}

@@ -172,7 +172,7 @@ impl Memory {
 
     /// Whether the pages of `count` bytes from the address on may be touched: the touched ones and the new ones
     /// together are no more than the limit. No byte, no page.
-    pub fn fits(&self, at: u32, count: u32) -> bool
+    pub fn fits(&self, at: u32, count: u64) -> bool
         requires { at + count ≤ 2 ^ 32 }
         ensures { result ≡ paged.fits self.now at count }
     {
@@ -187,7 +187,7 @@ impl Memory {
     }
 
     /// Touches the pages of `count` bytes from the address on. Want of memory leaves the memory as it was.
-    pub fn touch_range(&mut self, at: u32, count: u32) -> Result<(), AllocError>
+    pub fn touch_range(&mut self, at: u32, count: u64) -> Result<(), AllocError>
         requires space { at + count ≤ 2 ^ 32 }
         requires room { paged.fits self.old at count ≡ true }
         ensures touched { OnOk result (self.new ≡ paged.touch_range self.old at count) }
@@ -421,14 +421,14 @@ impl Memory {
 }
 
 // How many pages hold one of `count` bytes from an address on.
-fn span(at: u32, count: u32) -> u32
+fn span(at: u32, count: u64) -> u32
     requires { at + count ≤ 2 ^ 32 }
     ensures { result ≡ paged.span at count }
 {
     if count == 0 {
         0
     } else {
-        (at + (count - 1)) / 4096 - at / 4096 + 1
+        (at + (count - 1) as u32) / 4096 - at / 4096 + 1
     }
 }
 
