@@ -2,4 +2,4 @@ use Rattle.std.proofs.Common.{arith}
 use Rattle.rv_machine.proofs.machine.Machine.blank.Goals as goal
 
 pub invariant_of-result : goal.invariant_of-result
-invariant_of-result c = (c.requires, rw c.new-4.ensures.items (omega arith), c.new-3.ensures.code c.new-2.result.memory)
+invariant_of-result c = (omega (arith, c.requires), rw c.new-4.ensures.items (omega arith), c.new-3.ensures.code c.new-2.result.memory)
