@@ -19,6 +19,9 @@ const UNDECODED: Instr = Instr {
     imm: 0,
 };
 
+// A page of which no word is decoded. It is copied as it stands; one that is made on the spot is filled and then copied.
+static BLANK: [Instr; 1024] = [UNDECODED; 1024];
+
 /// The decoded pages: those to which control came, word by word as it comes to them.
 #[derive(Drop)]
 pub struct Code {
@@ -224,7 +227,7 @@ fn add(code: &mut Code, place: usize, number: u32) -> Result<usize, AllocError>
     code.numbers.reserve(1)?;
     code.steps.reserve(1)?;
     code.numbers.push_reserved(number);
-    code.steps.push_reserved(blank());
+    code.steps.push_reserved(*blank());
     code.marks[place] = n + 1;
     Ok(n)
 }
@@ -241,10 +244,10 @@ fn extend_with_zeros(marks: &mut Vec<usize>, place: usize) -> Result<(), AllocEr
 }
 
 #[tactic(auto, unfolding(crate::specs::Decoded::blank))]
-fn blank() -> [Instr; 1024]
-    ensures { result ≡ decoded.blank }
+fn blank() -> &'static [Instr; 1024]
+    ensures { result.now ≡ decoded.blank }
 {
-    [UNDECODED; 1024]
+    &BLANK
 }
 
 /// Forgets the steps of the words of the bytes that were put into memory from an address on.

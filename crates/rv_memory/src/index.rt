@@ -73,7 +73,7 @@ impl PageIndex {
         ensures leaf { IfOk result (λ l. (paging.has_leaf self.new region ≡ true) × (l ≡ paging.top self.new region) × (l < length self.new.leaves.items)) }
         ensures kept { (q k : ℕ) → paging.entry self.old q ≡ Some k → paging.entry self.new q ≡ Some k }
     {
-        extend_with_zeros(&mut self.tops)?;
+        extend_with_zeros(&mut self.tops, region as usize + 1)?;
         let leaf = self.leaves.len();
         self.leaves.push(Leaf {
             region,
@@ -107,15 +107,15 @@ impl PageIndex {
     }
 }
 
-// Makes the table of the regions as long as it may be; a region that had no entry has 0, as before.
+// Makes the table of the regions at least so long; a region that had no entry has 0, as before.
 #[tactic(auto, using(crate::proofs::Paging::zero_pushed))]
-fn extend_with_zeros(tops: &mut Vec<usize>) -> Result<(), AllocError>
+fn extend_with_zeros(tops: &mut Vec<usize>, size: usize) -> Result<(), AllocError>
     ensures same { (r : ℕ) → get_or tops.new.items r 0 ≡ get_or tops.old.items r 0 }
-    ensures size { OnOk result (1024 ≤ length tops.new.items) }
+    ensures size { OnOk result (size ≤ length tops.new.items) }
 {
     let len = tops.len();
-    tops.reserve(1024_usize.saturating_sub(len))?;
-    for _k in len..1024 {
+    tops.reserve(size.saturating_sub(len))?;
+    for _k in len..size {
         tops.push(0)?;
     }
     Ok(())

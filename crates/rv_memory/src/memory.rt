@@ -20,8 +20,8 @@ pub enum MemFault {
 
 /// The memory of a machine: 2^32 bytes, in pages of 4,096 that are made, as zeros, when they are touched.
 ///
-/// A new memory holds no page. The first access makes two tables of 24 KiB together; each new page takes its bytes,
-/// and 4 KiB of index for each 4 MiB of addresses that are used.
+/// A new memory holds no page. The second page makes a table of 16 KiB; each new page takes its bytes, and 4 KiB of
+/// index for each 4 MiB of addresses that are used.
 #[derive(Drop)]
 pub struct Memory {
     alloc: Global,
@@ -413,7 +413,10 @@ impl Memory {
         ensures unchanged { OnErr result (self.new ≡ self.old) }
     {
         let n = self.pages.len();
-        make_recent(self.alloc, &mut self.recent)?;
+        // The first page is guessed without a table.
+        if n > 0 {
+            make_recent(self.alloc, &mut self.recent)?;
+        }
         add_page(&mut self.index, &mut self.pages, number)?;
         remember(&mut self.recent, number, n);
         Ok(())

@@ -20,7 +20,7 @@ returns-clause-code c =
     let count : c.len-n.result ≡ length code.numbers.items = omega arith in
     added m code _ marks c.args.place c.args.number w t e n
     (c.push_reserved.ensures.items ∙ ap (λ (xs : List ℕ). xs ++ c.args.number ∷ []) c.reserve.ensures.items)
-    (c.push_reserved-2.ensures.items ∙ ap (λ (xs : List (List Instr)). xs ++ c.blank.result ∷ []) c.reserve-2.ensures.items ∙ ap (λ (x : List Instr). code.steps.items ++ x ∷ []) c.blank.ensures)
+    (c.push_reserved-2.ensures.items ∙ ap (λ (xs : List (List Instr)). xs ++ c.blank.result.now ∷ []) c.reserve-2.ensures.items ∙ ap (λ (x : List Instr). code.steps.items ++ x ∷ []) c.blank.ensures)
     (ap (λ (x : ℕ). set marks c.args.place (x + 1)) count)
     c.in_ok-extend_with_zeros.ensures.size
     c.extend_with_zeros.ensures.same
