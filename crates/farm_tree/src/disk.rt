@@ -134,7 +134,7 @@ fn read_file<R: Files>(files: &R, alloc: Global, path: &str) -> Result<Text, Tre
     let about = file.metadata().map_err(meaning)?;
     match refusal(&about) {
         Some(refused) => Err(refused),
-        None => read_whole(file, alloc),
+        None => read_whole(file, about.len(), alloc),
     }
 }
 
@@ -152,12 +152,13 @@ fn refusal(about: &Metadata) -> Option<TreeErr>
     None
 }
 
-/// All bytes of a file, which may have grown since its metadata was asked for.
-pub(crate) fn read_whole<F: Read + Drop>(file: F, alloc: Global) -> Result<Text, TreeErr>
+/// All bytes of a file, which may have grown since its metadata told this length.
+pub(crate) fn read_whole<F: Read + Drop>(file: F, len: u64, alloc: Global) -> Result<Text, TreeErr>
     ensures short { IfOk result (λ bytes. length bytes ≤ file_limit) }
     ensures whole { IfOk result (λ bytes. IfSome (F.remaining file) (λ left. bytes ≡ left)) }
 {
-    let bytes = read_front(file, FILE_LIMIT as u64 + 1, alloc)?;
+    let limit = FILE_LIMIT as u64 + 1;
+    let bytes = read_front(file, len, limit, alloc)?;
     let len = bytes.len() as u64;
     if len > FILE_LIMIT as u64 {
         return Err(TreeErr::TooLarge { len });
@@ -165,11 +166,18 @@ pub(crate) fn read_whole<F: Read + Drop>(file: F, alloc: Global) -> Result<Text,
     Ok(Text::from_vec(bytes))
 }
 
-/// So many bytes of a file, or all where it has no more.
-fn read_front<F: Read + Drop>(file: F, limit: u64, alloc: Global) -> Result<Vec<u8>, TreeErr>
+/// So many bytes of a file, or all where it has no more. They are read into place where it has the length that was
+/// told: the room for one byte more is where its end is met.
+fn read_front<F: Read + Drop>(
+    file: F,
+    told: u64,
+    limit: u64,
+    alloc: Global,
+) -> Result<Vec<u8>, TreeErr>
     ensures { IfOk result (λ bytes. IfSome (F.remaining file) (λ left. bytes.items ≡ take limit left)) }
 {
-    let mut bytes = Vec::new(alloc);
+    let room = told.saturating_add(1).min(limit);
+    let mut bytes = Vec::with_capacity(alloc, room as usize).map_err(|_| TreeErr::NoMemory)?;
     match file.take(limit).read_to_end(&mut bytes) {
         Ok(_) => Ok(bytes),
         Err(error) => Err(meaning(error)),

@@ -229,13 +229,18 @@ impl Read for Torn {
 
 #[test]
 fn a_file_that_tears_is_not_given(rt: HostRuntime) -> Result<(), Fail> {
-    assert!(rt; fails(&read_whole(Torn { reads: 0 }, rt.alloc()), TreeErr::Failed));
+    assert!(rt;
+        fails(
+            &read_whole(Torn { reads: 0 }, 100, rt.alloc()),
+            TreeErr::Failed
+        )
+    );
     Ok(())
 }
 
 #[test]
 fn a_file_that_grows_is_too_large(rt: HostRuntime) -> Result<(), Fail> {
-    let endless = read_whole(io::repeat(b'x'), rt.alloc());
+    let endless = read_whole(io::repeat(b'x'), 100, rt.alloc());
     assert!(rt; fails(&endless, TreeErr::TooLarge { len: 16_777_217 }));
     Ok(())
 }

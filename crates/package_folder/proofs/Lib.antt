@@ -4,3 +4,4 @@ pub mod Strings
 pub mod Walks
 pub mod Answering
 pub mod Validators
+pub mod Searches

@@ -9,14 +9,11 @@ use Rattle.std.specs.List.Sorted.{IsStrictlySortedBy}
 use Rattle.std.proofs.lemmas.Cmp.{tied_itself}
 use Rattle.std.proofs.lemmas.List.Elements.{All-from_recursion, recursion_from_All, All-contains}
 use Rattle.std.proofs.lemmas.Map.Keys.{sorted_head, sorted_tail}
-use Rattle.package_folder.specs.Order.{compare_bytes, put_at, put_in, in_order}
+use Rattle.package_folder.specs.Order.{compare_bytes, IsRising, put_at, put_in, in_order}
 use Rattle.package_folder.proofs.Members.{first_in, later_in, first_or_later, none_in, all_of}
 
 abbrev pub Text : Type 0
 Text = List ℕ
-
-abbrev pub IsRising : List Text → Type 0
-IsRising texts = IsStrictlySortedBy compare_bytes texts
 
 pub rising_none : IsRising []
 unfolding IsStrictlySortedBy
@@ -36,14 +33,14 @@ tail_rising x xs rising = sorted_tail compare_bytes x xs rising
 
 -- ---- what the comparison says
 
-equal_texts : (x y : Text) → compare_bytes x y ≡ Equal → x ≡ y
+pub equal_texts : (x y : Text) → compare_bytes x y ≡ Equal → x ≡ y
 equal_texts x y e = same_text x y (sym (texts_ties x y ∙ ap is_eq e))
 
 not_both : (x y : Text) → compare_bytes x y ≡ Less → compare_bytes y x ≡ Less → ⊥
 not_both x y a b =
     let e : Less ≡ Greater = sym a ∙ nat_list_cmp_total.antisymm x y ∙ ap ordering_reverse b in cc
 
-not_itself : (x y : Text) → compare_bytes x y ≡ Less → x ≡ y → ⊥
+pub not_itself : (x y : Text) → compare_bytes x y ≡ Less → x ≡ y → ⊥
 not_itself x y a e =
     let itself : compare_bytes x x ≡ Equal = tied_itself nat_list_cmp_total x in
     let same : compare_bytes x x ≡ Less = subst (λ z. compare_bytes x z ≡ Less) (sym e) a in

@@ -12,10 +12,10 @@ use Rattle.std.proofs.lemmas.List.{map-append}
 use Rattle.std.proofs.lemmas.List.Kept.{IsStrictlySortedBy-dedup, Any-dedup, Contains-from_dedup}
 use Rattle.std.proofs.lemmas.List.Sorted.{Contains-permutation, IsPermutation-sym}
 use Rattle.std.proofs.lemmas.Map.Keys.{sorted_head, sorted_tail}
-use Rattle.package_folder.specs.Order.{compare_bytes, in_order}
+use Rattle.package_folder.specs.Order.{compare_bytes, IsRising, in_order}
 use Rattle.package_folder.specs.Paths.{texts}
 use Rattle.package_folder.proofs.Members.{in_map, from_map}
-use Rattle.package_folder.proofs.Ordered.{IsRising, rising_none, rising_cons, in_order_is}
+use Rattle.package_folder.proofs.Ordered.{rising_none, rising_cons, in_order_is}
 
 abbrev pub Str : Type 0
 Str = String Global

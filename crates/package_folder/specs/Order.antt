@@ -2,11 +2,16 @@
 use Rattle.std.specs.Prelude.{ℕ, List, [], ◌∷◌}
 use Rattle.std.specs.Ordering.{nat_cmp}
 use Rattle.std.specs.Cmp.Lexicographic.{slice_cmp}
+use Rattle.std.specs.List.Sorted.{IsStrictlySortedBy}
 use Rattle.std.specs.declared.cmp.Ordering.{Ordering}
 use Rattle.std.specs.declared.cmp.Ordering.TheVariants.{Less, Equal, Greater}
 
 abbrev pub compare_bytes : List ℕ → List ℕ → Ordering
 compare_bytes = slice_cmp nat_cmp
+
+-- texts in that order, each once
+abbrev pub IsRising : List (List ℕ) → Type 0
+IsRising texts = IsStrictlySortedBy compare_bytes texts
 
 -- the text before the first of the others, or behind it, where `rest` is the others with it
 abbrev pub put_at : Ordering → List ℕ → List ℕ → List (List ℕ) → List (List ℕ) → List (List ℕ)

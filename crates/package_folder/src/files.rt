@@ -11,7 +11,7 @@ use farm_tree::{Tree, TreeErr};
 use std::alloc::Global;
 
 /// The path of what has this name in the folder.
-pub(crate) fn in_folder(alloc: Global, folder: &str, name: &str) -> Result<String, NoMemory>
+pub fn in_folder(alloc: Global, folder: &str, name: &str) -> Result<String, NoMemory>
     ensures { IfOk result (λ path. string_bytes path ≡ in_folder folder.now name.now) }
 {
     let mut path = String::from_str(alloc, folder)?;
@@ -30,7 +30,7 @@ pub(crate) fn with_ending(alloc: Global, text: &str, ending: &str) -> Result<Str
 }
 
 /// The bytes again.
-pub(crate) fn copy(alloc: Global, bytes: &[u8]) -> Result<Text, NoMemory>
+pub fn copy(alloc: Global, bytes: &[u8]) -> Result<Text, NoMemory>
     ensures { IfOk result (λ text. text ≡ bytes.now) }
 {
     Ok(Text::from_vec(bytes.to_vec(alloc)?))

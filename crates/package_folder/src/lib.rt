@@ -13,6 +13,8 @@ mod tests;
 mod walk;
 mod worked;
 
+pub use files::{copy, in_folder};
+pub use order::Paths;
 pub use package::{Checker, Package, PackageFault, Test, Tests};
 pub use reading::read_package;
 pub use worked::{worked_folder, worked_tests, worked_validators};

@@ -1,16 +1,17 @@
 ghost use Rattle.std.specs.Prelude.{◌≡◌, ◌++◌, ◌∷◌, [], ◌==◌, length, OnOk, string_bytes};
 ghost use Rattle.std.specs.Str.{bytes_eq};
 ghost use Rattle.std.specs.List.{list_any};
-ghost use Rattle.package_folder.specs.Order.{in_order};
+ghost use Rattle.package_folder.specs.Order.{compare_bytes, in_order, IsRising};
 ghost use Rattle.package_folder.specs.Paths.{texts};
 
 use farm_kinds::NoMemory;
 use std::alloc::Global;
+use std::cmp::Ordering;
 use std::marker::Model;
 
-/// Paths, each a text. Contracts see a list of their bytes.
+/// Paths or names of files, each a text. Contracts see a list of their bytes.
 #[derive(Debug, Drop)]
-pub(crate) struct Paths {
+pub struct Paths {
     paths: Vec<String>,
 }
 
@@ -25,7 +26,7 @@ impl Model for Paths {
 
 impl Paths {
     /// No paths.
-    pub(crate) fn new(alloc: Global) -> Paths
+    pub fn new(alloc: Global) -> Paths
         ensures { result ≡ [] }
     {
         Paths {
@@ -34,7 +35,7 @@ impl Paths {
     }
 
     /// Adds a path at the end.
-    pub(crate) fn push(&mut self, path: String) -> Result<(), NoMemory>
+    pub fn push(&mut self, path: String) -> Result<(), NoMemory>
         ensures { OnOk result (self.new ≡ self.old ++ string_bytes path ∷ []) }
     {
         self.paths.push(path).map_err(|_| NoMemory)
@@ -48,38 +49,50 @@ impl Paths {
     }
 
     /// How many there are.
-    pub(crate) fn len(&self) -> usize
+    pub fn len(&self) -> usize
         ensures { result ≡ length self.now }
     {
         self.paths.len()
     }
 
     /// The paths in order.
-    pub(crate) fn as_slice(&self) -> &[String]
+    pub fn as_slice(&self) -> &[String]
         ensures { texts result.now ≡ self.now }
     {
         self.paths.as_slice()
     }
 
-    /// Whether the path is among them.
+    /// Whether the path is among them, which are in the order of their bytes.
     pub(crate) fn has(&self, path: &str) -> bool
+        requires { IsRising self.now }
         ensures { result ≡ list_any (bytes_eq path.now) self.now }
     {
         has_text(&self.paths, path)
     }
 
     /// Puts the paths in the order of their bytes, each once.
-    pub(crate) fn put_in_order(&mut self)
-        ensures { self.new ≡ in_order self.old }
+    pub fn put_in_order(&mut self)
+        ensures order { self.new ≡ in_order self.old }
+        ensures rising { IsRising self.new }
     {
         self.paths.sort_unstable();
         self.paths.dedup();
     }
 }
 
-/// Whether one of the strings is the text.
+/// Whether one of the strings is the text, where they are in the order of their bytes.
 fn has_text(strings: &[String], text: &str) -> bool
-    ensures { result ≡ list_any (λ string. bytes_eq text.now (string_bytes string)) strings.now }
+    requires { IsRising (texts strings.now) }
+    ensures { result ≡ list_any (bytes_eq text.now) (texts strings.now) }
 {
-    strings.iter().any(|string| text == string.as_str())
+    strings
+        .binary_search_by(|string| compare(string, text))
+        .is_ok()
+}
+
+/// How the bytes of the string stand to those of the text.
+fn compare(string: &String, text: &str) -> Ordering
+    ensures { result ≡ compare_bytes (string_bytes string.now) text.now }
+{
+    string.as_str().cmp(text)
 }

@@ -38,10 +38,10 @@ pub fn read_package<T: Tree>(
     let yaml = read_settings(alloc, tree, path)?;
     let ms = read_limit(alloc, tree, path)?;
     let flags = read_flags(&yaml)?;
-    let data = in_folder(alloc, path, "data")?;
-    let paths = walk(alloc, tree, data.as_str())?;
-    let stems = stems_of(alloc, data.as_str(), &paths)?;
-    let tests = read_tests(alloc, tree, path, data.as_str(), stems.as_slice())?;
+    let folder = in_folder(alloc, path, "data")?;
+    let paths = walk(alloc, tree, folder.as_str())?;
+    let stems = stems_of(alloc, folder.as_str(), &paths)?;
+    let tests = read_tests(alloc, tree, path, folder.as_str(), stems.as_slice())?;
     let limits = limits(&yaml, ms, ips);
     let Yaml {
         name,
@@ -113,10 +113,10 @@ fn read_tests<T: Tree>(
     alloc: Global,
     tree: &mut T,
     path: &str,
-    data: &str,
+    folder: &str,
     stems: &[String],
 ) -> Result<Tests, PackageFault>
-    requires { data.now ≡ data_of path.now }
+    requires { folder.now ≡ data_of path.now }
     ensures tests { WhereTold (T.files tree.old) (λ files. Answers result (tests_in files path.now (texts stems.now))) }
     ensures all { IfOk result (λ tests. length tests ≡ length stems.now) }
     ensures same { T.files tree.new ≡ T.files tree.old }
@@ -126,7 +126,7 @@ fn read_tests<T: Tree>(
     let mut tests = Tests::new(alloc);
     let mut total = 0;
     for stem in stems {
-        let test = read_test(alloc, tree, path, data, stem.as_str(), &mut total)?;
+        let test = read_test(alloc, tree, path, folder, stem.as_str(), &mut total)?;
         tests.push(test)?;
     }
     Ok(tests)
@@ -137,11 +137,11 @@ fn read_test<T: Tree>(
     alloc: Global,
     tree: &mut T,
     path: &str,
-    data: &str,
+    folder: &str,
     stem: &str,
     total: &mut u64,
 ) -> Result<Test, PackageFault>
-    requires data { data.now ≡ data_of path.now }
+    requires folder { folder.now ≡ data_of path.now }
     requires total { total.old ≤ total_limit }
     ensures test { WhereTold (T.files tree.old) (λ files. IfOk result (λ test. test ≡ test_at files path.now stem.now)) }
     ensures total { WhereTold (T.files tree.old) (λ files. Answers (total_or total.new result) (total_with_test files path.now total.old stem.now)) }
@@ -150,7 +150,7 @@ fn read_test<T: Tree>(
     ensures later { T.faults tree.old ≤ T.faults tree.new }
     ensures cause { result ≡ Err PackageFault.Tree → Rose (T.faults tree.old) (T.faults tree.new) }
 {
-    let name = name_below(alloc, data, stem)?;
+    let name = name_below(alloc, folder, stem)?;
     let input = with_ending(alloc, stem, ".in")?;
     let input = read_test_file(alloc, tree, path, input.as_str(), &name, total)?;
     let answer = with_ending(alloc, stem, ".ans")?;

@@ -1,6 +1,7 @@
 ghost use Rattle.std.specs.Prelude.{◌≡◌, ◌≢◌, ◌≤◌, ℕ, List, IfOk, find, length, option_map, codes};
 ghost use Rattle.farm_tree.specs.Listing.{in_folder};
 ghost use Rattle.package_folder.specs.Told.{Answers};
+ghost use Rattle.package_folder.specs.Order.{IsRising};
 ghost use Rattle.package_folder.specs.Paths.{texts};
 ghost use Rattle.package_folder.specs.Names.{name_below, is_below, is_groups, stem_of, stems_among, stems_of, lacks_answer, counted, without_in, test_limit};
 
@@ -15,6 +16,7 @@ const TEST_LIMIT: usize = 1000;
 
 /// The tests that the files below the folder make, or the first fault among their paths.
 pub(crate) fn stems_of(alloc: Global, folder: &str, paths: &Paths) -> Result<Paths, PackageFault>
+    requires { IsRising paths.now }
     ensures stems { Answers result (stems_of folder.now paths.now) }
     ensures some { IfOk result (λ stems. 1 ≤ length stems) }
     ensures few { IfOk result (λ stems. length stems ≤ test_limit) }
@@ -123,6 +125,7 @@ fn first_lacking<'a>(
     paths: &Paths,
     stems: &'a [String],
 ) -> Result<Option<&'a str>, NoMemory>
+    requires { IsRising paths.now }
     ensures { IfOk result (λ stem. option_map (λ text. text.now) stem ≡ find (lacks_answer paths.now) (texts stems.now)) }
 {
     for stem in stems {

@@ -5,6 +5,7 @@ ghost use Rattle.farm_tree.specs.declared.entries.Entry.{Entry};
 ghost use Rattle.farm_tree.specs.Listing.{in_folder};
 ghost use Rattle.package_folder.specs.Told.{WhereTold, IsStop};
 ghost use Rattle.package_folder.specs.Names.{paths_below};
+ghost use Rattle.package_folder.specs.Order.{IsRising};
 ghost use Rattle.package_folder.specs.Walk.{Reaches, Visits, Deepens, DeepensBy, files_among, folders_among};
 
 use crate::files::in_folder;
@@ -25,6 +26,7 @@ pub(crate) fn walk<T: Tree>(
     folder: &str,
 ) -> Result<Paths, PackageFault>
     ensures paths { WhereTold (T.files tree.old) (λ files. IfOk result (λ paths. paths ≡ paths_below folder.now files)) }
+    ensures rising { IfOk result IsRising }
     ensures same { T.files tree.new ≡ T.files tree.old }
     ensures later { T.faults tree.old ≤ T.faults tree.new }
     ensures stopped { IfErr result IsStop }

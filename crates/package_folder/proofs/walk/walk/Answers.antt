@@ -18,4 +18,4 @@ pub returns-clause-paths : goal.returns-clause-paths
 returns-clause-paths g c = λ files told.
     let reached = c.levels.invariant.reaches files told in
     let end : Reaches files c.args.folder.now c.levels.found [] = subst (λ (ps : List (List ℕ)). Reaches files c.args.folder.now c.levels.found ps) (none c.levels.folders c.levels-test.ensures) reached in
-    c.put_in_order.ensures ∙ reaches_all files c.args.folder.now c.levels.found end
+    c.put_in_order.ensures.order ∙ reaches_all files c.args.folder.now c.levels.found end
