@@ -17,4 +17,4 @@ pub use files::{copy, in_folder};
 pub use order::Paths;
 pub use package::{Checker, Package, PackageFault, Test, Tests};
 pub use reading::read_package;
-pub use worked::{worked_folder, worked_tests, worked_validators};
+pub use worked::{worked_folder, worked_package, worked_tests, worked_validators};

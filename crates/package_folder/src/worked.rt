@@ -1,4 +1,7 @@
-ghost use Rattle.std.specs.Prelude.{◌≡◌, ℕ, List, [], ◌∷◌, codes, Ok, Err, true, false};
+ghost use Rattle.std.specs.Prelude.{◌≡◌, ℕ, List, [], ◌∷◌, codes, Ok, Err, None, true, false};
+ghost use Rattle.farm_kinds.specs.declared.limits.Limits.{Limits};
+ghost use Rattle.default_validator.specs.declared.flags.Flags.{Flags};
+ghost use Rattle.package_folder.specs.declared.package.Test.{Test};
 ghost use Rattle.farm_tree.specs.declared.reads.TreeFile.{TreeFile};
 ghost use Rattle.package_folder.specs.Names.{stems_of, paths_below};
 ghost use Rattle.package_folder.specs.Reading.{custom_check};
@@ -33,4 +36,15 @@ pub fn worked_validators()
 #[tactic(auto, unfolding(crate::specs::Package::package_of))]
 pub fn worked_folder()
     ensures { package_of [] (codes "p") 1000 ≡ Err PackageFault.NoYaml }
+{}
+
+/// The package of a folder with one test: the limits and the flags are the standard ones.
+#[tactic(auto, unfolding(crate::specs::Package::package_of, problem_settings::specs::ProblemYaml::yaml_of, default_validator::specs::Accepts::wide_token_of))]
+pub fn worked_package()
+    ensures { let file : List ℕ → List ℕ → TreeFile = λ path text. record { path = path; bytes = text } in
+        let files = file (codes "p/data/secret/1.ans") (codes "8\n") ∷ file (codes "p/data/secret/1.in") (codes "7\n") ∷ file (codes "p/problem.yaml") (codes "name: E\n") ∷ [] in
+        let one : Test = record { name = codes "secret/1"; input = codes "7\n"; answer = codes "8\n" } in
+        let limits : Limits = record { instructions = 2000; pages = 16384; output = 8388608 } in
+        let flags : Flags = record { case = false; space = false; tolerance = record { relative = None; absolute = None } } in
+        package_of files (codes "p") 2000 ≡ Ok record { name = codes "E"; tests = one ∷ []; limits = limits; check = Checker.Default flags } }
 {}
