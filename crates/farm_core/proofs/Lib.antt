@@ -6,3 +6,5 @@ pub mod Entering
 pub mod Keeping
 pub mod Refusing
 mod Aside
+mod Naming
+pub mod Named

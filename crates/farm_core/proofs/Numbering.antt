@@ -1,5 +1,5 @@
 -- Items that are numbered from 1, and what changing one of them makes.
-use Rattle.std.proofs.Common.{ℕ, ◌≡◌, ◌-◌, List, Option, Some, None, refl, length, set, length-set}
+use Rattle.std.proofs.Common.{ℕ, ◌≡◌, ◌-◌, List, Option, Some, None, refl, length, length-set}
 use Rattle.farm_model.specs.Numbered.{item_of, with_change, change_item}
 
 length_change : {X : Type 0} (xs : List X) (n : ℕ) (f : X → X) (o : Option X) → length (change_item xs n f o) ≡ length xs

@@ -1,3 +1,5 @@
 pub mod FarmShape
+pub mod NamesValue
+pub mod NamesLayout
 pub mod ContestLayout
 pub mod FarmLayout

@@ -10,6 +10,7 @@ mod rejudgings;
 mod submissions;
 mod verifying;
 
+use crate::names::Names;
 use farm_kinds::Answer;
 use farm_model::{Host, JudgingDetails, Problem, Submission, item_of};
 use farm_settings::Settings;
@@ -26,7 +27,11 @@ pub struct Contest {
     judge: Judge,
     verification: bool,
     problems: Vec<Problem>,
+    /// The names of the problems, in their order.
+    problem_names: Names,
     hosts: Vec<Host>,
+    /// The names of the hosts, in their order.
+    host_names: Names,
     submissions: Vec<Submission>,
     /// One for each judging.
     details: Vec<JudgingDetails>,
@@ -55,7 +60,9 @@ impl Contest {
             judge: Judge::new(alloc, settings.rule(), settings.mode(), settings.lease()),
             verification: settings.verification(),
             problems: Vec::new(alloc),
+            problem_names: Names::new(alloc),
             hosts: Vec::new(alloc),
+            host_names: Names::new(alloc),
             submissions: Vec::new(alloc),
             details: Vec::new(alloc),
             book: RejudgeBook::new(alloc),

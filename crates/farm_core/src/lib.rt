@@ -6,6 +6,7 @@ mod contest;
 mod entries;
 mod farm;
 mod lists;
+mod names;
 mod places;
 mod replies;
 #[cfg(test)]

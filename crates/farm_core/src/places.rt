@@ -1,37 +1,11 @@
-ghost use Rattle.std.specs.Prelude.{◌≡◌, ◌<◌, ◌≤◌, ◌&&◌, length, position, IfSome};
-ghost use Rattle.std.specs.Str.{bytes_eq};
+ghost use Rattle.std.specs.Prelude.{◌≡◌, ◌≤◌};
 ghost use Rattle.farm_model.specs.Limits.{max_tests};
 ghost use Rattle.farm_model.specs.Numbered.{with_change};
 ghost use Rattle.farm_model.specs.State.{is_verified};
 ghost use Rattle.farm_model.specs.Changes.{cells_for, mark_verified};
 ghost use Rattle.farm_core.specs.FarmShape.{AreShort};
 
-use farm_kinds::Name;
-use farm_model::{Host, JudgingDetails, Problem, item_of};
-
-/// Where the problem of this name stands.
-pub fn place_of(problems: &[Problem], name: &Name) -> Option<usize>
-    ensures place { result ≡ position (λ problem. bytes_eq problem.name name.now) problems.now }
-    ensures within { IfSome result (λ place. place < length problems.now) }
-{
-    problems.iter().position(|problem| problem.name == *name)
-}
-
-/// Where the host of this name stands.
-pub fn host_place(hosts: &[Host], name: &Name) -> Option<usize>
-    ensures place { result ≡ position (λ host. bytes_eq host.name name.now) hosts.now }
-    ensures within { IfSome result (λ place. place < length hosts.now) }
-{
-    hosts.iter().position(|host| host.name == *name)
-}
-
-/// Where the host of this name stands, if it is up.
-pub fn up_place(hosts: &[Host], name: &Name) -> Option<usize>
-    ensures place { result ≡ position (λ host. bytes_eq host.name name.now && host.up) hosts.now }
-    ensures within { IfSome result (λ place. place < length hosts.now) }
-{
-    hosts.iter().position(|host| host.name == *name && host.up)
-}
+use farm_model::{JudgingDetails, Problem, item_of};
 
 /// Whether the judging of this number is verified.
 pub fn is_verified(details: &[JudgingDetails], judging: u32) -> bool

@@ -236,6 +236,53 @@ fn lines_of_the_jury_are_answered_as_they_should_be(rt: HostRuntime) -> Result<(
     Ok(())
 }
 
+const NAMES: &str = concat!(
+    "problem A 1\n",
+    "problem B 2\n",
+    "problem C 3\n",
+    "host h1\n",
+    "host h2\n",
+    "submit C\n",
+    "submit D\n",
+    "problem B 1\n",
+    "replace C 1\n",
+    "replace D 1\n",
+    "submit C\n",
+    "down h2\n",
+    "claim h2\n",
+    "claim h1\n",
+    "host h2\n",
+    "host h2\n",
+    "claim h2\n",
+);
+
+const NAMES_REPLIES: &str = concat!(
+    "problem A version 1\n",
+    "problem B version 1\n",
+    "problem C version 1\n",
+    "host h1\n",
+    "host h2\n",
+    "submission 1 judging 1\n",
+    "no-problem D\n",
+    "known B\n",
+    "problem C version 2\n",
+    "no-problem D\n",
+    "submission 2 judging 2\n",
+    "ended 0\n",
+    "no-host h2\n",
+    "task 1 1 until 60\n",
+    "host h2\n",
+    "known h2\n",
+    "task 1 2 until 60\n",
+);
+
+#[test]
+fn names_are_found_among_others(rt: HostRuntime) -> Result<(), Fail> {
+    let replies = played(rt.alloc(), "{}", NAMES)?;
+    assert_eq!(rt; replies.as_slice(), NAMES_REPLIES.as_bytes());
+    Ok(())
+}
+
 #[test]
 fn the_public_sees_what_is_verified(rt: HostRuntime) -> Result<(), Fail> {
     let seen = seen_of_three(rt.alloc(), VERIFYING, VERIFIED)?;

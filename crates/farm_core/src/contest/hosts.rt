@@ -1,12 +1,12 @@
-ghost use Rattle.std.specs.Prelude.{◌≡◌, ◌++◌, ◌∷◌, [], ◌<◌, ◌≤◌, length, IfOk, IfSome, OnErr, true};
+ghost use Rattle.std.specs.Prelude.{◌≡◌, ◌++◌, ◌∷◌, [], ◌<◌, ◌≤◌, length, None, position, IfOk, IfSome, OnErr, true};
+ghost use Rattle.std.specs.Str.{bytes_eq};
 ghost use Rattle.farm_kinds.specs.declared.events.Event.TheVariants as events;
 ghost use Rattle.farm_model.specs.Limits.{max_hosts};
-ghost use Rattle.farm_model.specs.State.{up_number};
+ghost use Rattle.farm_model.specs.State.{host_number, up_number};
 ghost use Rattle.farm_model.specs.Changes.{host_as};
 ghost use Rattle.farm_model.specs.Farm.{Stepped};
 
 use super::Contest;
-use crate::places::{host_place, up_place};
 use farm_kinds::{MAX_HOSTS, Name, NoMemory, Reply};
 use farm_model::Host;
 
@@ -18,7 +18,7 @@ impl Contest {
         if self.up_number(&name).is_some() {
             return Reply::Known { name };
         }
-        if let Some(place) = host_place(&self.hosts, &name) {
+        if let Some(place) = self.host_place(&name) {
             self.hosts[place] = Host { name, up: true };
             return Reply::Host { name };
         }
@@ -31,15 +31,26 @@ impl Contest {
         }
     }
 
+    /// Where the host of this name stands.
+    fn host_place(&self, name: &Name) -> Option<usize>
+        ensures place { result ≡ position (λ host. bytes_eq host.name name.now) self.now.hosts }
+        ensures within { IfSome result (λ place. place < length self.now.hosts) }
+    {
+        self.host_names.find(name)
+    }
+
     /// Adds a host, which is up.
     fn add_host(&mut self, name: Name) -> Result<(), NoMemory>
-        requires { length self.old.hosts < max_hosts }
+        requires few { length self.old.hosts < max_hosts }
+        requires unknown { host_number self.old.hosts name ≡ None }
         ensures added { IfOk result (λ done. self.new ≡ record self.old { hosts = self.old.hosts ++ host_as name true ∷ [] }) }
         ensures unchanged { OnErr result (self.new ≡ self.old) }
     {
         self.hosts.reserve(1)?;
+        self.host_names.reserve()?;
         self.judge.add_host()?;
         self.hosts.push_reserved(Host { name, up: true });
+        self.host_names.push_reserved(name);
         Ok(())
     }
 
@@ -48,7 +59,10 @@ impl Contest {
         ensures number { result ≡ up_number self.now.hosts name.now }
         ensures known { IfSome result (λ number. (1 ≤ number) × (number ≤ length self.now.hosts)) }
     {
-        let place = up_place(&self.hosts, name)?;
+        let place = self.host_names.find(name)?;
+        if !self.hosts[place].up {
+            return None;
+        }
         Some(place as u32 + 1)
     }
 

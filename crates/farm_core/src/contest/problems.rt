@@ -1,4 +1,5 @@
-ghost use Rattle.std.specs.Prelude.{◌≡◌, ◌+◌, ◌<◌, ◌≤◌, Some, None, IfNone, IfOk, IfSome, OnOk, OnErr, IfErr, length};
+ghost use Rattle.std.specs.Prelude.{◌≡◌, ◌+◌, ◌<◌, ◌≤◌, Some, None, IfNone, IfOk, IfSome, OnOk, OnErr, IfErr, length, position};
+ghost use Rattle.std.specs.Str.{bytes_eq};
 ghost use Rattle.farm_model.specs.Limits.{max_tests, max_problems, max_versions};
 ghost use Rattle.farm_model.specs.State.{problem_number};
 ghost use Rattle.farm_model.specs.Refusals.{problem_refusal, replace_refusal, version_of};
@@ -7,11 +8,18 @@ ghost use Rattle.farm_model.specs.Changes.{with_problem, with_version};
 ghost use Rattle.farm_core.specs.FarmShape.{HadMemory};
 
 use super::Contest;
-use crate::places::place_of;
 use farm_kinds::{MAX_PROBLEMS, MAX_TESTS, MAX_VERSIONS, Name, NoMemory, Reply};
 use farm_model::Problem;
 
 impl Contest {
+    /// Where the problem of this name stands.
+    pub fn problem_place(&self, name: &Name) -> Option<usize>
+        ensures place { result ≡ position (λ problem. bytes_eq problem.name name.now) self.now.problems }
+        ensures within { IfSome result (λ place. place < length self.now.problems) }
+    {
+        self.problem_names.find(name)
+    }
+
     /// Why no problem of this name and this many tests is added.
     pub fn problem_refusal(&self, name: Name, tests: u32) -> Option<Reply>
         ensures refusal { result ≡ problem_refusal self.now.problems name tests }
@@ -20,7 +28,7 @@ impl Contest {
         if tests == 0 || tests > MAX_TESTS {
             return Some(Reply::BadTests { tests });
         }
-        if place_of(&self.problems, &name).is_some() {
+        if self.problem_place(&name).is_some() {
             return Some(Reply::Known { name });
         }
         if self.problems.len() >= MAX_PROBLEMS as usize {
@@ -35,16 +43,19 @@ impl Contest {
     pub fn add_problem(&mut self, name: Name, tests: u32) -> Result<Reply, NoMemory>
         requires few_tests { tests ≤ max_tests }
         requires few { length self.old.problems < max_problems }
+        requires unknown { problem_number self.old.problems name ≡ None }
         ensures reply { IfOk result (λ reply. reply ≡ Reply.Problem name 1) }
         ensures added { OnOk result (self.new ≡ with_problem self.old name tests) }
         ensures unchanged { OnErr result (self.new ≡ self.old) }
     {
         self.problems.reserve(1)?;
+        self.problem_names.reserve()?;
         self.problems.push_reserved(Problem {
             name,
             version: 1,
             tests: tests as u16,
         });
+        self.problem_names.push_reserved(name);
         Ok(Reply::Problem { name, version: 1 })
     }
 
@@ -56,7 +67,7 @@ impl Contest {
         if tests == 0 || tests > MAX_TESTS {
             return Some(Reply::BadTests { tests });
         }
-        let Some(place) = place_of(&self.problems, &name) else {
+        let Some(place) = self.problem_place(&name) else {
             return Some(Reply::NoProblem { name });
         };
         if self.problems[place].version >= MAX_VERSIONS {
@@ -74,7 +85,7 @@ impl Contest {
         ensures version { result ≡ Reply.Problem name (version_of self.old.problems (number_or_0 (problem_number self.old.problems name)) + 1) }
         ensures done { self.new ≡ with_version self.old (number_or_0 (problem_number self.old.problems name)) tests }
     {
-        let Some(place) = place_of(&self.problems, &name) else {
+        let Some(place) = self.problem_place(&name) else {
             return Reply::NoProblem { name };
         };
         let kept = self.problems[place];

@@ -5,7 +5,7 @@ ghost use Rattle.farm_model.specs.Changes.{submitted};
 ghost use Rattle.farm_model.specs.Farm.{Stepped};
 
 use super::Contest;
-use crate::places::{cells_for, place_of};
+use crate::places::cells_for;
 use farm_kinds::{Class, MAX_JUDGINGS, MAX_SUBMISSIONS, Name, NoMemory, Reply};
 use farm_model::{JudgingDetails, Submission};
 
@@ -14,7 +14,7 @@ impl Contest {
     pub fn submit(&mut self, problem: Name, class: Class, broken: bool) -> Reply
         ensures { Stepped self.old (events.Submit problem class broken) self.new result }
     {
-        let Some(place) = place_of(&self.problems, &problem) else {
+        let Some(place) = self.problem_place(&problem) else {
             return Reply::NoProblem { name: problem };
         };
         if self.submissions.len() >= MAX_SUBMISSIONS as usize {

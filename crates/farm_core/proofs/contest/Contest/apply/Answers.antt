@@ -23,8 +23,10 @@ invariant_of-self c =
     record {
       short = c.self.invariant.short;
       problems = c.self.invariant.problems;
+      problem_names = c.self.invariant.problem_names;
       hosts = c.self.invariant.hosts;
       few_hosts = c.self.invariant.few_hosts;
+      host_names = c.self.invariant.host_names;
       submissions = omega (arith, all, c.self.invariant.submissions);
       booked = ap (λ b. b.submissions) c.close_open.ensures ∙ c.self.invariant.booked ∙ sym all;
       rejudgings = subst (λ (n : ℕ). AreKept n judgings c.close_open.new.self.rejudgings) (sym all) kept;

@@ -17,8 +17,10 @@ invariant_of-self c =
     record {
       short = c.self.invariant.short;
       problems = c.self.invariant.problems;
+      problem_names = c.self.invariant.problem_names;
       hosts = c.self.invariant.hosts ∙ sym (ap (λ j. j.hosts) c.drop_judgings.ensures.dropped);
       few_hosts = c.self.invariant.few_hosts;
+      host_names = c.self.invariant.host_names;
       submissions = c.self.invariant.submissions;
       booked = ap (λ b. b.submissions) c.close_open.ensures ∙ c.self.invariant.booked;
       rejudgings = subst (λ (n : ℕ). AreKept submissions n c.close_open.new.self.rejudgings) (sym count) kept;

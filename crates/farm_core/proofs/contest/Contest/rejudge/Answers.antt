@@ -22,8 +22,10 @@ invariant_of-self-2 c =
     record {
       short = c.self.invariant.short;
       problems = c.self.invariant.problems;
+      problem_names = c.self.invariant.problem_names;
       hosts = search rules;
       few_hosts = c.self.invariant.few_hosts;
+      host_names = c.self.invariant.host_names;
       submissions = c.self.invariant.submissions;
       booked = search rules;
       rejudgings = subst (λ (b : Book). AreKept submissions (length c.add_judgings.new.judge.state.judgings) b.rejudgings) (sym c.prepare_reserved-number.ensures.prepared)

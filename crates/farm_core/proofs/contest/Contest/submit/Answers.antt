@@ -8,9 +8,7 @@ pub returns : goal.returns
 returns c =
     let before = c.self.view_is in
     let after = c.self-2.view_is in
-    let found : position (λ problem. bytes_eq problem.name c.args.problem) c.args.self.now.problems ≡ Some c.in-Some.place =
-    ap (position (λ problem. bytes_eq problem.name c.args.problem)) (sym (ap (λ s. s.problems) before) ∙ sym c.deref.ensures.value)
-    ∙ sym c.place_of.ensures.place ∙ c.in-Some.is in
+    let found : position (λ problem. bytes_eq problem.name c.args.problem) c.args.self.now.problems ≡ Some c.in-Some.place = sym c.problem_place.ensures.place ∙ c.in-Some.is in
     let kept : length c.self.inside.submissions.items ≡ length c.args.self.now.submissions = ap (λ s. length s.submissions) before in
     let few : length c.args.self.now.submissions < 100000 = omega (arith, kept, c.self.inside.submissions.ok.0, c.len.ensures, c.if-len.false) in
     let judged : length c.self.inside.judge.state.judgings ≡ length c.args.self.now.judge.judgings = ap (λ s. length s.judge.judgings) before in
