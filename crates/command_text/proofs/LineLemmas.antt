@@ -1,8 +1,11 @@
 -- Lines that give an event.
-use Rattle.std.proofs.Common.{ℕ, ◌≡◌, ◌<◌, List, [], ◌∷◌, Option, Some, None, Result, Ok, Err, OnErr, false, refl, sym, ap, ◌∙◌, subst, length, arith}
-use Rattle.std.specs.Option.{option_map, option_or}
+use Rattle.std.proofs.Common.{ℕ, ◌≡◌, ◌<◌, List, [], ◌∷◌, Option, Some, None, Ok, true, false, cond, refl, sym, ap, ◌∙◌, subst, length, arith}
+use Rattle.std.specs.Prelude.{codes}
+use Rattle.std.specs.Str.{bytes_eq}
+use Rattle.std.specs.Option.{option_map, option_or, is_some}
 use Rattle.farm_kinds.specs.declared.events.Event.{Event}
 use Rattle.std.proofs.lemmas.Bool.{cond-false}
+use Rattle.std.proofs.lemmas.Slice.Eq.{bytes_eq-Decides}
 use Rattle.farm_kinds.specs.Names.{name_read, jury}
 use Rattle.farm_model.specs.Numbers.{number_of}
 use Rattle.farm_model.specs.Words.{words}
@@ -28,16 +31,6 @@ number_line_by e (number ∷ more ∷ ws) = refl
 
 -- Lines that list something
 
-listed_first : (first second : Option Event) → 0 < length (listed first) → 0 < length (listed (option_or first second))
-listed_first None second h = absurd (omega arith)
-listed_first (Some e) second h = h
-
--- the jury's lines are read first
-pub listed_by_jury : (who word : List ℕ) (ws : List (List ℕ)) → who ≡ jury → 0 < length (listed (jury_event_of who word ws)) → 0 < length (listed (unnamed_event_of word ws))
-listed_by_jury who word ws e h =
-    listed_first (jury_event_of jury word ws) (option_or (host_event_of word ws) (other_event_of word ws))
-    (subst (λ (w : List ℕ). 0 < length (listed (jury_event_of w word ws))) e h)
-
 event_lists : (o : Option Event) → 0 < length (listed o) → ListsSome (event_or_bad o)
 event_lists None h = absurd (omega arith)
 event_lists (Some e) h = h
@@ -48,7 +41,64 @@ line_lists text word ws first plain h =
     let read : line_read text ≡ event_or_bad (event_of word ws) = ap read_of_words first ∙ cond-false (is_comment word) (Ok None) (event_or_bad (event_of word ws)) (sym plain) in
     subst ListsSome (sym read) (event_lists (event_of word ws) h)
 
--- a fact holds also where a call failed
-pub at_err : {A E : Type 0} (P : Type 0) (r : Result A E) → P → OnErr r P
-at_err P (Ok x) p = tt
-at_err P (Err e) p = p
+-- Each word begins the lines of one kind
+
+-- the word is this one, or the line is another's
+either : (P : List ℕ → Type 0) (word spelled : List ℕ) (here later : Option Event) (e : Event) → P spelled → (later ≡ Some e → P word) → cond (bytes_eq word spelled) here later ≡ Some e → P word
+either P word spelled here later e p others =
+    elim (bytes_eq word spelled) as (λ t. bytes_eq word spelled ≡ t → cond t here later ≡ Some e → P word) [
+      | true ↦ λ same h. subst P (sym ((bytes_eq-Decides word spelled).0 same)) p
+      | false ↦ λ same h. others h
+    ] refl
+
+host_is_not_jury : (who word : List ℕ) (ws : List (List ℕ)) (e : Event) → host_event_of word ws ≡ Some e → jury_event_of who word ws ≡ None
+host_is_not_jury who word ws e =
+    let P : List ℕ → Type 0 = λ w. jury_event_of who w ws ≡ None in
+    either P word (codes "host") _ _ e refl
+    (either P word (codes "claim") _ _ e refl
+    (either P word (codes "result") _ _ e refl
+    (either P word (codes "renew") _ _ e refl
+    (either P word (codes "down") _ _ e refl (λ h. cc)))))
+
+other_is_no_else : (who word : List ℕ) (ws : List (List ℕ)) (e : Event) → other_event_of word ws ≡ Some e → (jury_event_of who word ws ≡ None) × (host_event_of word ws ≡ None)
+other_is_no_else who word ws e =
+    let P : List ℕ → Type 0 = λ w. (jury_event_of who w ws ≡ None) × (host_event_of w ws ≡ None) in
+    either P word (codes "submit") _ _ e (refl, refl)
+    (either P word (codes "record") _ _ e (refl, refl)
+    (either P word (codes "tick") _ _ e (refl, refl)
+    (either P word (codes "show") _ _ e (refl, refl)
+    (either P word (codes "board") _ _ e (refl, refl)
+    (either P word (codes "matrix") _ _ e (refl, refl)
+    (either P word (codes "audit") _ _ e (refl, refl) (λ h. cc)))))))
+
+or_none : (o : Option Event) → option_or o None ≡ o
+or_none None = refl
+or_none (Some e) = refl
+
+is_none : (o : Option Event) → false ≡ is_some o → o ≡ None
+is_none None h = refl
+is_none (Some e) h = cc
+
+-- a line that is neither a host's nor the jury's
+pub other_first : (word : List ℕ) (ws : List (List ℕ)) → true ≡ is_some (other_event_of word ws) → other_event_of word ws ≡ unnamed_event_of word ws
+other_first word ws h =
+    elim (other_event_of word ws) as (λ o. other_event_of word ws ≡ o → true ≡ is_some o → o ≡ option_or (jury_event_of jury word ws) (option_or (host_event_of word ws) o)) [
+      | None ↦ λ e some. cc
+      | Some x ↦ λ e some.
+          let none = other_is_no_else jury word ws x e in
+          sym (ap (λ o. option_or o (option_or (host_event_of word ws) (Some x))) none.0 ∙ ap (λ o. option_or o (Some x)) none.1)
+    ] refl h
+
+-- a host's line
+pub host_then : (word : List ℕ) (ws : List (List ℕ)) → true ≡ is_some (host_event_of word ws) → host_event_of word ws ≡ unnamed_event_of word ws
+host_then word ws h =
+    elim (host_event_of word ws) as (λ o. host_event_of word ws ≡ o → true ≡ is_some o → o ≡ option_or (jury_event_of jury word ws) (option_or o (other_event_of word ws))) [
+      | None ↦ λ e some. cc
+      | Some x ↦ λ e some. sym (ap (λ o. option_or o (Some x)) (host_is_not_jury jury word ws x e))
+    ] refl h
+
+-- every other line
+pub jury_last : (word : List ℕ) (ws : List (List ℕ)) → false ≡ is_some (other_event_of word ws) → false ≡ is_some (host_event_of word ws) → jury_event_of jury word ws ≡ unnamed_event_of word ws
+jury_last word ws other host =
+    sym (ap (λ o. option_or (jury_event_of jury word ws) (option_or o (other_event_of word ws))) (is_none (host_event_of word ws) host)
+    ∙ ap (λ o. option_or (jury_event_of jury word ws) o) (is_none (other_event_of word ws) other) ∙ or_none (jury_event_of jury word ws))

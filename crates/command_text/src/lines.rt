@@ -1,5 +1,4 @@
 ghost use Rattle.std.specs.Prelude.{◌≡◌, ◌≢◌, ◌<◌, List, ℕ, length, Result, Err, IfOk, OnErr};
-ghost use Rattle.std.specs.Option.{option_or};
 ghost use Rattle.farm_kinds.specs.Names.{jury};
 ghost use Rattle.farm_kinds.specs.declared.events.Event.TheVariants as event;
 ghost use Rattle.farm_kinds.specs.declared.events.LineFault.TheVariants as fault;
@@ -147,25 +146,23 @@ fn other_event_of(word: &[u8], rest: &[u8]) -> Option<Event>
     }
 }
 
-/// The event of a line that begins with this word, and is none of the jury's.
-fn plain_event_of(word: &[u8], rest: &[u8]) -> Option<Event>
-    ensures { result ≡ option_or (host_event_of word.now (words rest.now)) (other_event_of word.now (words rest.now)) }
-{
-    match host_event_of(word, rest) {
-        Some(event) => Some(event),
-        None => other_event_of(word, rest),
-    }
-}
-
 /// The event of a line without `@NAME` that begins with this word. Where it is the jury's, `jury` acts.
+///
+/// No word begins lines of two kinds, so the most frequent lines are read first.
+#[tactic(auto, using(crate::proofs::LineLemmas::other_first, crate::proofs::LineLemmas::host_then, crate::proofs::LineLemmas::jury_last))]
 fn unnamed_event_of(alloc: Global, word: &[u8], rest: &[u8]) -> Result<Option<Event>, NoMemory>
     ensures read { IfOk result (λ read. read ≡ unnamed_event_of word.now (words rest.now)) }
     ensures wanted { OnErr result (0 < length (listed (unnamed_event_of word.now (words rest.now)))) }
 {
-    match jury_event_of(alloc, Name::jury(), word, rest)? {
-        Some(event) => Ok(Some(event)),
-        None => Ok(plain_event_of(word, rest)),
+    let other = other_event_of(word, rest);
+    if other.is_some() {
+        return Ok(other);
     }
+    let host = host_event_of(word, rest);
+    if host.is_some() {
+        return Ok(host);
+    }
+    jury_event_of(alloc, Name::jury(), word, rest)
 }
 
 /// The event of a line of the jury behind the name of who acts.

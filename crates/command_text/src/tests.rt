@@ -396,6 +396,8 @@ fn a_table_has_a_line_for_each_row(rt: HostRuntime) -> Result<(), Fail> {
         })?;
     }
     let text = write_table(rt.alloc(), &rows)?;
-    assert!(rt; text.as_slice() == b"1 alpha echo correct\n4 delta echo compiler-error\n".as_slice());
+    assert!(rt;
+        text.as_slice() == b"1 alpha echo correct\n4 delta echo compiler-error\n".as_slice()
+    );
     Ok(())
 }
