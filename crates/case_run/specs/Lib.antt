@@ -1,0 +1,4 @@
+pub mod Images
+pub mod Cases
+pub mod Values
+pub mod Laws
