@@ -1,0 +1,10 @@
+pub mod RosterValue
+pub mod RosterShape
+pub mod Telling
+pub mod Problems
+pub mod SubmissionLines
+pub mod Images
+pub mod HeldImages
+pub mod Contest
+pub mod JudgingCases
+pub mod FaultTexts
