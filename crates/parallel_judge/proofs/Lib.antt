@@ -1,0 +1,9 @@
+pub mod Sums
+pub mod NoneOpen
+pub mod Runs
+pub mod Turns
+pub mod Contests
+pub mod Entered
+pub mod Shown
+pub mod Reading
+pub mod Rosters

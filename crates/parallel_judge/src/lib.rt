@@ -1,0 +1,12 @@
+//! The judging of a whole contest: its problems and submissions enter a farm, hosts work off the tasks, and the verdicts
+//! are what running every test in rank order on one thread gives.
+#![tactic(auto)]
+
+mod entering;
+mod finishing;
+mod judging;
+mod progress;
+mod verdicts;
+
+pub use judging::judge_all;
+pub use progress::{Progress, Silent};
