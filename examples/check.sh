@@ -1,6 +1,7 @@
 #!/usr/bin/env bash
 # Runs each example, with the settings beside it where there are some, and compares what is written with its replies.
 # Where the texts of the audit log stand beside it, the last reply is compared with the chain that `chain.sh` computes.
+# Then judges the example contest, and compares the verdicts with its table.
 #
 #     examples/check.sh [PROGRAM]
 #
@@ -26,4 +27,10 @@ for lines in "$here"/*.txt; do
         status=1
     fi
 done
+if "$program" judge "$here/contest" --hosts 0 | cmp -s - "$here/contest/table.txt"; then
+    echo "ok      contest"
+else
+    echo "differs contest"
+    status=1
+fi
 exit $status
