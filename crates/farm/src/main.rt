@@ -3,17 +3,29 @@
 
 use farm_cli::{Command, Exit, farm_main, read_command};
 use farm_io::{ReadSource, WriteSink};
+use farm_kinds::Task;
 use farm_tree::DiskTree;
+use parallel_judge::Progress;
 use std::env::{Env, FillError};
+use std::io::IsTerminal;
 use std::process::ExitCode;
+use std::time::{Duration, Instant};
 use std::{env, io};
 
 /// The program's own name, as the first word of its command line.
 const NAME: &str = "farm";
 
-const USAGE: &str = "usage: farm script [--config FILE] < LINES
+/// How long the line of progress stays as it is.
+const PAUSE_MILLISECONDS: u64 = 100;
 
-Reads event lines from standard input and writes a reply to each:
+const USAGE: &str = "usage: farm judge FOLDER --hosts 0
+       farm script [--config FILE] < LINES
+
+judge reads the contest in FOLDER (problems/NAME/ for each package,
+submissions.txt, submissions/, farm.json), runs its submissions, and writes a
+line NUMBER TEAM PROBLEM VERDICT for each. 0 hosts: farm runs them by itself.
+
+script reads event lines from standard input and writes a reply to each:
   problem NAME N                 a problem with N tests
   replace NAME N                 its next version, with N tests
   host NAME                      a judgehost comes up
@@ -36,8 +48,8 @@ says who acts. Empty lines, and lines whose first word begins with #, have no
 reply. FILE holds settings in JSON: priorities, remapping, lazy evaluation,
 leases, verification.
 
-Status: 0 done, 2 usage, 3 bad settings, 4 read fault, 5 write fault,
-6 no memory, 7 file fault, 9 input limit.
+Status: 0 done, 2 usage, 3 bad settings or contest, 4 read fault, 5 write
+fault, 6 no memory, 7 file fault, 9 input limit.
 ";
 
 fn main(rt: HostRuntime) -> ExitCode {
@@ -76,6 +88,59 @@ impl Env for OwnName<'_> {
     }
 }
 
+/// How far a judging is, as a line on standard error that is written over: where that is a terminal, and at most ten
+/// times a second.
+#[derive(Drop)]
+struct Shown<'a> {
+    rt: &'a HostRuntime,
+    is_terminal: bool,
+    tests: u64,
+    last: Option<Instant>,
+}
+
+impl<'a> Shown<'a> {
+    fn new(rt: &'a HostRuntime) -> Shown<'a> {
+        Shown {
+            rt,
+            is_terminal: rt.stderr().is_terminal(),
+            tests: 0,
+            last: None,
+        }
+    }
+
+    /// Whether the line is due again.
+    fn is_due(&mut self) -> bool {
+        let Ok(now) = Instant::now(self.rt) else {
+            return false;
+        };
+        if let Some(last) = self.last {
+            if now.saturating_duration_since(last) < Duration::from_millis(PAUSE_MILLISECONDS) {
+                return false;
+            }
+        }
+        self.last = Some(now);
+        true
+    }
+}
+
+impl Progress for Shown<'_> {
+    fn runs(&mut self, task: Task) {
+        if self.is_terminal && self.is_due() {
+            let tests = self.tests;
+            let submission = task.judging;
+            let _ = eprint!(self.rt; "\r\x1b[K{tests} tests run, submission {submission}");
+        }
+        self.tests = self.tests.wrapping_add(1);
+    }
+
+    /// Takes the line away.
+    fn ends(&mut self) {
+        if self.last.is_some() {
+            let _ = self.rt.eprint("\r\x1b[K");
+        }
+    }
+}
+
 /// The words of the command line. An error where no memory was left for them, or one is no UTF-8.
 fn read_words(rt: &HostRuntime) -> io::Result<Vec<String>> {
     let words = env::args(&(OwnName { rt }, rt.alloc()))?;
@@ -89,21 +154,49 @@ fn run(rt: &HostRuntime, words: &[String]) -> Exit {
     let mut input = ReadSource::new(rt.reader());
     let mut out = WriteSink::new(io::writer(rt));
     let mut tree = DiskTree::new(rt, alloc);
-    let exit = farm_main(alloc, words, &mut tree, &mut input, &mut out);
+    let mut progress = Shown::new(rt);
+    let exit = farm_main(alloc, words, &mut tree, &mut input, &mut out, &mut progress);
     explain(rt, exit, words);
     exit
 }
 
 /// Says on standard error why the command is not done, and what can be done about it.
 fn explain(rt: &HostRuntime, exit: Exit, words: &[String]) {
-    let file = match read_command(words) {
-        Some(Command::Script { config: Some(path) }) => path,
-        _ => "",
-    };
     // Where standard error cannot be written, nobody can be told.
-    let _ = match exit {
-        Exit::Done => Ok(()),
-        Exit::Usage => rt.eprint(USAGE),
+    let _ = match read_command(words) {
+        Some(Command::Judge { folder }) => explain_judging(rt, exit, folder),
+        Some(Command::Script { config }) => explain_script(rt, exit, config.unwrap_or("")),
+        None => explain_words(rt, exit),
+    };
+}
+
+fn explain_words(rt: &HostRuntime, exit: Exit) -> io::Result<()> {
+    match exit {
+        Exit::Memory => rt.eprintln("farm: out of memory. Run it again with more memory"),
+        _ => rt.eprint(USAGE),
+    }
+}
+
+fn explain_judging(rt: &HostRuntime, exit: Exit, folder: &str) -> io::Result<()> {
+    match exit {
+        Exit::BadContest => eprintln!(rt;
+            "farm: {folder} is no contest, for the reason on standard output; nothing was judged"
+        ),
+        Exit::WriteFault => rt.eprintln(
+            "farm: standard output could not be written (is the disk full, or its reader gone?); verdicts are missing",
+        ),
+        Exit::Memory => rt.eprintln(
+            "farm: out of memory; no verdict was written. Run it again with more memory",
+        ),
+        Exit::TreeFault => eprintln!(rt;
+            "farm: a file or folder of {folder} could not be read: check their permissions; nothing was judged"
+        ),
+        _ => Ok(()),
+    }
+}
+
+fn explain_script(rt: &HostRuntime, exit: Exit, file: &str) -> io::Result<()> {
+    match exit {
         Exit::BadContest => eprintln!(rt;
             "farm: {file} gives no settings, for the reason on standard output; no line was read"
         ),
@@ -122,7 +215,8 @@ fn explain(rt: &HostRuntime, exit: Exit, words: &[String]) {
         Exit::InputLimit => rt.eprintln(
             "farm: standard input has more than 2^40 bytes, of which no more is read; all complete lines before that were answered",
         ),
-    };
+        Exit::Done | Exit::Usage => Ok(()),
+    }
 }
 
 /// How the program ends where its words cannot be read: no memory was left for them, or one is no UTF-8.

@@ -1,5 +1,5 @@
-ghost use Rattle.std.specs.Prelude.{◌≡◌, map, option_map, string_bytes};
-ghost use Rattle.farm_cli.specs.CommandLine.{command_value, command_of, script_of, value_of, behind, joined_config, split_config, with_config};
+ghost use Rattle.std.specs.Prelude.{◌≡◌, ◌∷◌, [], map, option_map, string_bytes};
+ghost use Rattle.farm_cli.specs.CommandLine.{command_value, command_of, script_of, value_of, behind, joined_config, split_config, with_config, command_with, judge_of, is_split_hosts, in_folder};
 
 use crate::words::Command;
 
@@ -7,10 +7,23 @@ use crate::words::Command;
 pub fn read_command(words: &[String]) -> Option<Command>
     ensures { option_map command_value result ≡ command_of (map string_bytes words.now) }
 {
-    if words.len() < 2 || words[1].as_str() != "script" {
-        return None;
+    match words {
+        [_, word, options @ ..] => command_with(word.as_str(), options),
+        _ => None,
     }
-    script_command(&words[2..])
+}
+
+/// Reads what stands behind a command.
+fn command_with<'a>(word: &str, options: &'a [String]) -> Option<Command<'a>>
+    ensures { option_map command_value result ≡ command_with word.now (map string_bytes options.now) }
+{
+    if word == "script" {
+        return script_command(options);
+    }
+    if word == "judge" {
+        return judge_command(options);
+    }
+    None
 }
 
 /// Reads what stands behind `script`.
@@ -57,7 +70,7 @@ fn behind<'a>(word: &'a str, beginning: &str) -> Option<&'a str>
     word.strip_prefix(beginning)
 }
 
-/// The value of an option: it is not empty, and does not begin with `-`.
+/// An operand, or the value of an option: it is not empty, and does not begin with `-`.
 fn value_of(word: &str) -> Option<&str>
     ensures { option_map (λ value. value.now) result ≡ value_of word.now }
 {
@@ -65,4 +78,54 @@ fn value_of(word: &str) -> Option<&str>
         return None;
     }
     Some(word)
+}
+
+/// Reads what stands behind `judge`.
+fn judge_command(words: &[String]) -> Option<Command>
+    ensures { option_map command_value result ≡ judge_of (map string_bytes words.now) }
+{
+    match words {
+        [first, second] => judge_joined(first.as_str(), second.as_str()),
+        [first, second, third] => judge_split(first.as_str(), second.as_str(), third.as_str()),
+        _ => None,
+    }
+}
+
+fn judge_joined<'a>(first: &'a str, second: &'a str) -> Option<Command<'a>>
+    ensures { option_map command_value result ≡ judge_of (first.now ∷ second.now ∷ []) }
+{
+    if first == "--hosts=0" {
+        return in_folder(second);
+    }
+    if second == "--hosts=0" {
+        return in_folder(first);
+    }
+    None
+}
+
+fn judge_split<'a>(first: &'a str, second: &'a str, third: &'a str) -> Option<Command<'a>>
+    ensures { option_map command_value result ≡ judge_of (first.now ∷ second.now ∷ third.now ∷ []) }
+{
+    if is_split_hosts(first, second) {
+        return in_folder(third);
+    }
+    if is_split_hosts(second, third) {
+        return in_folder(first);
+    }
+    None
+}
+
+/// Whether these words are `--hosts 0`.
+fn is_split_hosts(word: &str, value: &str) -> bool
+    ensures { result ≡ is_split_hosts word.now value.now }
+{
+    word == "--hosts" && value == "0"
+}
+
+/// The contest in the folder of this operand.
+fn in_folder(operand: &str) -> Option<Command>
+    ensures { option_map command_value result ≡ in_folder operand.now }
+{
+    let folder = value_of(operand)?;
+    Some(Command::Judge { folder })
 }

@@ -4,6 +4,9 @@
 mod command_line;
 mod config;
 mod exit;
+mod judging;
+#[cfg(test)]
+mod judging_tests;
 #[cfg(test)]
 mod rejudging_rows;
 #[cfg(test)]

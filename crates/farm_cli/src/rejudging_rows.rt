@@ -1,6 +1,7 @@
 //! Scripts of rejudgings, verification and the audit log, with what is written for them.
 use crate::script_rows::Row;
 
+/// The scripts, each with its name.
 pub const REJUDGINGS: [Row; 11] = [
     Row {
         name: "apply_is_one_change",

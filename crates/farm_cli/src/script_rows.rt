@@ -11,6 +11,7 @@ pub struct Row {
     pub output: &'static [u8],
 }
 
+/// The scripts, each with its name.
 pub const SCRIPTS: [Row; 23] = [
     Row {
         name: "smallest_path",

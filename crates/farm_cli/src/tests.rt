@@ -4,6 +4,7 @@ use crate::{Exit, farm_main};
 use farm_io::{MemorySink, MemorySource, ReliableSink, ReliableSource};
 use farm_kinds::NoMemory;
 use farm_tree::{MemoryTree, ReliableTree, TreeFiles};
+use parallel_judge::Silent;
 use std::alloc::{AllocError, Global};
 use std::process::Abort;
 use std::test::Fail;
@@ -40,7 +41,14 @@ fn run(
     let mut source = ReliableSource::new(input.to_vec(alloc)?);
     let mut sink = ReliableSink::new(Vec::with_capacity(alloc, ROOM)?);
     let words = words(alloc, given)?;
-    let exit = farm_main(alloc, words.as_slice(), tree, &mut source, &mut sink);
+    let exit = farm_main(
+        alloc,
+        words.as_slice(),
+        tree,
+        &mut source,
+        &mut sink,
+        &mut Silent,
+    );
     Ok((exit, sink))
 }
 
@@ -496,7 +504,14 @@ fn faults(rt: HostRuntime) -> Result<(), Fail> {
         let mut source = MemorySource::new(text, failing(alloc, row.input)?);
         let mut sink = MemorySink::new(Vec::with_capacity(alloc, ROOM)?, failing(alloc, row.out)?);
         let words = words(alloc, row.words)?;
-        let exit = farm_main(alloc, words.as_slice(), &mut tree, &mut source, &mut sink);
+        let exit = farm_main(
+            alloc,
+            words.as_slice(),
+            &mut tree,
+            &mut source,
+            &mut sink,
+            &mut Silent,
+        );
         assert_eq!(rt; exit, row.exit, "{name}");
         assert_eq!(rt; exit.status(), row.status, "{name}");
         assert_eq!(rt; sink.bytes(), row.output, "{name}");

@@ -10,11 +10,13 @@ ghost use Rattle.farm_cli.specs.Scripted.{RunEnds, NoSettingsEnds, ScriptEnds, C
 use crate::command_line::read_command;
 use crate::config::{BadConfig, ConfigEnd, bad_contest_line, read_config};
 use crate::exit::Exit;
+use crate::judging::judge;
 use crate::words::Command;
 use farm_core::Farm;
 use farm_io::{PutEnd, Sink, Source};
 use farm_settings::Settings;
 use farm_tree::Tree;
+use parallel_judge::Progress;
 use script_session::{ScriptEnd, run_script};
 use std::alloc::Global;
 
@@ -22,12 +24,16 @@ use std::alloc::Global;
 ///
 /// `farm script` starts an empty farm with the standard settings, or with those of a file, reads lines to the
 /// end of the input, and writes a reply to each line that is no comment.
-pub fn farm_main<T: Tree, S: Source, K: Sink>(
+///
+/// `farm judge` reads the contest in a folder, judges each of its submissions, and writes a line for each with its
+/// verdict. Who is told of its progress is asked nothing.
+pub fn farm_main<T: Tree, S: Source, K: Sink, P: Progress>(
     alloc: Global,
     words: &[String],
     tree: &mut T,
     input: &mut S,
     out: &mut K,
+    progress: &mut P,
 ) -> Exit
     // Other words are no command. Then nothing is read, and nothing is written.
     ensures usage { (result ≡ Exit.Usage) ↔ (command_of (map string_bytes words.now) ≡ None) }
@@ -59,6 +65,7 @@ pub fn farm_main<T: Tree, S: Source, K: Sink>(
     };
     match command {
         Command::Script { config } => script(alloc, config, tree, input, out),
+        Command::Judge { folder } => judge(alloc, folder, tree, out, progress),
     }
 }
 

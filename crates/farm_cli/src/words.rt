@@ -3,4 +3,6 @@
 pub enum Command<'a> {
     /// The lines of a script, by the settings of the file at this path, or by the standard ones.
     Script { config: Option<&'a str> },
+    /// The contest in this folder.
+    Judge { folder: &'a str },
 }

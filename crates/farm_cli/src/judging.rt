@@ -1,0 +1,112 @@
+ghost use Rattle.std.specs.Prelude.{◌≡◌, ◌≢◌, ◌⊎◌, ℕ, Option, List, IfOk, Ok, Err};
+ghost use Rattle.farm_model.specs.Texts.{table_text};
+ghost use Rattle.parallel_judge.specs.Table.{table_rows};
+ghost use Rattle.farm_io.specs.Streams.{Rose};
+ghost use Rattle.farm_tree.specs.declared.reads.TreeFile.{TreeFile};
+ghost use Rattle.contest_folder.specs.Telling.{IsStop};
+ghost use Rattle.farm_cli.specs.Judged.{ContestIs, HasContest, JudgeEnds, contest_line};
+
+use crate::exit::Exit;
+use command_text::write_table;
+use contest_folder::{ContestFault, Roster, push_contest_fault, read_contest};
+use farm_io::{PutEnd, Sink};
+use farm_kinds::{NoMemory, Text};
+use farm_tree::Tree;
+use parallel_judge::{Progress, judge_all};
+use std::alloc::Global;
+
+/// `farm judge`: judges the contest in the folder, and writes its table.
+pub fn judge<T: Tree, K: Sink, P: Progress>(
+    alloc: Global,
+    folder: &str,
+    tree: &mut T,
+    out: &mut K,
+    progress: &mut P,
+) -> Exit
+    ensures command { result ≢ Exit.Usage }
+    ensures read_fault { result ≢ Exit.ReadFault }
+    ensures ends { JudgeEnds (T.files tree.old) folder.now (K.held out.old) (K.held out.new) (out.new ≡ out.old) result }
+    ensures files { T.files tree.new ≡ T.files tree.old }
+    ensures write_fault { result ≡ Exit.WriteFault → Rose (K.faults out.old) (K.faults out.new) }
+    ensures tree_fault { result ≡ Exit.TreeFault → Rose (T.faults tree.old) (T.faults tree.new) }
+    ensures complete { HasContest (T.files tree.old) folder.now
+        → ¬ Rose (T.faults tree.old) (T.faults tree.new) → ¬ Rose (K.faults out.old) (K.faults out.new)
+        → (result ≡ Exit.Done) ⊎ (result ≡ Exit.Memory) }
+{
+    match read_contest(alloc, tree, folder) {
+        Ok(roster) => judge_roster(alloc, &roster, out, progress),
+        Err(fault) => refuse(alloc, &fault, out),
+    }
+}
+
+/// Judges a contest, and writes its table.
+fn judge_roster<K: Sink, P: Progress>(
+    alloc: Global,
+    roster: &Roster,
+    out: &mut K,
+    progress: &mut P,
+) -> Exit
+    ensures ends { (files : Option (List TreeFile)) (folder : List ℕ) → ContestIs files folder (Ok roster.now)
+        → JudgeEnds files folder (K.held out.old) (K.held out.new) (out.new ≡ out.old) result }
+    ensures write_fault { result ≡ Exit.WriteFault → Rose (K.faults out.old) (K.faults out.new) }
+    ensures all { (result ≡ Exit.Done) ⊎ (result ≡ Exit.WriteFault) ⊎ (result ≡ Exit.Memory) }
+{
+    match table_of(alloc, roster, progress) {
+        Ok(text) => match out.put(text.as_slice()) {
+            PutEnd::Done => Exit::Done,
+            PutEnd::Failed => Exit::WriteFault,
+        },
+        Err(NoMemory) => Exit::Memory,
+    }
+}
+
+/// The text of a contest's table.
+fn table_of<P: Progress>(alloc: Global, roster: &Roster, progress: &mut P) -> Result<Text, NoMemory>
+    ensures { IfOk result (λ text. text ≡ table_text (table_rows roster.now)) }
+{
+    let rows = judge_all(alloc, roster, progress)?;
+    write_table(alloc, &rows)
+}
+
+/// Ends where the folder is no contest, or could not be read.
+fn refuse<K: Sink>(alloc: Global, fault: &ContestFault, out: &mut K) -> Exit
+    ensures command { result ≢ Exit.Usage }
+    ensures read_fault { result ≢ Exit.ReadFault }
+    ensures tree { result ≡ Exit.TreeFault → fault.now ≡ ContestFault.Tree }
+    ensures memory { fault.now ≡ ContestFault.NoMemory → result ≡ Exit.Memory }
+    ensures write_fault { result ≡ Exit.WriteFault → Rose (K.faults out.old) (K.faults out.new) }
+    ensures ends { (files : Option (List TreeFile)) (folder : List ℕ) → (¬ IsStop fault.now → ContestIs files folder (Err fault.now))
+        → JudgeEnds files folder (K.held out.old) (K.held out.new) (out.new ≡ out.old) result }
+{
+    match fault {
+        ContestFault::Tree => Exit::TreeFault,
+        ContestFault::NoMemory => Exit::Memory,
+        _ => write_fault(alloc, fault, out),
+    }
+}
+
+/// Writes the line that says why the folder is no contest.
+fn write_fault<K: Sink>(alloc: Global, fault: &ContestFault, out: &mut K) -> Exit
+    ensures ends { (files : Option (List TreeFile)) (folder : List ℕ) → ContestIs files folder (Err fault.now)
+        → JudgeEnds files folder (K.held out.old) (K.held out.new) (out.new ≡ out.old) result }
+    ensures write_fault { result ≡ Exit.WriteFault → Rose (K.faults out.old) (K.faults out.new) }
+    ensures all { (result ≡ Exit.BadContest) ⊎ (result ≡ Exit.WriteFault) ⊎ (result ≡ Exit.Memory) }
+{
+    match line_of(alloc, fault) {
+        Ok(line) => match out.put(line.as_slice()) {
+            PutEnd::Done => Exit::BadContest,
+            PutEnd::Failed => Exit::WriteFault,
+        },
+        Err(NoMemory) => Exit::Memory,
+    }
+}
+
+/// The line of a fault of the folder.
+fn line_of(alloc: Global, fault: &ContestFault) -> Result<Vec<u8>, NoMemory>
+    ensures { IfOk result (λ line. line.items ≡ contest_line fault.now) }
+{
+    let mut line = b"bad contest: ".to_vec(alloc)?;
+    push_contest_fault(&mut line, fault)?;
+    line.push(b'\n').map_err(|_| NoMemory)?;
+    Ok(line)
+}
