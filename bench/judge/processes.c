@@ -2,12 +2,15 @@
 // that starts a program for each test.
 //
 // A job is a line `SUBMISSION INSTRUCTIONS PAGES OUTPUT IMAGE INPUT`. After a run that does not end by exit 0 the rest of
-// its submission's jobs is left out, as nothing could change the verdict. Writes how many runs were made.
+// its submission's jobs is left out, as nothing could change the verdict. Writes how many runs were made, and their cost.
 #include <fcntl.h>
 #include <stdio.h>
+#include <stdlib.h>
 #include <string.h>
 #include <sys/wait.h>
 #include <unistd.h>
+
+static long long cost;
 
 static int run(const char *interpreter, char *limits[3], const char *image, const char *input) {
     int ends[2];
@@ -30,6 +33,9 @@ static int run(const char *interpreter, char *limits[3], const char *image, cons
     said[length] = 0;
     int status;
     if (child < 0 || waitpid(child, &status, 0) != child || status) return -1;
+    const char *found = strstr(said, " cost ");
+    if (!found) return -1;
+    cost += atoll(found + 6);
     return strstr(said, "ending exit=0 ") != NULL;
 }
 
@@ -45,6 +51,6 @@ int main(int argc, char **argv) {
         if (!good) strcpy(skipped, submission);
         runs++;
     }
-    printf("%ld\n", runs);
+    printf("%ld %lld\n", runs, cost);
     return 0;
 }

@@ -3,11 +3,13 @@
 
     bench/judge/run.py [PROGRAM [SUBMISSIONS [SEED]]]
 
-The contest is that of `make.py`, with 500 submissions if none are said. The C interpreters are those of `bench/machine`
-that decode pages whole; the faster one of a run counts. They run the same tests, of the raw form of each submission,
-and stop a submission where `farm` does; they check no output and run no validators. Printed are submissions and tests a
-second, the ratio, the most memory beside the contest's bytes, and how long reading and the table take at most: that is
-the whole time of the same contest where each run is given one instruction. Times are of the clock and of the processor.
+The contest is that of `make.py`, with 500 submissions if none are said; then the same without the submissions that loop
+without an end, whose runs are as long as the limit lets them be. Each is run three times in turn, and the best counts.
+The C interpreters are those of `bench/machine` that decode pages whole. They run the same tests, of the raw form of each
+submission, and stop a submission where `farm` does; they check no output and run no validators. Printed are submissions
+and tests a second, the ratio to the faster interpreter (over 1: `farm judge` is faster), the most memory beside the
+contest's bytes, and how long reading and the table take at most: that is the whole time of the same contest where each
+run is given one instruction. Rates are by the time of the processor, whose worst round is printed too.
 """
 
 import os
@@ -80,6 +82,41 @@ def make_short(folder, short):
         make.write(os.path.join(short, "problems", name, "domjudge-problem.ini"), "timelimit = 0.001\n")
 
 
+def make_ending(folder, ending):
+    """The same contest without the submissions that loop."""
+    shutil.copytree(folder, ending)
+    kept = [words for words in compare.submissions(folder) if "-loop-" not in words[3]]
+    make.write(os.path.join(ending, "submissions.txt"), "".join(" ".join([str(n), *words[1:]]) + "\n" for n, words in enumerate(kept, 1)))
+
+
+def best_of(*commands, jobs=None, rounds=3):
+    """For each command what it wrote, the least of its times and memory, and the most time of the processor."""
+    rows = [[] for _ in commands]
+    for _ in range(rounds):
+        for row, command in zip(rows, commands):
+            with open(jobs or os.devnull) as stdin:
+                row.append(timed(command, stdin=stdin))
+    return [(row[0][0], *(min(column) for column in list(zip(*row))[1:]), max(one[2] for one in row)) for row in rows]
+
+
+def measure(program, name, folder):
+    jobs = os.path.join(OUT, "jobs.txt")
+    write_jobs(folder, jobs)
+    interpreters = ["paged", "threaded"]
+    results = best_of([program, "judge", folder, "--hosts", "0"], *([os.path.join(OUT, "processes"), os.path.join(OUT, one)] for one in interpreters), jobs=jobs)
+    runs, cost = map(int, results[1][0].split())
+    count = len(list(compare.submissions(folder)))
+    print(f"{name}: {count} submissions, {runs} tests run, {cost / 1e6:.0f} million instructions and bytes, load average {os.getloadavg()[0]:.1f}")
+    for said, (_, clock, processor, _, worst) in zip(["farm judge", *(f"C, {one}, a process a test" for one in interpreters)], results):
+        print(f"  {said:<31}{clock:7.2f} s, of the processor {processor:6.2f} s (worst {worst:.2f}): {count / processor:6.0f} submissions/s, "
+              f"{runs / processor:6.0f} tests/s, {cost / processor / 1e6:4.0f} M/s")
+    _, clock, processor, memory, _ = results[0]
+    print(f"  over the faster one: {min(peer[2] for peer in results[1:]) / processor:.2f} by the processor, {min(peer[1] for peer in results[1:]) / clock:.2f} by the clock")
+    contest, machine = bytes_of(folder), 4096 * PAGES
+    print(f"  most memory {memory / 2**20:.1f} MiB; the contest's bytes {contest / 2**20:.1f} MiB and one machine's pages {machine / 2**20:.1f} MiB: "
+          f"{memory / (contest + machine):.2f} of their sum")
+
+
 def main():
     words = sys.argv[1:]
     program = os.path.abspath(words.pop(0)) if words and not words[0].isdigit() else compare.FARM
@@ -88,32 +125,17 @@ def main():
         print(f"skipped: {program} is not there; build it by 'rt run' in crates/farm, or name another one")
         return 0
     os.makedirs(OUT, exist_ok=True)
-    folder, short, jobs = (os.path.join(OUT, name) for name in ["contest", "short", "jobs.txt"])
-    for old in (folder, short):
+    folder, ending, short = (os.path.join(OUT, name) for name in ["contest", "ending", "short"])
+    for old in (folder, ending, short):
         shutil.rmtree(old, ignore_errors=True)
     build()
     make.make(folder, submissions, seed)
+    make_ending(folder, ending)
     make_short(folder, short)
-    write_jobs(folder, jobs)
-
-    _, clock, processor, memory = timed([program, "judge", folder, "--hosts", "0"])
-    _, short_clock, short_processor, _ = timed([program, "judge", short, "--hosts", "0"])
-    peers = {}
-    for name in ["paged", "threaded"]:
-        with open(jobs) as file:
-            wrote, *times, _ = timed([os.path.join(OUT, "processes"), os.path.join(OUT, name)], stdin=file)
-        peers[name] = (times[1], times[0], int(wrote))
-    best = min(peers, key=peers.get)
-    peer_processor, peer_clock, runs = peers[best]
-
-    print(f"{submissions} submissions, {runs} tests run, load average {os.getloadavg()[0]:.1f}")
-    for name, c, p in [("farm judge", clock, processor)] + [(f"C, {name}, a process a test", peers[name][1], peers[name][0]) for name in peers]:
-        print(f"{name:<32}{c:8.2f} s, of the processor {p:8.2f} s: {submissions / p:8.0f} submissions/s, {runs / p:8.0f} tests/s")
-    print(f"ratio to {best}: {peer_processor / processor:.2f} by the processor, {peer_clock / clock:.2f} by the clock (over 1: farm judge is faster)")
-    print(f"reading and table: at most {short_processor:.3f} s of the processor, {100 * short_processor / processor:.1f} % of the whole")
-    contest, machine = bytes_of(folder), 4096 * PAGES
-    print(f"most memory {memory / 2**20:.1f} MiB; the contest's bytes {contest / 2**20:.1f} MiB and one machine's pages {machine / 2**20:.1f} MiB: "
-          f"{memory / (contest + machine):.2f} of their sum")
+    measure(program, "all submissions", folder)
+    measure(program, "without those that loop", ending)
+    [(_, _, processor, memory, _)] = best_of([program, "judge", short, "--hosts", "0"])
+    print(f"reading, the table and one instruction for each submission: {processor:.3f} s of the processor, {memory / 2**20:.1f} MiB")
     return 0
 
 
