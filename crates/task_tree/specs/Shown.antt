@@ -1,0 +1,50 @@
+-- Tasks that are shown, of judgings that are numbered from 1, and their order: by class, judging and test.
+use Rattle.std.specs.Prelude.{ℕ, ◌-◌, ◌≤◌, List, ◌++◌, length, map, filter, flat_map, slice_get, slice_index_or, Option, Bool, false, replicate}
+use Rattle.std.specs.List.{enumerate_from}
+use Rattle.std.specs.Option.{option_map_or}
+use Rattle.farm_kinds.specs.declared.outcomes.Class.{Class}
+use Rattle.farm_kinds.specs.declared.outcomes.Class.TheVariants.{High, Normal, Low}
+use Rattle.farm_kinds.specs.declared.outcomes.Task.{Task}
+use Rattle.farm_model.specs.Numbered.{item_of, with_item, with_change, numbers_to}
+use Rattle.farm_model.specs.Judgings.{task_of}
+use Rattle.farm_model.specs.Open.{same_class}
+
+pub record JudgingTasks : Type 0 where
+  pub class : Class
+  -- for each test whether its task is shown
+  pub shown : List Bool
+
+-- a judging of this many tests, of which none is shown
+abbrev pub hidden : Class → ℕ → JudgingTasks
+hidden class tests = record { class = class; shown = replicate tests false }
+
+-- how many tests the judging of this number has
+abbrev pub tests_of : List JudgingTasks → ℕ → ℕ
+tests_of judgings n = option_map_or (λ j. length j.shown) (item_of judgings n) 0
+
+-- there is such a task
+pub record HasTask (judgings : List JudgingTasks) (task : Task) : Type 0 where
+  pub low : 1 ≤ task.test
+  pub high : task.test ≤ tests_of judgings task.judging
+
+-- the task is shown, or hidden
+abbrev pub with_shown : List JudgingTasks → Task → Bool → List JudgingTasks
+with_shown judgings task shown = with_change judgings task.judging (λ j. record j { shown = with_item j.shown task.test shown })
+
+abbrev pub is_shown_test : List Bool → ℕ → Bool
+is_shown_test shown test = slice_index_or shown (test - 1) false
+
+-- the shown tasks of the judging of this number
+abbrev pub shown_in : ℕ × JudgingTasks → List Task
+shown_in p = map (task_of p.0) (filter (is_shown_test p.1.shown) (numbers_to (length p.1.shown)))
+
+abbrev pub shown_in_class : List JudgingTasks → Class → List Task
+shown_in_class judgings class = flat_map shown_in (filter (λ p. same_class p.1.class class) (enumerate_from 1 judgings))
+
+-- the shown tasks, by class, judging and test
+abbrev pub shown_tasks : List JudgingTasks → List Task
+shown_tasks judgings = shown_in_class judgings High ++ shown_in_class judgings Normal ++ shown_in_class judgings Low
+
+-- the least shown task
+abbrev pub first_shown : List JudgingTasks → Option Task
+first_shown judgings = slice_get (shown_tasks judgings) 0
