@@ -1,6 +1,6 @@
 -- The first of the shown tasks.
 use Rattle.std.proofs.Common.{ℕ, zero, suc, ◌≡◌, ◌≢◌, ◌+◌, ◌-◌, ◌*◌, ◌/◌, ◌^◌, ◌<◌, ◌≤◌, List, [], ◌∷◌, ◌++◌, length, get_or, map, ◌⊎◌, IfSome, IfNone, is_some, Option, Some, None, Bool, true, false, cond, refl, sym, ap, ◌∙◌, arith, inl, inr, slice_get}
-use Rattle.std.specs.Prelude.{◌==◌}
+use Rattle.std.specs.Prelude.{◌↔◌, ◌==◌}
 use Rattle.std.specs.Option.{option_or}
 use Rattle.std.specs.List.{filter, flat_map, range_with_len, enumerate_from}
 use Rattle.std.proofs.lemmas.Bool.Decides.{nat_tests}
@@ -10,7 +10,7 @@ use Rattle.farm_kinds.specs.declared.outcomes.Task.{Task}
 use Rattle.farm_model.specs.Judgings.{task_of}
 use Rattle.farm_model.specs.Open.{same_class}
 use Rattle.task_tree.specs.Bits.{bit, IsLeast, IsEmpty}
-use Rattle.task_tree.specs.Shown.{JudgingTasks, is_shown_test, shown_in, shown_in_class, first_shown}
+use Rattle.task_tree.specs.Shown.{JudgingTasks, is_shown_test, shown_in, shown_in_class, shown_tasks, first_shown}
 use Rattle.task_tree.specs.TreeLayout.{shown_from, tasks_value, tasks_values, kept_at, IsSized, AreSized, IsIndexOf}
 use Rattle.task_tree.specs.declared.tree.KeptTasks.{KeptTasks}
 use Rattle.task_tree.proofs.ShownTests.{length_shown, get_shown}
@@ -141,11 +141,23 @@ first_shown_is js =
     let low = shown_in_class js Low in
     first_append (high ++ normal) low ∙ ap (λ o. option_or o (slice_get low 0)) (first_append high normal)
 
+none_first : {X : Type 0} (xs : List X) → slice_get xs 0 ≡ None → xs ≡ []
+none_first [] e = refl
+none_first (x ∷ xs) e = cc
+
+-- there is no first exactly where none is shown
+pub none_shown : (js : List JudgingTasks) (o : Option Task) → o ≡ first_shown js → (o ≡ None) ↔ (shown_tasks js ≡ [])
+none_shown js o e = (λ n. none_first (shown_tasks js) (sym e ∙ n), λ z. e ∙ ap (λ xs. slice_get xs 0) z)
+
 -- steps
 pub enough_bits : (n t b : ℕ) → n < 2 ^ b → 0 < n → t ≤ 1 + n / 64 → t ≤ 2 → 3 * t + 18 ≤ 2 * b + 20
 enough_bits n t zero h some few two = let e : n < 1 = h in absurd (omega arith)
 enough_bits n t (suc zero) h some few two = let e : n < 2 = h in omega arith
 enough_bits n t (suc (suc b)) h some few two = omega arith
+
+pub foremost : (h n l : Option Task) → is_some h ≡ true → h ≡ option_or (option_or h n) l
+foremost None n l p = cc
+foremost (Some x) n l p = refl
 
 pub second : (h n l : Option Task) → is_some h ≡ false → is_some n ≡ true → n ≡ option_or (option_or h n) l
 second None None l p q = cc

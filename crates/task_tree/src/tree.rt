@@ -1,9 +1,9 @@
-ghost use Rattle.std.specs.Prelude.{◌≡◌, ◌≢◌, ℕ, ◌+◌, ◌-◌, ◌*◌, ◌/◌, ◌^◌, ◌<◌, ◌≤◌, ◌++◌, ◌∷◌, [], length, set, get_or, true, false, slice_get, IfOk, IfSome, IfNone, OnOk, OnErr, ◌↔◌};
+ghost use Rattle.std.specs.Prelude.{◌≡◌, ◌≢◌, ℕ, ◌+◌, ◌-◌, ◌*◌, ◌/◌, ◌^◌, ◌<◌, ◌≤◌, ◌++◌, ◌∷◌, [], length, set, get_or, true, false, slice_get, None, IfOk, IfSome, IfNone, OnOk, OnErr, ◌↔◌};
 ghost use Rattle.farm_model.specs.Judgings.{task_of};
 ghost use Rattle.farm_model.specs.Limits.{max_judgings, max_tests};
 ghost use Rattle.task_tree.specs.Bits.{bit, IsInserted, IsRemoved, IsEmpty, IsLeast};
 ghost use Rattle.task_tree.specs.Tree.{of_class};
-ghost use Rattle.task_tree.specs.Shown.{hidden, HasTask, with_shown, shown_in_class, first_shown};
+ghost use Rattle.task_tree.specs.Shown.{hidden, HasTask, with_shown, shown_in_class, shown_tasks, first_shown};
 ghost use Rattle.task_tree.specs.TreeLayout.{tasks_values, kept_at, AreSized, IsIndexed};
 
 use crate::classes::Classes;
@@ -132,6 +132,7 @@ impl TaskTree {
     /// none is shown. With fewer than 2^bits judgings it takes at most 2 * bits + 20 steps: 58 with 400,000.
     pub fn first<L: Ledger>(&self, steps: &mut Steps<L>) -> Option<Task>
         ensures first { result ≡ first_shown self.now }
+        ensures none { result ≡ None ↔ (shown_tasks self.now ≡ []) }
         ensures there { IfSome result (HasTask self.now) }
         ensures cost { (bits : ℕ) → length self.now < 2 ^ bits → steps.new ≤ steps.old + 2 * bits + 20 }
         ensures most { steps.new ≤ steps.old + 58 }
@@ -148,7 +149,7 @@ impl TaskTree {
     }
 }
 
-// The first shown task of a class.
+/// The first shown task of a class.
 fn first_in<L: Ledger>(
     judgings: &Vec<KeptTasks>,
     classes: &Classes,

@@ -52,7 +52,8 @@ impl Words {
         self.words.len()
     }
 
-    /// The word at a place. Reading it is one step, and there is no other way to read one.
+    /// The word at a place. Reading it is one step. Whoever looks for a number reads words in this way alone;
+    /// `insert` and `remove` change a word in place.
     #[inline(always)]
     pub fn at<L: Ledger>(&self, place: usize, steps: &mut Steps<L>) -> u64
         requires { place < length self.now }
@@ -140,7 +141,7 @@ impl Words {
     }
 }
 
-// Whether no number is in. It counts its steps from nothing, and nobody is told how many they are.
+/// Whether no number is in. It counts its steps from nothing, and nobody is told how many they are.
 fn is_empty_from<L: Ledger>(words: &Words, blank: Blank) -> bool
     requires name { blank.name ≡ L.name }
     requires parts { blank.parts ≡ L.parts }

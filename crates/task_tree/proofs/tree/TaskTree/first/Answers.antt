@@ -6,7 +6,7 @@ use Rattle.task_tree.specs.Shown.{JudgingTasks, first_shown, shown_in_class}
 use Rattle.task_tree.specs.TreeLayout.{tasks_value, tasks_values}
 use Rattle.task_tree.specs.Tree.{of_class}
 use Rattle.task_tree.specs.declared.tree.KeptTasks.{KeptTasks}
-use Rattle.task_tree.proofs.Firsts.{first_shown_is, second, third, if_some, if_none, either, enough_bits}
+use Rattle.task_tree.proofs.Firsts.{first_shown_is, none_shown, foremost, second, third, if_some, if_none, either, enough_bits}
 use Rattle.task_tree.proofs.tree.TaskTree.first.Goals as goal
 
 small : (ks : List KeptTasks) (v : List JudgingTasks) (b : ℕ) → tasks_values ks ≡ v → length v < 2 ^ b → length ks < 2 ^ b
@@ -30,6 +30,18 @@ returns-then-is_some-2-clause-first g c =
     let q : is_some n ≡ true = ap is_some (sym c.first_in-normal.ensures.first) ∙ sym c.is_some-2.ensures ∙ c.if-is_some-2.true in
     c.first_in-normal.ensures.first ∙ second h n l p q ∙ sym (first_shown_is js) ∙ ap first_shown c.self.view_is
 
+pub returns-then-is_some-clause-none : goal.returns-then-is_some-clause-none
+returns-then-is_some-clause-none g c =
+    let js = tasks_values c.self.inside.judgings.items in
+    let h = slice_get (shown_in_class js High) 0 in
+    let n = slice_get (shown_in_class js Normal) 0 in
+    let l = slice_get (shown_in_class js Low) 0 in
+    let p : is_some h ≡ true = ap is_some (sym c.first_in-high.ensures.first) ∙ sym c.is_some.ensures ∙ c.if-is_some.true in
+    none_shown c.args.self.now c.first_in-high.result (c.first_in-high.ensures.first ∙ foremost h n l p ∙ sym (first_shown_is js) ∙ ap first_shown c.self.view_is)
+
+pub returns-then-is_some-2-clause-none : goal.returns-then-is_some-2-clause-none
+returns-then-is_some-2-clause-none g c = none_shown c.args.self.now c.first_in-normal.result (returns-then-is_some-2-clause-first g c)
+
 pub returns-then-is_some-2-clause-cost : goal.returns-then-is_some-2-clause-cost
 returns-then-is_some-2-clause-cost g c = λ b h.
     let a = c.self.inside in
@@ -49,6 +61,9 @@ returns-clause-first g c =
     let p : is_some h ≡ false = ap is_some (sym c.first_in-high.ensures.first) ∙ sym c.is_some.ensures ∙ c.if-is_some.false in
     let q : is_some n ≡ false = ap is_some (sym c.first_in-normal.ensures.first) ∙ sym c.is_some-2.ensures ∙ c.if-is_some-2.false in
     c.first_in.ensures.first ∙ third h n l p q ∙ sym (first_shown_is js) ∙ ap first_shown c.self.view_is
+
+pub returns-clause-none : goal.returns-clause-none
+returns-clause-none g c = none_shown c.args.self.now c.first_in.result (returns-clause-first g c)
 
 pub returns-clause-cost : goal.returns-clause-cost
 returns-clause-cost g c = λ b h.
