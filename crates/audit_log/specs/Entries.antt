@@ -18,7 +18,8 @@ is_broken pair = not (bytes_eq pair.0 pair.1)
 
 -- the first place of the entries behind this digest whose kept digest is not the chain's, counted from `at`
 abbrev pub first_broken_from : List ℕ → ℕ → List Entry → Option ℕ
-first_broken_from before at entries = position_from is_broken at (zip (kept_digests entries) (digests_from before (texts_of entries)))
+first_broken_from before at entries =
+    position_from is_broken at (zip (kept_digests entries) (digests_from before (texts_of entries)))
 
 -- the first place, from 0, whose kept digest is not the chain's
 abbrev pub first_broken : List Entry → Option ℕ

@@ -27,7 +27,14 @@ checking_of (check.Default flags) = ByDefault flags
 checking_of (check.Custom image flags) = ByProgram image.now flags.now
 
 abbrev pub test_case : Case → TestCase
-test_case c = record { image = c.image.now; input = c.input.now; answer = c.answer.now; check = checking_of c.check; limits = c.limits }
+test_case c =
+    record {
+      image = c.image.now;
+      input = c.input.now;
+      answer = c.answer.now;
+      check = checking_of c.check;
+      limits = c.limits;
+    }
 
 -- the answer can be compared under the flags, or the validator is a program; it is always a raw image
 abbrev pub CanCheck : Checking → List ℕ → Type 0

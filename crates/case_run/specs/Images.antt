@@ -1,4 +1,5 @@
--- What is an image of a program, and how its run ends: a raw image, or an ELF32 executable (System V ABI, "Object Files").
+-- What is an image of a program, and how its run ends: a raw image, or an ELF32 executable (System V ABI, "Object
+-- Files").
 use Rattle.std.specs.Prelude.{List, ℕ, Bool, ◌&&◌, nat_le, length, take, drop, fold, if◌then◌else◌, Result, Ok, Err, is_ok}
 use Rattle.farm_kinds.specs.declared.Limits.{Limits}
 use Rattle.farm_kinds.specs.Limits.{is_raw_image}
@@ -35,7 +36,8 @@ elf_opened file limits inputs (Err fault) = blank 0 limits inputs
 
 -- a machine with the program, before its run
 unfoldable pub opened : List ℕ → Limits → Inputs → Run
-opened file limits inputs = if has_magic file then elf_opened file limits inputs (elf_of file) else loaded file limits inputs
+opened file limits inputs =
+    if has_magic file then elf_opened file limits inputs (elf_of file) else loaded file limits inputs
 
 -- how the run of an image ends
 abbrev pub run_of_image : List ℕ → Limits → Inputs → Finish

@@ -61,13 +61,15 @@ StartsAtEntry =
 -- where it does not fit, the run ends for want of pages
 abbrev pub EndsForMemory : Type 0
 EndsForMemory =
-    (file : List ℕ) (elf : Image) (limits : Limits) (inputs : Inputs) → elf_of file ≡ Ok elf → (answer : Result Ending NoMemory)
+    (file : List ℕ) (elf : Image) (limits : Limits) (inputs : Inputs) → elf_of file ≡ Ok elf
+    → (answer : Result Ending NoMemory)
     → (with_segments file elf limits inputs).answer ≡ Some answer
     → (finish_of (with_segments file elf limits inputs)).ending ≡ Memory
 
 -- and that run costs nothing
 abbrev pub CostsNothing : Type 0
 CostsNothing =
-    (file : List ℕ) (elf : Image) (limits : Limits) (inputs : Inputs) → elf_of file ≡ Ok elf → (answer : Result Ending NoMemory)
+    (file : List ℕ) (elf : Image) (limits : Limits) (inputs : Inputs) → elf_of file ≡ Ok elf
+    → (answer : Result Ending NoMemory)
     → (with_segments file elf limits inputs).answer ≡ Some answer
     → (finish_of (with_segments file elf limits inputs)).state.cost ≡ 0

@@ -47,7 +47,8 @@ ending_judges output ending.Memory = kind.JudgingError
 ending_judges output ending.Output = kind.JudgingError
 
 abbrev pub validator_run : List ℕ → List ℕ → List ℕ → List ℕ → List ℕ → Finish
-validator_run image flags input answer output = run_of image validator_limits (validator_inputs output input answer flags)
+validator_run image flags input answer output =
+    run_of image validator_limits (validator_inputs output input answer flags)
 
 abbrev pub output_judged : Checking → List ℕ → List ℕ → List ℕ → Kind
 output_judged (ByDefault flags) input answer output = judged output (accepts_of flags answer output)

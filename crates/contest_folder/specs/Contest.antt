@@ -28,9 +28,11 @@ abbrev pub settings_in : List TreeFile → List ℕ → Result SettingsValue Con
 settings_in files path = and_then settings_said (file_in files path (codes "farm.json"))
 
 abbrev pub roster_with : SettingsValue → List Problem → List Submission → Result RosterValue ContestFault
-roster_with settings problems submissions = Ok record { settings = settings; problems = problems; submissions = submissions }
+roster_with settings problems submissions =
+    Ok record { settings = settings; problems = problems; submissions = submissions }
 
-abbrev pub with_entries : List TreeFile → List ℕ → SettingsValue → List Problem → List Entry → Result RosterValue ContestFault
+abbrev pub with_entries : List TreeFile → List ℕ → SettingsValue → List Problem → List Entry
+    → Result RosterValue ContestFault
 with_entries files path settings problems entries =
     and_then (roster_with settings problems) (submissions_in files (images_of path) problems entries)
 

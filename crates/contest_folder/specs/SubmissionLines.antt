@@ -33,16 +33,19 @@ is_hidden (b ∷ word) = b == 46
 
 -- 1 to 64 such bytes, of which the first is no `.`
 abbrev pub is_file_name : List ℕ → Bool
-is_file_name word = nat_le 1 (length word) && nat_le (length word) 64 && not (is_hidden word) && list_all is_file_byte word
+is_file_name word =
+    nat_le 1 (length word) && nat_le (length word) 64 && not (is_hidden word) && list_all is_file_byte word
 
 -- the words are a submission of this number
 abbrev pub is_entry : ℕ → List ℕ → List ℕ → List ℕ → List ℕ → Bool
-is_entry number n team problem file = bytes_eq n (decimal number) && is_name team && is_name problem && is_file_name file
+is_entry number n team problem file =
+    bytes_eq n (decimal number) && is_name team && is_name problem && is_file_name file
 
 -- what the words of a line say: NUMBER TEAM PROBLEM FILE
 abbrev pub entry_of_words : ℕ → ℕ → List (List ℕ) → Option Entry
 entry_of_words line number (n ∷ team ∷ problem ∷ file ∷ []) =
-    if is_entry number n team problem file then Some record { line = line; team = team; problem = problem; file = file } else None
+    if is_entry number n team problem file then Some record { line = line; team = team; problem = problem; file = file }
+    else None
 entry_of_words line number words = None
 
 -- what the line says that is to be this submission; single spaces are between its words

@@ -99,7 +99,8 @@ lower_of e = if e.negative then e.size else 0
 
 -- n * 10^(e - f + 12) dropped to a whole number, for digits that are n, f of them after the point, and the exponent e
 unfoldable pub size_of : Numeral → ℕ
-size_of m = scaled (digits_number (m.whole ++ m.fraction)) (12 + raise_of m.exponent) (length m.fraction + lower_of m.exponent)
+size_of m =
+    scaled (digits_number (m.whole ++ m.fraction)) (12 + raise_of m.exponent) (length m.fraction + lower_of m.exponent)
 
 abbrev pub signed : Bool → ℕ → ℤ
 signed negative size = if negative then neg_ℤ (pos size) else pos size

@@ -1,4 +1,5 @@
--- Which outputs are accepted for an answer (Kattis problem package format, legacy, "Default Output Validator Specification").
+-- Which outputs are accepted for an answer (Kattis problem package format, legacy, "Default Output Validator
+-- Specification").
 use Rattle.std.specs.Prelude.{ℕ, ◌+◌, ◌^◌, List, Bool, false, ◌&&◌, ◌||◌, not, nat_le, nat_lt, ◌==◌, if◌then◌else◌, Option, Some, None, ℤ, unsigned_abs, position, is_some}
 use Rattle.std.specs.Str.{bytes_eq}
 use Rattle.std.specs.Cmp.Lexicographic.{pointwise}
@@ -32,10 +33,12 @@ narrow (Some d) = if is_wide d then None else Some d.value
 abbrev pub numbers_agree : Tolerance → Option ℤ → Option ℤ → Bool
 numbers_agree tolerance None team = false
 numbers_agree tolerance (Some judge) None = false
-numbers_agree tolerance (Some judge) (Some team) = nat_lt (unsigned_abs judge) (10 ^ 24) && is_within tolerance team judge
+numbers_agree tolerance (Some judge) (Some team) =
+    nat_lt (unsigned_abs judge) (10 ^ 24) && is_within tolerance team judge
 
 abbrev pub decimals_agree : Tolerance → List ℕ → List ℕ → Bool
-decimals_agree tolerance answer output = numbers_agree tolerance (narrow (decimal_of answer)) (narrow (decimal_of output))
+decimals_agree tolerance answer output =
+    numbers_agree tolerance (narrow (decimal_of answer)) (narrow (decimal_of output))
 
 -- ---- acceptance
 
@@ -52,7 +55,8 @@ abbrev pub gaps_agree : Bool → List (List ℕ) → List (List ℕ) → Bool
 gaps_agree space answer output = not space || pointwise bytes_eq answer output
 
 unfoldable pub accepts_of : Flags → List ℕ → List ℕ → Bool
-accepts_of flags answer output = tokens_agree flags (tokens answer) (tokens output) && gaps_agree flags.space (gaps answer) (gaps output)
+accepts_of flags answer output =
+    tokens_agree flags (tokens answer) (tokens output) && gaps_agree flags.space (gaps answer) (gaps output)
 
 -- ---- wide tokens
 

@@ -1,4 +1,5 @@
--- The flags of the validator, as their words say (Kattis problem package format, legacy, "Default Output Validator Specification").
+-- The flags of the validator, as their words say (Kattis problem package format, legacy, "Default Output Validator
+-- Specification").
 use Rattle.std.specs.Prelude.{ℕ, ◌+◌, List, [], ◌∷◌, true, false, if◌then◌else◌, Option, Some, None, Result, Ok, Err, ℤ, codes}
 use Rattle.std.specs.Str.{bytes_eq}
 use Rattle.decimal_compare.specs.declared.amount.Part.{Part}
@@ -28,7 +29,8 @@ with_part t Absolute e = record { relative = t.relative; absolute = Some e }
 with_part t Both e = record { relative = Some e; absolute = Some e }
 
 abbrev pub with_amount : Flags → Part → ℤ → Flags
-with_amount flags part e = record { case = flags.case; space = flags.space; tolerance = with_part flags.tolerance part e }
+with_amount flags part e =
+    record { case = flags.case; space = flags.space; tolerance = with_part flags.tolerance part e }
 
 abbrev pub with_case : Flags → Flags
 with_case flags = record { case = true; space = flags.space; tolerance = flags.tolerance }

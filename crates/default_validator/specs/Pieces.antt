@@ -28,7 +28,8 @@ tokens (b ∷ bs) = if is_space b then tokens bs else token_before b bs (tokens 
 abbrev pub gap_before : List ℕ → List (List ℕ) → List (List ℕ)
 gap_before rest gaps = if begins_token rest then gaps else [] ∷ gaps
 
--- the runs of white space before, between and after the tokens: one more than there are tokens, the first and the last perhaps empty
+-- the runs of white space before, between and after the tokens: one more than there are tokens, the first and the last
+-- perhaps empty
 abbrev pub gaps : List ℕ → List (List ℕ)
 gaps [] = [] ∷ []
 gaps (b ∷ bs) = if is_space b then onto_first b (gaps bs) else gap_before bs (gaps bs)

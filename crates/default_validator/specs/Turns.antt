@@ -9,4 +9,5 @@ use Rattle.default_validator.specs.declared.walk.Turn.TheVariants.{Ended, Rest}
 abbrev pub IsTurn : Flags → List ℕ → List ℕ → Turn → Type 0
 IsTurn flags answer output (Ended accepted) = accepts_of flags answer output ≡ accepted
 IsTurn flags answer output (Rest answer_rest output_rest) =
-    (accepts_of flags answer output ≡ accepts_of flags answer_rest.now output_rest.now) × (length answer_rest.now < length answer)
+    (accepts_of flags answer output ≡ accepts_of flags answer_rest.now output_rest.now)
+    × (length answer_rest.now < length answer)

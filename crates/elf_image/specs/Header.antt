@@ -9,11 +9,14 @@ abbrev pub half_at : List ℕ → ℕ → ℕ
 half_at file o = slice_index file o + 0x100 * slice_index file (o + 1)
 
 abbrev pub word_at : List ℕ → ℕ → ℕ
-word_at file o = slice_index file o + 0x100 * slice_index file (o + 1) + 0x10000 * slice_index file (o + 2) + 0x1000000 * slice_index file (o + 3)
+word_at file o =
+    slice_index file o + 0x100 * slice_index file (o + 1) + 0x10000 * slice_index file (o + 2)
+    + 0x1000000 * slice_index file (o + 3)
 
 -- EI_MAG0 to EI_MAG3
 abbrev pub has_magic : List ℕ → Bool
-has_magic file = slice_index file 0 == 0x7F && slice_index file 1 == 0x45 && slice_index file 2 == 0x4C && slice_index file 3 == 0x46
+has_magic file =
+    slice_index file 0 == 0x7F && slice_index file 1 == 0x45 && slice_index file 2 == 0x4C && slice_index file 3 == 0x46
 
 abbrev pub ei_class : List ℕ → ℕ
 ei_class file = slice_index file 4

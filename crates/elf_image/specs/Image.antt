@@ -25,7 +25,9 @@ start_fault e =
 -- what is wrong with the file: the first that is, in this order
 abbrev pub fault_of : List ℕ → Option ElfFault
 fault_of file =
-    option_or (identification_fault file) (option_or (target_fault file) (option_or (table_fault file) (option_or (first_fault file (e_phnum file)) (start_fault (image file)))))
+    option_or (identification_fault file)
+    (option_or (target_fault file)
+    (option_or (table_fault file) (option_or (first_fault file (e_phnum file)) (start_fault (image file)))))
 
 abbrev pub or_fault : Image → Option ElfFault → Result Image ElfFault
 or_fault e None = Ok e

@@ -9,4 +9,6 @@ HasBytes =
 
 -- no other address has a byte of the file
 abbrev pub HasNoOther : Type 0
-HasNoOther = (file : List ℕ) (e : Image) (a : ℕ) → ((i : ℕ) → i < length e.segments → is_in (segment_at e i) a ≡ false) → byte_of file e.segments a ≡ None
+HasNoOther =
+    (file : List ℕ) (e : Image) (a : ℕ) → ((i : ℕ) → i < length e.segments → is_in (segment_at e i) a ≡ false)
+    → byte_of file e.segments a ≡ None

@@ -58,7 +58,8 @@ load_fault length earlier index s =
     else None
 
 abbrev pub entry_fault : List ℕ → ℕ → Option ElfFault
-entry_fault file k = if is_load file k then load_fault (length file) (segments file k) (load_count file k) (entry file k) else None
+entry_fault file k =
+    if is_load file k then load_fault (length file) (segments file k) (load_count file k) (entry file k) else None
 
 -- the first fault among the first k entries
 abbrev pub first_fault : List ℕ → ℕ → Option ElfFault

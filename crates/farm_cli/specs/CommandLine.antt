@@ -67,13 +67,15 @@ abbrev pub judge_of : List (List ℕ) → Option CommandValue
 judge_of (first ∷ second ∷ []) =
     if is_joined_hosts first then in_folder second else if is_joined_hosts second then in_folder first else None
 judge_of (first ∷ second ∷ third ∷ []) =
-    if is_split_hosts first second then in_folder third else if is_split_hosts second third then in_folder first else None
+    if is_split_hosts first second then in_folder third
+    else if is_split_hosts second third then in_folder first else None
 judge_of words = None
 
 -- what stands behind a command
 abbrev pub command_with : List ℕ → List (List ℕ) → Option CommandValue
 command_with word words =
-    if bytes_eq word (codes "script") then script_of words else if bytes_eq word (codes "judge") then judge_of words else None
+    if bytes_eq word (codes "script") then script_of words
+    else if bytes_eq word (codes "judge") then judge_of words else None
 
 -- the first word is the program's name, which is not looked at, and the second is the command
 abbrev pub command_of : List (List ℕ) → Option CommandValue

@@ -108,7 +108,8 @@ ScriptEnds files (Some path) old new unread unwritten e =
 
 abbrev pub CommandEnds : Option (List TreeFile) → CommandValue → Streams → Streams → Type 0 → Type 0 → Exit → Type 0
 CommandEnds files (Script config) old new unread unwritten e = ScriptEnds files config old new unread unwritten e
-CommandEnds files (Judge folder) old new unread unwritten e = unread × JudgeEnds files folder old.held new.held unwritten e
+CommandEnds files (Judge folder) old new unread unwritten e =
+    unread × JudgeEnds files folder old.held new.held unwritten e
 
 -- there is no file of settings, or the tree tells one that gives settings
 abbrev pub HasSettings : Option (List TreeFile) → Option (List ℕ) → Type 0

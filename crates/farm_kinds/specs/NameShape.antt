@@ -20,7 +20,8 @@ name_fields v = record { bytes = v ++ replicate (32 - length v) 0; len = length 
 
 pub name_fields_back : (n : Inside) → IsNameShape n → name_fields (name_text n) ≡ n
 name_fields_back n h =
-    let e : length (take n.len n.bytes) ≡ n.len = length-take-le n.len n.bytes (subst (λ (m : ℕ). n.len ≤ m) (sym h.whole) h.within) in
+    let e : length (take n.len n.bytes) ≡ n.len =
+    length-take-le n.len n.bytes (subst (λ (m : ℕ). n.len ≤ m) (sym h.whole) h.within) in
     let text : List ℕ = name_text n in
     let b : text ++ replicate (32 - length text) 0 ≡ n.bytes = rw e (sym h.zeros) in
     let one : List ℕ → Inside = λ x. record { bytes = x; len = length (take n.len n.bytes) } in

@@ -29,7 +29,8 @@ logged s e = record s { texts = s.texts ++ logged_text e ∷ [] }
 
 -- a problem of version 1
 abbrev pub with_problem : State → List ℕ → ℕ → State
-with_problem s name tests = record s { problems = s.problems ++ (record { name = name; version = 1; tests = tests }) ∷ [] }
+with_problem s name tests =
+    record s { problems = s.problems ++ (record { name = name; version = 1; tests = tests }) ∷ [] }
 
 abbrev pub next_version : ℕ → Problem → Problem
 next_version tests problem = record problem { version = problem.version + 1; tests = tests }
@@ -80,7 +81,8 @@ with_submission s problem broken = record s {
 -- a submission and its current judging
 abbrev pub submitted : State → ℕ → Class → Bool → State
 submitted s problem class broken =
-    with_new_judging (with_submission s problem broken) class (cells_for s.problems problem broken) (details_of (length s.submissions + 1) None)
+    with_new_judging (with_submission s problem broken) class (cells_for s.problems problem broken)
+    (details_of (length s.submissions + 1) None)
 
 abbrev pub submitted_reply : State → Reply
 submitted_reply s = reply.Submitted (length s.submissions + 1) (length s.judge.judgings + 1)
@@ -148,7 +150,8 @@ by_judge s replied r = (record s { judge = r.0 }, replied r.1)
 
 -- what an accepted event does, and its reply
 abbrev pub accepted : State → Event → State × Reply
-accepted s (event.Problem who name tests) = (logged (with_problem s name tests) (event.Problem who name tests), reply.Problem name 1)
+accepted s (event.Problem who name tests) =
+    (logged (with_problem s name tests) (event.Problem who name tests), reply.Problem name 1)
 accepted s (event.Replace who name tests) = let n = number_or_0 (problem_number s.problems name) in
     (logged (with_version s n tests) (event.Replace who name tests), reply.Problem name (version_of s.problems n + 1))
 accepted s (event.Host name) = (with_host s name, reply.Host name)
@@ -157,7 +160,8 @@ accepted s (event.Submit problem class broken) =
 accepted s (event.Claim host) = by_judge s claim_reply (judge_claim s.judge (number_or_0 (up_number s.hosts host)))
 accepted s (event.Result host j test kind) = by_judge s (count_reply j test) (judge_result s.judge j test kind)
 accepted s (event.Entry j test kind) = by_judge s (count_reply j test) (judge_enter s.judge j test kind)
-accepted s (event.Renew host j test) = by_judge s (renewed_reply j test) (judge_renew s.judge (number_or_0 (up_number s.hosts host)) j test)
+accepted s (event.Renew host j test) =
+    by_judge s (renewed_reply j test) (judge_renew s.judge (number_or_0 (up_number s.hosts host)) j test)
 accepted s (event.Tick moment) = by_judge s reply.Ended (judge_tick s.judge moment)
 accepted s (event.Down host) = let n = number_or_0 (up_number s.hosts host) in
     by_judge (with_host_down s host n) reply.Ended (judge_down s.judge n)
@@ -165,7 +169,9 @@ accepted s (event.Show j) = (s, reply.Shown (answer_at s j))
 accepted s event.Board = (s, reply.Board (public_answers s))
 accepted s (event.Rejudge who list) = (logged (rejudged s list) (event.Rejudge who list), rejudging_reply s list)
 accepted s (event.Matrix r) = (s, reply.Matrix (matrix_of (answer_pairs s r)) (length (members_in s.rejudgings r)))
-accepted s (event.Apply who r) = (logged (applied s r) (event.Apply who r), reply.Applied (length (members_in s.rejudgings r)))
-accepted s (event.Cancel who r) = (logged (cancelled s r) (event.Cancel who r), reply.Cancelled (length (members_in s.rejudgings r)))
+accepted s (event.Apply who r) =
+    (logged (applied s r) (event.Apply who r), reply.Applied (length (members_in s.rejudgings r)))
+accepted s (event.Cancel who r) =
+    (logged (cancelled s r) (event.Cancel who r), reply.Cancelled (length (members_in s.rejudgings r)))
 accepted s (event.Verify who j) = (logged (verified s j) (event.Verify who j), reply.Verified j)
 accepted s event.Audit = (s, reply.Audit (length s.texts) (chain_head s.texts))

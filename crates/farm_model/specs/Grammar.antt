@@ -166,7 +166,8 @@ other_event_of word ws =
 
 -- the event of a line without `@NAME` that begins with this word; where it is the jury's, `jury` acts
 abbrev pub unnamed_event_of : List ℕ → List (List ℕ) → Option Event
-unnamed_event_of word ws = option_or (jury_event_of jury word ws) (option_or (host_event_of word ws) (other_event_of word ws))
+unnamed_event_of word ws =
+    option_or (jury_event_of jury word ws) (option_or (host_event_of word ws) (other_event_of word ws))
 
 -- the event of a line of the jury behind the name of who acts
 abbrev pub named_event_of : List ℕ → List (List ℕ) → Option Event

@@ -78,8 +78,10 @@ judge_claim s host = refused_or s (claim_refusal s.leases host) (claimed s host 
 
 -- the cell holds the kind, and the lease on the task goes
 abbrev pub counted : JudgeState → ℕ → ℕ → Kind → JudgeState × Count
-counted s j test kind =
-    (record s { judgings = with_result s.judgings j test kind; leases = without_task s.leases (task_of j test) }, count.Counted)
+counted s j test kind = (
+  record s { judgings = with_result s.judgings j test kind; leases = without_task s.leases (task_of j test) },
+  count.Counted,
+)
 
 -- a result from outside counts as its remapped kind
 abbrev pub judge_enter : JudgeState → ℕ → ℕ → Kind → JudgeState × Count

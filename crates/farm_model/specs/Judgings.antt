@@ -23,7 +23,8 @@ pub record Judging : Type 0 where
 
 -- a judging of so many tests, none of which was handed out or judged
 abbrev pub empty_judging : Class → ℕ → Judging
-empty_judging class tests = record { class = class; row = replicate tests None; handed = replicate tests false; dropped = false }
+empty_judging class tests =
+    record { class = class; row = replicate tests None; handed = replicate tests false; dropped = false }
 
 abbrev pub task_of : ℕ → ℕ → Task
 task_of judging test = record { judging = judging; test = test }
@@ -59,7 +60,8 @@ is_dropped judgings j = unwrap_or (option_map (λ judging. judging.dropped) (ite
 
 -- whether the task was ever handed out
 abbrev pub was_handed : List Judging → ℕ → ℕ → Bool
-was_handed judgings j test = unwrap_or (option_and_then (λ judging. item_of judging.handed test) (item_of judgings j)) false
+was_handed judgings j test =
+    unwrap_or (option_and_then (λ judging. item_of judging.handed test) (item_of judgings j)) false
 
 -- why a result from outside does not count
 abbrev pub entry_refusal : List Judging → ℕ → ℕ → Kind → Option Count

@@ -1,4 +1,5 @@
--- Leases: each a task that a host holds until a moment. They are a list in the order in which they were last granted or renewed.
+-- Leases: each a task that a host holds until a moment. They are a list in the order in which they were last granted
+-- or renewed.
 use Rattle.std.specs.Prelude.{ℕ, List, [], ◌∷◌, ◌++◌, filter, find, count_by, Option, Some, None, Bool, false, not, ◌&&◌, ◌||◌, ◌==◌, nat_le, nat_lt, if◌then◌else◌}
 use Rattle.std.specs.Option.{option_map_or}
 use Rattle.std.specs.List.{reduce}

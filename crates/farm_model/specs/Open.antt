@@ -41,7 +41,8 @@ open_in rule mode leases p = filter (is_free leases) (map (task_of p.0) (wanted_
 
 -- the judgings of a class that are not dropped, with their numbers
 abbrev pub judgings_in : List Judging → Class → List (ℕ × Judging)
-judgings_in judgings class = filter (λ p. same_class p.1.class class) (filter (λ p. not p.1.dropped) (enumerate_from 1 judgings))
+judgings_in judgings class =
+    filter (λ p. same_class p.1.class class) (filter (λ p. not p.1.dropped) (enumerate_from 1 judgings))
 
 abbrev pub open_in_class : RuleValue → Mode → List Judging → List Lease → Class → List Task
 open_in_class rule mode judgings leases class = flat_map (open_in rule mode leases) (judgings_in judgings class)

@@ -49,7 +49,8 @@ abbrev pub replace_refusal : List Problem → List ℕ → ℕ → Option Reply
 replace_refusal problems name tests = first_of (
     unless (is_test_count tests) (reply.BadTests tests)
     ∷ unless (is_problem problems name) (reply.NoProblem name)
-    ∷ when (nat_le max_versions (version_of problems (number_or_0 (problem_number problems name)))) (reply.Full max_versions) ∷ [])
+    ∷ when (nat_le max_versions (version_of problems (number_or_0 (problem_number problems name))))
+    (reply.Full max_versions) ∷ [])
 
 -- a host is known while it is up, and a new name needs a place
 abbrev pub host_refusal : List Host → List ℕ → Option Reply

@@ -30,19 +30,22 @@ busy_with rejudgings submission = number_where (holds_open submission) rejudging
 -- the first member that stood earlier in the list, after those before it
 abbrev pub first_twice_after : List ℕ → List ℕ → Option ℕ
 first_twice_after earlier [] = None
-first_twice_after earlier (m ∷ list) = if list_any (λ n. n == m) earlier then Some m else first_twice_after (m ∷ earlier) list
+first_twice_after earlier (m ∷ list) =
+    if list_any (λ n. n == m) earlier then Some m else first_twice_after (m ∷ earlier) list
 
 abbrev pub first_twice : List ℕ → Option ℕ
 first_twice list = first_twice_after [] list
 
 -- the members, whose new judgings are numbered from first
 abbrev pub members_from : ℕ → List ℕ → List ℕ → List Member
-members_from first (submission ∷ list) (old ∷ olds) = record { submission = submission; old = old; new = first } ∷ members_from (first + 1) list olds
+members_from first (submission ∷ list) (old ∷ olds) =
+    record { submission = submission; old = old; new = first } ∷ members_from (first + 1) list olds
 members_from first list olds = []
 
 -- one more rejudging, which is open
 abbrev pub prepared : List Rejudging → List ℕ → List ℕ → ℕ → List Rejudging
-prepared rejudgings list olds first = rejudgings ++ (record { members = members_from first list olds; state = state.Open }) ∷ []
+prepared rejudgings list olds first =
+    rejudgings ++ (record { members = members_from first list olds; state = state.Open }) ∷ []
 
 abbrev pub members_of : List Rejudging → ℕ → Option (List Member)
 members_of rejudgings number = option_map (λ r. r.members) (item_of rejudgings number)

@@ -84,7 +84,8 @@ same_verdict (Some a) other = is_verdict a other
 -- another possible kind for this test alone gives the kinds another verdict
 abbrev pub depends_on : RuleValue → List Kind → ℕ → Bool
 depends_on rule kinds test =
-    list_any (λ kind. not (same_verdict (verdict_of rule kinds) (verdict_of rule (slice_set kinds (test - 1) kind)))) (possible_kinds rule)
+    list_any (λ kind. not (same_verdict (verdict_of rule kinds) (verdict_of rule (slice_set kinds (test - 1) kind))))
+    (possible_kinds rule)
 
 abbrev pub matters_at : RuleValue → Row → ℕ → Option (Option Kind) → Bool
 matters_at rule row test None = false

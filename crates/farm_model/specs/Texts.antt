@@ -112,7 +112,8 @@ abbrev pub reply_words : Reply → List (List ℕ)
 reply_words (reply.Problem name version) = codes "problem" ∷ name ∷ codes "version" ∷ decimal version ∷ []
 reply_words (reply.Host name) = codes "host" ∷ name ∷ []
 reply_words (reply.Submitted s j) = codes "submission" ∷ decimal s ∷ codes "judging" ∷ decimal j ∷ []
-reply_words (reply.Handed task until) = codes "task" ∷ decimal task.judging ∷ decimal task.test ∷ codes "until" ∷ decimal until ∷ []
+reply_words (reply.Handed task until) =
+    codes "task" ∷ decimal task.judging ∷ decimal task.test ∷ codes "until" ∷ decimal until ∷ []
 reply_words reply.Nothing = codes "nothing" ∷ []
 reply_words reply.Counted = codes "counted" ∷ []
 reply_words (reply.Repeat kept) = codes "repeat" ∷ name_of kept ∷ []
@@ -122,7 +123,8 @@ reply_words (reply.Until until) = codes "until" ∷ decimal until ∷ []
 reply_words (reply.Ended count) = codes "ended" ∷ decimal count ∷ []
 reply_words (reply.Shown answer) = shown_words answer
 reply_words (reply.Board rows) = codes "board" ∷ decimal (length rows) ∷ []
-reply_words (reply.Rejudging number first last) = codes "rejudging" ∷ decimal number ∷ codes "judgings" ∷ decimal first ∷ codes "to" ∷ decimal last ∷ []
+reply_words (reply.Rejudging number first last) =
+    codes "rejudging" ∷ decimal number ∷ codes "judgings" ∷ decimal first ∷ codes "to" ∷ decimal last ∷ []
 reply_words (reply.Matrix rows members) = codes "matrix" ∷ decimal members ∷ []
 reply_words (reply.Applied members) = codes "applied" ∷ decimal members ∷ []
 reply_words (reply.Cancelled members) = codes "cancelled" ∷ decimal members ∷ []

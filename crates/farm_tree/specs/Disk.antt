@@ -19,5 +19,6 @@ meaning _ = Failed
 -- a folder is no file, and a file has a limit
 pub record IsRefusal (about : Metadata) (result : Option TreeErr) : Type 0 where
   pub folder : IsDir (file_type about) → result ≡ Some Absent
-  pub large : ¬ IsDir (file_type about) → file_limit < metadata_len about → result ≡ Some (TooLarge (metadata_len about))
+  pub large : ¬ IsDir (file_type about) → file_limit < metadata_len about
+      → result ≡ Some (TooLarge (metadata_len about))
   pub none : ¬ IsDir (file_type about) → metadata_len about ≤ file_limit → result ≡ None

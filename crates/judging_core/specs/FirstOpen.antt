@@ -21,7 +21,8 @@ is_open wanted leases task cell = is_none cell && (wanted task.test && is_free l
 abbrev pub first_open_of : (ℕ → Bool) → List Lease → ℕ → ℕ → List (Option Kind) → Option Task
 first_open_of wanted leases judging test [] = None
 first_open_of wanted leases judging test (cell ∷ row) =
-    if is_open wanted leases (task_of judging test) cell then Some (task_of judging test) else first_open_of wanted leases judging (test + 1) row
+    if is_open wanted leases (task_of judging test) cell then Some (task_of judging test)
+    else first_open_of wanted leases judging (test + 1) row
 
 -- the judging is of the class, and takes results
 abbrev pub is_served : Class → Judging → Bool

@@ -9,7 +9,15 @@ use Rattle.judging_core.specs.Holding.{IsHeldWell}
 use Rattle.judging_core.specs.declared.judge.Judge.TheInside.{Inside}
 
 abbrev pub judge_state : Inside → JudgeState
-judge_state a = record { rule = a.rule; mode = a.mode; lease = a.lease; now = a.moment; judgings = judging_values a.judgings.items; leases = a.leases.leases }
+judge_state a =
+    record {
+      rule = a.rule;
+      mode = a.mode;
+      lease = a.lease;
+      now = a.moment;
+      judgings = judging_values a.judgings.items;
+      leases = a.leases.leases;
+    }
 
 abbrev pub judge_value : Inside → JudgeValue
 judge_value a = record { state = judge_state a; hosts = a.hosts; reserved = reserved_of a.prepared.items }

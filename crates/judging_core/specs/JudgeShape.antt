@@ -8,7 +8,8 @@ use Rattle.lazy_stop.specs.Matters.{IsPossible}
 use Rattle.judging_core.specs.declared.judgings.KeptJudging.{KeptJudging}
 
 abbrev pub judging_value : KeptJudging → Judging
-judging_value kept = record { class = kept.class; row = kept.row.cells; handed = kept.handed.items; dropped = kept.dropped }
+judging_value kept =
+    record { class = kept.class; row = kept.row.cells; handed = kept.handed.items; dropped = kept.dropped }
 
 abbrev pub judging_values : List KeptJudging → List Judging
 judging_values judgings = map judging_value judgings

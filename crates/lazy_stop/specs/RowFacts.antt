@@ -30,7 +30,8 @@ pub record IsFirstEmpty {X : Type 0} (cells : List (Option X)) (at : ℕ) : Type
   pub filled : (i : ℕ) → i < at → slice_get cells i ≢ Some None
   pub empty : at < length cells → slice_get cells at ≡ Some None
 
-pub record IsRow (rule : RuleValue) (extremes : Extremes) (best : Option Best) (first_empty : ℕ) (cells : Row) : Type 0 where
+pub record IsRow (rule : RuleValue) (extremes : Extremes) (best : Option Best) (first_empty : ℕ) (cells : Row)
+    : Type 0 where
   pub extremes_is : IsExtremes rule extremes
   pub possible : AllPossible (possible_kinds rule) cells
   pub best_is : BestIs rule cells best

@@ -14,7 +14,8 @@ use Rattle.package_folder.specs.declared.package.PackageFault.{PackageFault}
 use Rattle.package_folder.specs.Names.{paths_below, stems_of, test_limit}
 use Rattle.package_folder.specs.Reading.{and_then, yaml_in, limit_in, flags_by, data_of, tests_in, check_by}
 
-abbrev pub with_tests : List TreeFile → List ℕ → ℕ → YamlValue → ℕ → Option ValidatorFlags → List Test → Result Package PackageFault
+abbrev pub with_tests : List TreeFile → List ℕ → ℕ → YamlValue → ℕ → Option ValidatorFlags → List Test
+    → Result Package PackageFault
 with_tests files path ips yaml ms flags tests =
     and_then (λ check. Ok record { name = yaml.name; tests = tests; limits = limits_of yaml ms ips; check = check })
     (check_by files path yaml.flags flags tests)
@@ -26,7 +27,8 @@ with_flags files path ips yaml ms flags =
 
 abbrev pub with_yaml : List TreeFile → List ℕ → ℕ → YamlValue → Result Package PackageFault
 with_yaml files path ips yaml =
-    and_then (λ ms. and_then (with_flags files path ips yaml ms) (flags_by yaml.validation yaml.flags)) (limit_in files path)
+    and_then (λ ms. and_then (with_flags files path ips yaml ms) (flags_by yaml.validation yaml.flags))
+    (limit_in files path)
 
 -- the package in the folder at the path, or its first fault
 unfoldable pub package_of : List TreeFile → List ℕ → ℕ → Result Package PackageFault

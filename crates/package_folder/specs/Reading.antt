@@ -98,12 +98,14 @@ total_with_bytes files path test total file =
 abbrev pub total_with_test : List TreeFile → List ℕ → ℕ → List ℕ → Result ℕ PackageFault
 total_with_test files path total stem =
     let test = name_below (data_of path) stem in
-    and_then (λ one. total_with_bytes files path test one (answer_path stem)) (total_with_bytes files path test total (input_path stem))
+    and_then (λ one. total_with_bytes files path test one (answer_path stem))
+    (total_with_bytes files path test total (input_path stem))
 
 -- the bytes of the test files in order, each input before its answer
 abbrev pub total_from : List TreeFile → List ℕ → ℕ → List (List ℕ) → Result ℕ PackageFault
 total_from files path total [] = Ok total
-total_from files path total (stem ∷ stems) = and_then (λ both. total_from files path both stems) (total_with_test files path total stem)
+total_from files path total (stem ∷ stems) =
+    and_then (λ both. total_from files path both stems) (total_with_test files path total stem)
 
 -- a total, where what was read is there
 abbrev pub total_or : {A : Type 0} → ℕ → Result A PackageFault → Result ℕ PackageFault

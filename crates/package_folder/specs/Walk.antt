@@ -29,12 +29,15 @@ pub record Reaches (files : List TreeFile) (folder : List ℕ) (found folders : 
 -- Folders that are listed have short paths, and what they hold has longer ones.
 abbrev pub Deepens : List (List ℕ) → List (List ℕ) → Type 0
 Deepens folders inner =
-    (n : ℕ) → All (λ path. n ≤ length path) folders → (inner ≡ []) ⊎ ((n ≤ path_limit) × All (λ path. n + 1 ≤ length path) inner)
+    (n : ℕ) → All (λ path. n ≤ length path) folders
+    → (inner ≡ []) ⊎ ((n ≤ path_limit) × All (λ path. n + 1 ≤ length path) inner)
 
 -- One folder is listed: its files are found, and its folders are still to be listed.
-pub record Visits (files : List TreeFile) (folder : List ℕ) (found found' folders folders' : List (List ℕ)) : Type 0 where
+pub record Visits (files : List TreeFile) (folder : List ℕ) (found found' folders folders' : List (List ℕ))
+    : Type 0 where
   pub found_before : (path : List ℕ) → Contains found path → Contains found' path
-  pub found_there : (path : List ℕ) → Contains found' path → Contains found path ⊎ (HasFile files path × LiesBelow folder path)
+  pub found_there : (path : List ℕ) → Contains found' path
+      → Contains found path ⊎ (HasFile files path × LiesBelow folder path)
   pub folders_before : (path : List ℕ) → Contains folders path → Contains folders' path
   pub folders_there : (path : List ℕ) → Contains folders' path → Contains folders path ⊎ LiesBelow folder path
   pub covers : (path : List ℕ) → HasFile files path → LiesBelow folder path
@@ -43,4 +46,5 @@ pub record Visits (files : List TreeFile) (folder : List ℕ) (found found' fold
 -- What was added are paths below a folder that is short.
 abbrev pub DeepensBy : List ℕ → List (List ℕ) → List (List ℕ) → Type 0
 DeepensBy folder folders folders' =
-    (more : List (List ℕ)) × (folders' ≡ folders ++ more) × ((more ≡ []) ⊎ ((length folder ≤ path_limit) × All (λ path. length folder + 1 ≤ length path) more))
+    (more : List (List ℕ)) × (folders' ≡ folders ++ more)
+    × ((more ≡ []) ⊎ ((length folder ≤ path_limit) × All (λ path. length folder + 1 ≤ length path) more))

@@ -30,7 +30,8 @@ roster_events roster = contest_events (map named_problem roster.problems) (map n
 abbrev pub tests_for : RosterValue → Submission → ℕ
 tests_for roster submission =
     if is_image submission.image
-    then number_or_0 (option_map (λ (problem : Problem). length problem.contents.tests) (problem_named roster.problems submission.problem))
+    then number_or_0 (option_map (λ (problem : Problem). length problem.contents.tests)
+    (problem_named roster.problems submission.problem))
     else 0
 
 -- what running the tests of the submission of this number gives

@@ -25,7 +25,8 @@ pub record IsRunnable (case_at : Task → Option TestCase) (j : ℕ) (judging : 
   pub cases : (test : ℕ) → 1 ≤ test → test ≤ length judging.row → IsSome (case_at (task_of j test))
 
 abbrev pub AreRunnable : (Task → Option TestCase) → List Judging → Type 0
-AreRunnable case_at judgings = (j : ℕ) (judging : Judging) → item_of judgings j ≡ Some judging → IsRunnable case_at j judging
+AreRunnable case_at judgings =
+    (j : ℕ) (judging : Judging) → item_of judgings j ≡ Some judging → IsRunnable case_at j judging
 
 -- the host is up, no task is held, and each judging can be run
 pub record IsReady (case_at : Task → Option TestCase) (host : List ℕ) (s : State) : Type 0 where
@@ -44,13 +45,15 @@ abbrev pub row_lengths : State → List ℕ
 row_lengths s = map (λ judging. length judging.row) s.judge.judgings
 
 -- a farm that a contest has entered, whose judgings have so many cells each, and at which the host can work
-pub record IsEntered (settings : SettingsValue) (case_at : Task → Option TestCase) (cells host : List ℕ) (s : State) : Type 0 where
+pub record IsEntered (settings : SettingsValue) (case_at : Task → Option TestCase) (cells host : List ℕ) (s : State)
+    : Type 0 where
   pub ready : IsReady case_at host s
   pub honest : IsHonestRun settings case_at s
   pub lengths : row_lengths s ≡ cells
 
 -- the same, once no task is open any more
-pub record IsFinished (settings : SettingsValue) (case_at : Task → Option TestCase) (cells : List ℕ) (s : State) : Type 0 where
+pub record IsFinished (settings : SettingsValue) (case_at : Task → Option TestCase) (cells : List ℕ) (s : State)
+    : Type 0 where
   pub host : List ℕ
   pub entered : IsEntered settings case_at cells host s
   pub ended : first_open s.judge ≡ None

@@ -24,7 +24,8 @@ empty_refusal (m ∷ list) = None
 
 -- why no room is made for a rejudging of these members
 abbrev pub reserve_refusal : List Rejudging → List ℕ → Option BookFault
-reserve_refusal rejudgings list = first_of (twice_refusal fault.Twice list ∷ busy_refusal fault.Busy rejudgings list ∷ [])
+reserve_refusal rejudgings list =
+    first_of (twice_refusal fault.Twice list ∷ busy_refusal fault.Busy rejudgings list ∷ [])
 
 -- why no rejudging of these members is prepared
 abbrev pub prepare_refusal : List Rejudging → List ℕ → Option BookFault

@@ -49,8 +49,10 @@ pub record IsCode (m : memory.State) (c : Code) : Type 0 where
   pub count : length c.steps.items ≡ length c.numbers.items
   pub whole : (k : ℕ) → k < length c.numbers.items → length (get_or c.steps.items k []) ≡ 1024
   pub touched : (k : ℕ) → k < length c.numbers.items → memory.is_touched m (get_or c.numbers.items k 0) ≡ true
-  pub found : (k : ℕ) → k < length c.numbers.items → get_or c.marks.items (memory.place m.pages (get_or c.numbers.items k 0)) 0 ≡ k + 1
-  pub fresh : (k j : ℕ) → k < length c.numbers.items → j < 1024 → IsFresh (memory.word_at m (4096 * get_or c.numbers.items k 0 + 4 * j)) (step_of c k j)
+  pub found : (k : ℕ) → k < length c.numbers.items
+      → get_or c.marks.items (memory.place m.pages (get_or c.numbers.items k 0)) 0 ≡ k + 1
+  pub fresh : (k j : ℕ) → k < length c.numbers.items → j < 1024
+      → IsFresh (memory.word_at m (4096 * get_or c.numbers.items k 0 + 4 * j)) (step_of c k j)
 
 -- the word at an address is decoded, in a page at a place among the decoded ones
 pub record IsReady (c : Code) (here pc : ℕ) : Type 0 where
@@ -73,7 +75,8 @@ pub record DiffersAt (m n : memory.State) (word : ℕ) : Type 0 where
 -- a step is as it was, or it is not decoded any more
 abbrev pub IsClearedAt : List (List Instr) → List (List Instr) → ℕ → ℕ → Type 0
 IsClearedAt old new i j =
-    (get_or (get_or new i []) j undecoded ≡ get_or (get_or old i []) j undecoded) ⊎ (get_or (get_or new i []) j undecoded ≡ undecoded)
+    (get_or (get_or new i []) j undecoded ≡ get_or (get_or old i []) j undecoded)
+    ⊎ (get_or (get_or new i []) j undecoded ≡ undecoded)
 
 -- n is m after a store
 pub record IsWritten (m n : memory.State) (w : Stored) : Type 0 where

@@ -50,9 +50,11 @@ abbrev pub Enters : Result ℕ Stop → Hart → Storage → Type 0
 Enters (Ok here) h new = (memory.is_over h.memory (h.pc / 4096) ≡ false) × (hart_of new h.pc ≡ fetched h)
 Enters (Err (Ended e)) h new =
     ((e ≡ Memory) × (memory.is_over h.memory (h.pc / 4096) ≡ true) × (hart_of new h.pc ≡ h))
-    ⊎ ((memory.is_over h.memory (h.pc / 4096) ≡ false) × (hart_of new h.pc ≡ fetched h) × Does (fetched h) (Stopped (Ended e)) (instruction (fetched h)) new)
+    ⊎ ((memory.is_over h.memory (h.pc / 4096) ≡ false) × (hart_of new h.pc ≡ fetched h)
+    × Does (fetched h) (Stopped (Ended e)) (instruction (fetched h)) new)
 Enters (Err Call) h new = ⊥
-Enters (Err NoMemory) h new = (hart_of new h.pc ≡ h) ⊎ ((memory.is_over h.memory (h.pc / 4096) ≡ false) × (hart_of new h.pc ≡ fetched h))
+Enters (Err NoMemory) h new =
+    (hart_of new h.pc ≡ h) ⊎ ((memory.is_over h.memory (h.pc / 4096) ≡ false) × (hart_of new h.pc ≡ fetched h))
 
 abbrev pub IsBreak : Option Instr → Type 0
 IsBreak None = ⊥

@@ -61,8 +61,11 @@ branches h i taken =
     if taken then (if nat_eq (relative h i % 4) 0 then Moves (record h { pc = relative h i }) else Ends (Trap Jump) h)
     else passes h
 
--- an access of n bytes at an address: it is misaligned, it would touch a page more than the limit, or the page is touched
+-- an access of n bytes at an address: it is misaligned, it would touch a page more than the limit, or the page is
+-- touched
 abbrev pub accesses : Hart → ℕ → ℕ → (Hart → Effect) → Effect
 accesses h n at f =
-    if nat_eq (at % n) 0 then (if memory.is_over h.memory (at / 4096) then Ends Memory h else f (record h { memory = memory.touch h.memory (at / 4096) }))
+    if nat_eq (at % n) 0
+    then (if memory.is_over h.memory (at / 4096) then Ends Memory h
+    else f (record h { memory = memory.touch h.memory (at / 4096) }))
     else Ends (Trap Misaligned) h

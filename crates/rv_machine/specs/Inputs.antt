@@ -22,7 +22,8 @@ inputs_of f = record { stdin = f.stdin.now; extra = extra_of f.extra }
 
 abbrev extra_left : Option ExtraInputs → ℕ → Option (List ℕ)
 extra_left None d = None
-extra_left (Some e) d = if nat_eq d 3 then Some e.input else if nat_eq d 4 then Some e.answer else if nat_eq d 5 then Some e.flags else None
+extra_left (Some e) d =
+    if nat_eq d 3 then Some e.input else if nat_eq d 4 then Some e.answer else if nat_eq d 5 then Some e.flags else None
 
 -- what is left to read at a descriptor, if it can be read
 abbrev pub left_at : Inputs → ℕ → Option (List ℕ)
@@ -31,7 +32,8 @@ left_at f d = if nat_eq d 0 then Some f.stdin else extra_left f.extra d
 abbrev extra_with : Option ExtraInputs → ℕ → List ℕ → Option ExtraInputs
 extra_with None d rest = None
 extra_with (Some e) d rest =
-    Some (if nat_eq d 3 then record e { input = rest } else if nat_eq d 4 then record e { answer = rest } else if nat_eq d 5 then record e { flags = rest } else e)
+    Some (if nat_eq d 3 then record e { input = rest } else if nat_eq d 4 then record e { answer = rest }
+    else if nat_eq d 5 then record e { flags = rest } else e)
 
 -- the inputs where this is left at a descriptor
 abbrev pub with_left : Inputs → ℕ → List ℕ → Inputs

@@ -17,7 +17,8 @@ steps (suc n) s = then_on (steps n) (machine_step s)
 
 -- wherever the repeated step ends, that is the finish
 abbrev pub EndsAsFinish : Type 0
-EndsAsFinish = (s : State) (n : ℕ) (e : Ending) (t : State) → steps n s ≡ End e t → finish s ≡ record { ending = e; state = t }
+EndsAsFinish =
+    (s : State) (n : ℕ) (e : Ending) (t : State) → steps n s ≡ End e t → finish s ≡ record { ending = e; state = t }
 
 -- the repeated step does end: when it was made once more than there are instructions left
 abbrev pub EndsInTime : Type 0
@@ -25,7 +26,9 @@ EndsInTime = (s : State) → steps (s.limits.instructions - s.cost) s ≡ End (f
 
 -- a machine with an image is one with nothing in memory, in which the image was put at 0x10000
 abbrev pub LoadsByPlacing : Type 0
-LoadsByPlacing = (image : List ℕ) (limits : Limits) (inputs : Inputs) → loaded image limits inputs ≡ placed 0x10000 image (blank 0x10000 limits inputs)
+LoadsByPlacing =
+    (image : List ℕ) (limits : Limits) (inputs : Inputs)
+    → loaded image limits inputs ≡ placed 0x10000 image (blank 0x10000 limits inputs)
 
 -- no bytes touch no page
 abbrev pub PlacesNothing : Type 0

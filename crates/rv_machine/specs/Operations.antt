@@ -25,7 +25,11 @@ loads n value h i = accesses h n (address h i) (λ touched. gives touched i (val
 -- the low n bytes of rs2 go to memory
 abbrev pub stores : ℕ → (memory.State → ℕ → ℕ → memory.State) → Hart → Instr → Effect
 stores n store h i =
-    accesses h n (address h i) (λ touched. Moves (record { regs = h.regs; pc = next_pc h; memory = store h.memory (address h i) (reg h i.rs2) }))
+    accesses h n (address h i) (λ touched. Moves (record {
+      regs = h.regs;
+      pc = next_pc h;
+      memory = store h.memory (address h i) (reg h i.rs2);
+    }))
 
 -- a byte and a half-word with their sign
 abbrev pub signed_byte : memory.State → ℕ → ℕ

@@ -25,8 +25,8 @@ loaded image limits inputs =
 abbrev pub blank : ℕ → Limits → Inputs → Run
 blank entry limits inputs = record { state = start entry limits inputs; answer = None }
 
--- bytes are put at an address; where their pages are not within the limit, that is the answer, and a machine that has its
--- answer stays as it is
+-- bytes are put at an address; where their pages are not within the limit, that is the answer, and a machine that has
+-- its answer stays as it is
 abbrev pub placed_where : Option (Result Ending NoMemory) → ℕ → List ℕ → Run → Run
 placed_where None at bytes r =
     if memory.fits r.state.hart.memory at (length bytes) then record r { state = filled at bytes r.state }

@@ -25,7 +25,11 @@ pub data Outcome : Type 0 where
 
 -- the call answers a number in x10 and costs 1 and so many bytes
 abbrev pub answers : State → ℕ → ℕ → Outcome
-answers s v n = Next (record s { hart = record s.hart { regs = written s.hart.regs 10 v; pc = next_pc s.hart }; cost = s.cost + 1 + n })
+answers s v n =
+    Next (record s {
+      hart = record s.hart { regs = written s.hart.regs 10 v; pc = next_pc s.hart };
+      cost = s.cost + 1 + n;
+    })
 
 abbrev pub unknown_descriptor : State → Outcome
 unknown_descriptor s = answers s (2 ^ 32 - 1) 0
@@ -47,12 +51,21 @@ abbrev pub reads : State → ℕ → ℕ → ℕ → Option (List ℕ) → Outco
 reads s d at room None = unknown_descriptor s
 reads s d at room (Some left) =
     let n = min room (length left) in
-    transfers s at n (answers (record s { hart = record s.hart { memory = memory.store_bytes (memory.touch_range s.hart.memory at n) at (take n left) }; inputs = with_left s.inputs d (drop n left) }) n n)
+    transfers s at n (answers (record s {
+      hart = record s.hart {
+        memory = memory.store_bytes (memory.touch_range s.hart.memory at n) at (take n left);
+      };
+      inputs = with_left s.inputs d (drop n left);
+    }) n n)
 
 -- write: bytes of memory go to the output, and what is written to descriptor 2 is let go
 abbrev pub writes : State → ℕ → ℕ → ℕ → Outcome
 writes s d at n =
-    if nat_eq d 1 then transfers s at n (if nat_lt s.limits.output (length s.output + n) then End Output s else answers (record (touched s at n) { output = s.output ++ memory.bytes_at (touched s at n).hart.memory at n }) n n)
+    if nat_eq d 1 then transfers s at n (
+    if nat_lt s.limits.output (length s.output + n) then End Output s
+    else answers (record (touched s at n) {
+      output = s.output ++ memory.bytes_at (touched s at n).hart.memory at n;
+    }) n n)
     else if nat_eq d 2 then transfers s at n (answers (touched s at n) n n)
     else unknown_descriptor s
 

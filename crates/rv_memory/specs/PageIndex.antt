@@ -12,8 +12,12 @@ top index r = get_or index.tops.items r 0
 
 -- a region has a leaf where the leaf that stands there is its own
 abbrev pub has_leaf : PageIndex → ℕ → Bool
-has_leaf index r = nat_lt (top index r) (length index.leaves.items) && nat_eq (get_or index.leaves.items (top index r) no_leaf).region r
+has_leaf index r =
+    nat_lt (top index r) (length index.leaves.items)
+    && nat_eq (get_or index.leaves.items (top index r) no_leaf).region r
 
 -- what the index has for a page
 abbrev pub entry : PageIndex → ℕ → Option ℕ
-entry index p = if has_leaf index (p / 1024) then Some (get_or (get_or index.leaves.items (top index (p / 1024)) no_leaf).slots (p % 1024) 0) else None
+entry index p =
+    if has_leaf index (p / 1024)
+    then Some (get_or (get_or index.leaves.items (top index (p / 1024)) no_leaf).slots (p % 1024) 0) else None

@@ -53,7 +53,9 @@ bytes_at s a (suc n) = byte_at s a ∷ bytes_at s (a + 1) n
 
 -- a page is touched: a new one has zeros
 abbrev pub touch : State → ℕ → State
-touch s p = if is_touched s p then s else record { limit = s.limit; pages = s.pages ++ record { number = p; bytes = zeros } ∷ [] }
+touch s p =
+    if is_touched s p then s
+    else record { limit = s.limit; pages = s.pages ++ record { number = p; bytes = zeros } ∷ [] }
 
 -- touching the page would make one page more than the limit
 abbrev pub is_over : State → ℕ → Bool

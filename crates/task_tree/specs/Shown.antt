@@ -29,7 +29,8 @@ pub record HasTask (judgings : List JudgingTasks) (task : Task) : Type 0 where
 
 -- the task is shown, or hidden
 abbrev pub with_shown : List JudgingTasks → Task → Bool → List JudgingTasks
-with_shown judgings task shown = with_change judgings task.judging (λ j. record j { shown = with_item j.shown task.test shown })
+with_shown judgings task shown =
+    with_change judgings task.judging (λ j. record j { shown = with_item j.shown task.test shown })
 
 abbrev pub is_shown_test : List Bool → ℕ → Bool
 is_shown_test shown test = slice_index_or shown (test - 1) false

@@ -19,4 +19,6 @@ pub record HasRoom (classes : Classes) (count : ℕ) : Type 0 where
 pub record IsReserved (old new : Classes) (place : ℕ) : Type 0 where
   pub same : (c : Class) (i : ℕ) → bit (of_class new c).numbers i ≡ bit (of_class old c).numbers i
   pub grows : (c : Class) → length (of_class old c).numbers ≤ length (of_class new c).numbers
-  pub top_words : (c : Class) → ((of_class new c).top_words ≡ (of_class old c).top_words) ⊎ ((of_class new c).top_words ≡ place / 64 / 64 / 64 + 1)
+  pub top_words : (c : Class)
+      → ((of_class new c).top_words ≡ (of_class old c).top_words)
+      ⊎ ((of_class new c).top_words ≡ place / 64 / 64 / 64 + 1)

@@ -40,7 +40,8 @@ pub record AreSized (judgings : List KeptTasks) : Type 0 where
 
 -- the set has the places of the judgings of the class of which a task is shown
 pub record IsIndexOf (class : Class) (judgings : List KeptTasks) (numbers : List ℕ) : Type 0 where
-  pub listed : (i k : ℕ) → i < length judgings → (kept_at judgings i).class ≡ class → bit (kept_at judgings i).shown k ≡ 1 → bit numbers i ≡ 1
+  pub listed : (i k : ℕ) → i < length judgings → (kept_at judgings i).class ≡ class
+      → bit (kept_at judgings i).shown k ≡ 1 → bit numbers i ≡ 1
   pub known : (i : ℕ) → bit numbers i ≡ 1 → i < length judgings
   pub class_is : (i : ℕ) → bit numbers i ≡ 1 → (kept_at judgings i).class ≡ class
   pub some : (i : ℕ) → bit numbers i ≡ 1 → (k : ℕ) × (bit (kept_at judgings i).shown k ≡ 1)
