@@ -1,0 +1,58 @@
+-- Where leases stand in an order.
+use Rattle.std.specs.Prelude.{ℕ, List, [], ◌∷◌, ◌++◌, Bool, true, ◌&&◌, ◌||◌, ◌==◌, nat_lt, ◌≡◌, count_by}
+use Rattle.std.specs.List.{AllByRecursion}
+use Rattle.farm_model.specs.declared.records.Lease.{Lease}
+use Rattle.farm_model.specs.Leases.{same_task, is_task_before}
+use Rattle.lease_tree.specs.declared.keys.Key.{Key}
+use Rattle.lease_tree.specs.declared.keys.Order.{Order}
+use Rattle.lease_tree.specs.declared.keys.Order.TheVariants as order
+
+-- the number that decides first
+abbrev pub rank_of : Order → Lease → ℕ
+rank_of order.Judging lease = lease.task.judging
+rank_of order.Host lease = lease.host
+rank_of order.End lease = lease.until
+
+abbrev pub key_of : Order → Lease → Key
+key_of by lease = record { rank = rank_of by lease; task = lease.task }
+
+-- by rank and then by task
+abbrev pub is_key_before : Key → Key → Bool
+is_key_before a b = nat_lt a.rank b.rank || (a.rank == b.rank && is_task_before a.task b.task)
+
+-- one lease comes before the other
+abbrev pub is_before : Order → Lease → Lease → Bool
+is_before by a b = is_key_before (key_of by a) (key_of by b)
+
+abbrev pub has_rank : Order → ℕ → Lease → Bool
+has_rank by rank lease = rank_of by lease == rank
+
+-- how many leases have a lesser rank
+abbrev pub count_below : Order → ℕ → List Lease → ℕ
+count_below by rank leases = count_by (λ lease. nat_lt (rank_of by lease) rank) leases
+
+abbrev pub has_key : Order → Key → Lease → Bool
+has_key by key lease = rank_of by lease == key.rank && same_task lease.task key.task
+
+-- no lease comes before this one
+abbrev pub NoneBefore : Order → List Lease → Lease → Type 0
+NoneBefore by leases lease = count_by (λ other. is_before by other lease) leases ≡ 0
+
+-- each lease comes before those that follow it
+abbrev pub Rising : Order → List Lease → Type 0
+Rising by [] = Unit {0}
+Rising by (x ∷ xs) = AllByRecursion (λ y. is_before by x y ≡ true) xs × Rising by xs
+
+-- the new leases have one more
+pub record IsAdded (old new : List Lease) (lease : Lease) : Type 0 where
+  pub before : List Lease
+  pub after : List Lease
+  pub old_is : old ≡ before ++ after
+  pub new_is : new ≡ before ++ lease ∷ after
+
+-- the old leases have one more
+pub record IsTaken (old new : List Lease) (lease : Lease) : Type 0 where
+  pub before : List Lease
+  pub after : List Lease
+  pub old_is : old ≡ before ++ lease ∷ after
+  pub new_is : new ≡ before ++ after

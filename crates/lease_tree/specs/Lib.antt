@@ -1,0 +1,4 @@
+pub mod Keys
+pub mod Trees
+pub mod TreeValue
+pub mod TreeLayout

@@ -1,0 +1,80 @@
+ghost use Rattle.std.specs.Prelude.{◌≡◌, ◌-◌, ◌^◌, find, slice_get, min};
+ghost use Rattle.lease_tree.specs.Keys.{Rising, has_key, has_rank, count_below};
+ghost use Rattle.lease_tree.specs.Trees.{leases_of, IsSized};
+
+use crate::keys::{Key, Order};
+use crate::node::{Tree, size};
+use farm_model::Lease;
+
+/// The first lease.
+pub fn first(tree: &Tree) -> Option<Lease>
+    ensures { result ≡ slice_get (leases_of tree.now) 0 }
+{
+    match tree {
+        Tree::Leaf => None,
+        Tree::Fork(node) => match first(&node.left) {
+            None => Some(node.lease),
+            Some(lease) => Some(lease),
+        },
+    }
+}
+
+/// The lease that stands there.
+#[tactic(auto, using(crate::proofs::Rises::rising_left, crate::proofs::Rises::rising_right, crate::proofs::Rises::key_left, crate::proofs::Rises::key_right, crate::proofs::Rises::key_here))]
+pub fn find(tree: &Tree, order: Order, key: Key) -> Option<Lease>
+    ensures { Rising order (leases_of tree.now) → result ≡ find (has_key order key) (leases_of tree.now) }
+{
+    match tree {
+        Tree::Leaf => None,
+        Tree::Fork(node) => {
+            let here = order.key(node.lease);
+            if key.is_before(here) {
+                find(&node.left, order, key)
+            } else if here.is_before(key) {
+                find(&node.right, order, key)
+            } else {
+                Some(node.lease)
+            }
+        }
+    }
+}
+
+/// The first lease of the rank.
+#[tactic(auto, using(crate::proofs::Rises::rising_left, crate::proofs::Rises::rising_right, crate::proofs::Rises::rank_left, crate::proofs::Rises::rank_right, crate::proofs::Rises::rank_here, crate::proofs::Rises::rank_first))]
+pub fn first_of(tree: &Tree, order: Order, rank: u64) -> Option<Lease>
+    ensures { Rising order (leases_of tree.now) → result ≡ find (has_rank order rank) (leases_of tree.now) }
+{
+    match tree {
+        Tree::Leaf => None,
+        Tree::Fork(node) => {
+            let here = order.rank(node.lease);
+            if rank < here {
+                return first_of(&node.left, order, rank);
+            }
+            if here < rank {
+                return first_of(&node.right, order, rank);
+            }
+            match first_of(&node.left, order, rank) {
+                None => Some(node.lease),
+                Some(lease) => Some(lease),
+            }
+        }
+    }
+}
+
+/// How many leases have a lesser rank, at most 2^32 - 1.
+#[tactic(auto, using(crate::proofs::Rises::capped_left, crate::proofs::Rises::capped_right))]
+pub fn count_below(tree: &Tree, order: Order, rank: u64) -> u32
+    ensures { IsSized tree.now → Rising order (leases_of tree.now) → result ≡ min (count_below order rank (leases_of tree.now)) (2 ^ 32 - 1) }
+{
+    match tree {
+        Tree::Leaf => 0,
+        Tree::Fork(node) => {
+            if rank <= order.rank(node.lease) {
+                return count_below(&node.left, order, rank);
+            }
+            let right = count_below(&node.right, order, rank);
+            size(&node.left).saturating_add(1).saturating_add(right)
+        }
+    }
+}
