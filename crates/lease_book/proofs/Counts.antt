@@ -1,6 +1,5 @@
 -- How many items of a list pass a test, and what filters make of that.
-use Rattle.std.proofs.Common.{ℕ, ◌≡◌, ◌+◌, ◌≤◌, List, [], ◌∷◌, ◌++◌, Some, None, Bool, true, false, not, cond, refl, sym, ap, ◌∙◌, arith, length, filter, find, count_by, is_some, fold}
-use Rattle.std.specs.List.{reduce}
+use Rattle.std.proofs.Common.{ℕ, ◌≡◌, ◌+◌, ◌≤◌, List, [], ◌∷◌, ◌++◌, Some, None, Bool, true, false, not, cond, refl, sym, ap, ◌∙◌, subst, arith, length, filter, find, count_by, is_some}
 use Rattle.std.proofs.lemmas.List.Sums.{sum_by-cons, sum_by_push, length-filter}
 use Rattle.std.proofs.lemmas.List.Filters.{length-filter_both, sum_by-filter_both}
 
@@ -75,21 +74,80 @@ filters_swap {X} p q (x ∷ xs) =
 pub counts_swap : {X : Type 0} (p q : X → Bool) (xs : List X) → count_by p (filter q xs) ≡ count_by q (filter p xs)
 counts_swap p q xs = sym (length-filter p (filter q xs)) ∙ (ap (λ ys. length ys) (filters_swap p q xs) ∙ length-filter q (filter p xs))
 
--- f gives one of its arguments, seen by the test
-abbrev pub Picks : {X : Type 0} → (X → Bool) → (X → X → X) → Type 0
-Picks {X} p f = (a b : X) → one_if (p (f a b)) ≤ one_if (p a) + one_if (p b)
+-- a test that passes whatever another does passes no fewer
+pub count_wider : {X : Type 0} (p q : X → Bool) → ((x : X) → q x ≡ true → p x ≡ true) → (xs : List X) → count_by q xs ≤ count_by p xs
+count_wider p q h [] = omega arith
+count_wider {X} p q h (x ∷ xs) =
+    let here : (t : Bool) → q x ≡ t → one_if t ≤ one_if (p x)
+    = λ t. elim t as (λ t. q x ≡ t → one_if t ≤ one_if (p x)) [
+      | true ↦ λ e. let one : one_if (p x) ≡ 1 = ap one_if (h x e) in omega (arith, one)
+      | false ↦ λ e. omega arith
+    ] in
+    omega (arith, here (q x) refl, count_wider p q h xs, count_cons p x xs, count_cons q x xs)
 
-pub picked_fold : {X : Type 0} (p : X → Bool) (f : X → X → X) → Picks p f → (a : X) (xs : List X) → one_if (p (fold f a xs)) ≤ one_if (p a) + count_by p xs
-picked_fold p f h a [] = omega arith
-picked_fold p f h a (x ∷ xs) = omega (arith, picked_fold p f h (f a x) xs, h a x, count_cons p x xs)
+-- what is found passes, and is one of the items
+pub found_passes : {X : Type 0} (p : X → Bool) (xs : List X) (x : X) → find p xs ≡ Some x → p x ≡ true
+found_passes p [] x e = cc
+found_passes {X} p (y ∷ ys) x e =
+    elim (p y) as (λ t. p y ≡ t → cond t (Some y) (find p ys) ≡ Some x → p x ≡ true) [
+      | true ↦ λ t f. let is : y ≡ x = cc in subst (λ (z : X). p z ≡ true) is t
+      | false ↦ λ t f. found_passes p ys x f
+    ] refl e
 
-pub picked : {X : Type 0} (p : X → Bool) (f : X → X → X) → Picks p f → (xs : List X) (x : X) → reduce f xs ≡ Some x → p x ≡ true → 1 ≤ count_by p xs
-picked p f h [] x e t = cc
-picked p f h (y ∷ ys) x e t =
-    let is : fold f y ys ≡ x = cc in
-    let one : one_if (p (fold f y ys)) ≡ 1 = ap (λ z. one_if (p z)) is ∙ ap one_if t in
-    omega (arith, picked_fold p f h y ys, count_cons p y ys, one)
+pub found_counts : {X : Type 0} (p q : X → Bool) (xs : List X) (x : X) → find p xs ≡ Some x → q x ≡ true → 1 ≤ count_by q xs
+found_counts p q [] x e t = cc
+found_counts {X} p q (y ∷ ys) x e t =
+    elim (p y) as (λ b. cond b (Some y) (find p ys) ≡ Some x → 1 ≤ count_by q (y ∷ ys)) [
+      | true ↦ λ f. let is : y ≡ x = cc in let one : one_if (q y) ≡ 1 = ap (λ (z : X). one_if (q z)) is ∙ ap one_if t in omega (arith, count_cons q y ys, one)
+      | false ↦ λ f. omega (arith, count_cons q y ys, found_counts p q ys x f t)
+    ] e
 
-pub none_picked : {X : Type 0} (f : X → X → X) (xs : List X) → reduce f xs ≡ None → xs ≡ []
-none_picked f [] e = refl
-none_picked f (x ∷ xs) e = cc
+pub none_counts : {X : Type 0} (p : X → Bool) (xs : List X) → find p xs ≡ None → count_by p xs ≡ 0
+none_counts p [] e = refl
+none_counts {X} p (y ∷ ys) e =
+    elim (p y) as (λ b. p y ≡ b → cond b (Some y) (find p ys) ≡ None → count_by p (y ∷ ys) ≡ 0) [
+      | true ↦ λ t f. cc
+      | false ↦ λ t f. let none : one_if (p y) ≡ 0 = ap one_if t in omega (arith, count_cons p y ys, none, none_counts p ys f)
+    ] refl e
+
+pub counts_none : {X : Type 0} (p : X → Bool) (xs : List X) → count_by p xs ≡ 0 → find p xs ≡ None
+counts_none p [] e = refl
+counts_none {X} p (y ∷ ys) e =
+    elim (p y) as (λ b. one_if b + count_by p ys ≡ 0 → cond b (Some y) (find p ys) ≡ None) [
+      | true ↦ λ (k : 1 + count_by p ys ≡ 0). absurd (omega arith)
+      | false ↦ λ (k : 0 + count_by p ys ≡ 0). counts_none p ys (omega arith)
+    ] (sym (count_cons p y ys) ∙ e)
+
+-- where at most one item passes p, and x is there and passes it, it is x that is found; q knows x
+pub found_only : {X : Type 0} (p q : X → Bool) (x : X) → ((y : X) → q y ≡ true → y ≡ x) → p x ≡ true → (xs : List X) → count_by p xs ≤ 1 → 1 ≤ count_by q xs → find p xs ≡ Some x
+found_only p q x knows t [] few some = absurd (omega (arith, some))
+found_only {X} p q x knows t (y ∷ ys) few some =
+    let cp = count_cons p y ys in
+    let cq = count_cons q y ys in
+    let wide : count_by q ys ≤ count_by p ys = count_wider p q (λ z e. subst (λ (w : X). p w ≡ true) (sym (knows z e)) t) ys in
+    elim (q y) as (λ b. q y ≡ b → one_if b + count_by q ys ≡ count_by q (y ∷ ys) → cond (p y) (Some y) (find p ys) ≡ Some x) [
+      | true ↦ λ e k.
+          let is : y ≡ x = knows y e in
+          let here : p y ≡ true = subst (λ (w : X). p w ≡ true) (sym is) t in
+          rw here (ap Some is)
+      | false ↦ λ e (k : 0 + count_by q ys ≡ count_by q (y ∷ ys)).
+          let left : 1 ≤ count_by q ys = omega (arith, k, some) in
+          elim (p y) as (λ b. one_if b + count_by p ys ≤ 1 → cond b (Some y) (find p ys) ≡ Some x) [
+            | true ↦ λ (f : 1 + count_by p ys ≤ 1). absurd (omega (arith, wide, left, f))
+            | false ↦ λ (f : 0 + count_by p ys ≤ 1). found_only p q x knows t ys (omega (arith, f)) left
+          ] (omega (arith, cp, few))
+    ] refl (sym cq)
+
+pub filter_only : {X : Type 0} (p : X → Bool) (xs : List X) (x : X) → count_by p xs ≤ 1 → find p xs ≡ Some x → filter p xs ≡ x ∷ []
+filter_only p [] x few e = cc
+filter_only {X} p (y ∷ ys) x few e =
+    elim (p y) as (λ b. one_if b + count_by p ys ≤ 1 → cond b (Some y) (find p ys) ≡ Some x → cond b (y ∷ filter p ys) (filter p ys) ≡ x ∷ []) [
+      | true ↦ λ (f : 1 + count_by p ys ≤ 1) g.
+          let is : y ≡ x = cc in
+          let rest : filter p ys ≡ [] = no_more (filter p ys) (length-filter p ys ∙ omega (arith, f)) in
+          ap (λ z. z ∷ filter p ys) is ∙ ap (λ zs. x ∷ zs) rest
+      | false ↦ λ (f : 0 + count_by p ys ≤ 1) g. filter_only p ys x (omega (arith, f)) g
+    ] (omega (arith, count_cons p y ys, few)) e where
+      no_more : {X : Type 0} (xs : List X) → length xs ≡ 0 → xs ≡ []
+      no_more [] e = refl
+      no_more (x ∷ xs) e = absurd (omega (arith, e))

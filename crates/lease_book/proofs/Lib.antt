@@ -1,2 +1,5 @@
 pub mod Counts
 pub mod Singly
+pub mod Index
+pub mod Due
+pub mod Changed

@@ -1,18 +1,31 @@
-ghost use Rattle.std.specs.Prelude.{◌≡◌, ◌+◌, ◌-◌, ◌<◌, ◌≤◌, ◌^◌, length, is_some, None, OnOk, OnErr, IfNone, OnSome, if◌then◌else◌, vec_len, vec_capacity, ◌==◌};
-ghost use Rattle.farm_model.specs.Leases.{lease_on, held_count, with_lease, without_task, without_host, without_judging, judging_count, renewed, first_due};
+ghost use Rattle.std.specs.Prelude.{◌≡◌, ◌+◌, ◌-◌, ◌<◌, ◌≤◌, ◌^◌, ◌==◌, length, is_some, None, OnOk, OnErr, IfNone, IfSome, OnSome, if◌then◌else◌};
+ghost use Rattle.farm_model.specs.Leases.{lease_on, held_count, holds, with_lease, without_task, without_host, without_judging, judging_count, has_ended, renewed, first_due};
 ghost use Rattle.lease_book.specs.Book.{empty_book, room, IsSinglyLeased, without_lease, NoneEnds, OneEnds};
+ghost use Rattle.lease_book.specs.Changes.{EndsOne};
 
-use crate::lookup::{first_due, held_count, is_same_task, lease_on};
+use crate::change::Change;
 use farm_kinds::{NoMemory, Task};
 use farm_model::Lease;
+use http_server::Log;
+use lease_tree::{Key, LeaseTree, Order};
 use std::alloc::Global;
 use std::marker::Model;
 
 /// The leases that are held, at most one on a task, in the order in which they were last granted or
 /// renewed. Only `reserve` takes memory.
-#[derive(Debug, Drop)]
+///
+/// Each call but `reserve` takes a time that is logarithmic in the number of leases, for each lease that it
+/// grants, renews or ends, whatever their ends are and in which order the calls come. The leases are kept in
+/// three orders; the order in which they were granted is kept by no call, and only contracts see it.
+#[derive(Drop)]
 pub struct LeaseBook {
-    leases: Vec<Lease>,
+    by_judging: LeaseTree,
+    by_host: LeaseTree,
+    by_end: LeaseTree,
+    /// How many more leases each of the trees has room for.
+    spare: usize,
+    /// What was granted and ended so far, which takes no bytes: contracts see the leases in its order.
+    history: Log<Change, ()>,
 }
 
 impl Model for LeaseBook {
@@ -33,7 +46,11 @@ impl LeaseBook {
         ensures { result ≡ empty_book }
     {
         LeaseBook {
-            leases: Vec::new(alloc),
+            by_judging: LeaseTree::new(alloc, Order::Judging),
+            by_host: LeaseTree::new(alloc, Order::Host),
+            by_end: LeaseTree::new(alloc, Order::End),
+            spare: 0,
+            history: Log::new(),
         }
     }
 
@@ -46,7 +63,15 @@ impl LeaseBook {
         ensures unchanged { OnErr result (self.new ≡ self.old) }
         ensures needed { OnErr result (self.old.spare < n) }
     {
-        self.leases.reserve(n as usize).map_err(|_| NoMemory)
+        let wanted = n as usize;
+        if wanted <= self.spare {
+            return Ok(());
+        }
+        self.by_judging.reserve(n)?;
+        self.by_host.reserve(n)?;
+        self.by_end.reserve(n)?;
+        self.spare = wanted;
+        Ok(())
     }
 
     /// How many leases are held.
@@ -55,21 +80,21 @@ impl LeaseBook {
         ensures single { IsSinglyLeased self.now.leases }
         ensures few { length self.now.leases < 2 ^ 32 }
     {
-        self.leases.len() as u32
+        self.by_judging.len()
     }
 
     /// Whether no lease is held.
     pub fn is_empty(&self) -> bool
         ensures { result ≡ (length self.now.leases == 0) }
     {
-        self.leases.is_empty()
+        self.len() == 0
     }
 
     /// How many more leases can be granted before `reserve` must be called.
     pub fn spare(&self) -> usize
         ensures { result ≡ self.now.spare }
     {
-        self.leases.capacity() - self.leases.len()
+        self.spare
     }
 
     /// Grants the task to the host until that moment.
@@ -81,21 +106,30 @@ impl LeaseBook {
         ensures spare { self.new.spare + 1 ≡ self.old.spare }
         ensures room { room self.new ≡ room self.old }
     {
-        self.leases.push_reserved(Lease { host, task, until });
+        let lease = Lease { host, task, until };
+        self.by_judging.insert(lease);
+        self.by_host.insert(lease);
+        self.by_end.insert(lease);
+        self.spare -= 1;
+        self.history = self.history.and(&Change::Granted(lease), &());
     }
 
     /// The lease that is held on the task.
     pub fn find(&self, task: Task) -> Option<Lease>
         ensures { result ≡ lease_on self.now.leases task }
     {
-        lease_on(&self.leases, task)
+        self.by_judging.find(Key {
+            rank: task.judging as u64,
+            task,
+        })
     }
 
     /// How many leases the host holds.
     pub fn held(&self, host: u32) -> u32
         ensures { result ≡ held_count self.now.leases host }
     {
-        held_count(&self.leases, host) as u32
+        let rank = host as u64;
+        self.by_host.count_below(rank + 1) - self.by_host.count_below(rank)
     }
 
     /// Gives the lease on the task another end. False where no lease is held on it.
@@ -105,15 +139,10 @@ impl LeaseBook {
         ensures spare { self.new.spare ≡ self.old.spare }
         ensures room { room self.new ≡ room self.old }
     {
-        let Some(lease) = lease_on(&self.leases, task) else {
+        let Some(lease) = self.take(task) else {
             return false;
         };
-        end_task(&mut self.leases, task);
-        self.leases.push_reserved(Lease {
-            host: lease.host,
-            task,
-            until,
-        });
+        self.grant(lease.host, task, until);
         true
     }
 
@@ -124,9 +153,7 @@ impl LeaseBook {
         ensures spare { self.new.spare ≡ self.old.spare + (if result then 1 else 0) }
         ensures room { room self.new ≡ room self.old }
     {
-        let held = self.leases.len();
-        end_task(&mut self.leases, task);
-        self.leases.len() < held
+        self.take(task).is_some()
     }
 
     /// Takes out the lease that is due first: of those whose end is at or before now the one with the
@@ -140,10 +167,10 @@ impl LeaseBook {
         ensures none { IfNone result (NoneEnds self.old.leases now) }
         ensures one { OnSome result (OneEnds self.old.leases self.new.leases now) }
     {
-        let Some(lease) = first_due(&self.leases, now) else {
+        let Some(lease) = self.first_due(now) else {
             return None;
         };
-        end_task(&mut self.leases, lease.task);
+        self.end(lease.task);
         Some(lease)
     }
 
@@ -154,9 +181,11 @@ impl LeaseBook {
         ensures spare { self.new.spare ≡ self.old.spare + result }
         ensures room { room self.new ≡ room self.old }
     {
-        let held = self.leases.len();
-        end_host(&mut self.leases, host);
-        (held - self.leases.len()) as u32
+        let held = self.len();
+        while let Some(task) = self.task_of_host(host) {
+            self.end(task);
+        }
+        held - self.len()
     }
 
     /// Ends the leases on the judging's tasks, and counts them.
@@ -166,38 +195,68 @@ impl LeaseBook {
         ensures spare { self.new.spare ≡ self.old.spare + result }
         ensures room { room self.new ≡ room self.old }
     {
-        let held = self.leases.len();
-        end_judging(&mut self.leases, judging);
-        (held - self.leases.len()) as u32
+        let held = self.len();
+        while let Some(task) = self.task_of_judging(judging) {
+            self.end(task);
+        }
+        held - self.len()
     }
-}
 
-/// Takes out the lease on the task.
-fn end_task(leases: &mut Vec<Lease>, task: Task)
-    ensures items { leases.new.items ≡ without_task leases.old.items task }
-    ensures capacity { vec_capacity leases.new ≡ vec_capacity leases.old }
-    ensures single { IsSinglyLeased leases.old.items → IsSinglyLeased leases.new.items }
-    ensures one { IsSinglyLeased leases.old.items → vec_len leases.old ≡ vec_len leases.new + (if is_some (lease_on leases.old.items task) then 1 else 0) }
-{
-    leases.retain(|lease| !is_same_task(lease.task, task));
-}
+    /// Takes out the lease that is held on the task.
+    fn take(&mut self, task: Task) -> Option<Lease>
+        ensures lease { result ≡ lease_on self.old.leases task }
+        ensures leases { self.new.leases ≡ without_task self.old.leases task }
+        ensures spare { self.new.spare ≡ self.old.spare + (if is_some result then 1 else 0) }
+        ensures room { room self.new ≡ room self.old }
+        ensures few { IfSome result (λ _. length self.new.leases < 2 ^ 32 - 1) }
+        ensures unheld { lease_on self.new.leases task ≡ None }
+        ensures unchanged { IfNone result (self.new ≡ self.old) }
+    {
+        let Some(lease) = self.find(task) else {
+            return None;
+        };
+        self.by_judging.remove(Order::Judging.key(lease));
+        self.by_host.remove(Order::Host.key(lease));
+        self.by_end.remove(Order::End.key(lease));
+        self.spare += 1;
+        self.history = self.history.and(&Change::Ended(task), &());
+        Some(lease)
+    }
 
-/// Takes out the leases of the host.
-fn end_host(leases: &mut Vec<Lease>, host: u32)
-    ensures items { leases.new.items ≡ without_host leases.old.items host }
-    ensures capacity { vec_capacity leases.new ≡ vec_capacity leases.old }
-    ensures single { IsSinglyLeased leases.old.items → IsSinglyLeased leases.new.items }
-    ensures count { vec_len leases.old ≡ vec_len leases.new + held_count leases.old.items host }
-{
-    leases.retain(|lease| lease.host != host);
-}
+    /// The lease that is due first.
+    fn first_due(&self, now: u64) -> Option<Lease>
+        ensures first { result ≡ first_due self.now.leases now }
+        ensures none { IfNone result (NoneEnds self.now.leases now) }
+        ensures one { IfSome result (λ lease. EndsOne (has_ended now) self.now.leases lease.task) }
+    {
+        let Some(lease) = self.by_end.first() else {
+            return None;
+        };
+        if now < lease.until {
+            return None;
+        }
+        Some(lease)
+    }
 
-/// Takes out the leases on the judging's tasks.
-fn end_judging(leases: &mut Vec<Lease>, judging: u32)
-    ensures items { leases.new.items ≡ without_judging leases.old.items judging }
-    ensures capacity { vec_capacity leases.new ≡ vec_capacity leases.old }
-    ensures single { IsSinglyLeased leases.old.items → IsSinglyLeased leases.new.items }
-    ensures count { vec_len leases.old ≡ vec_len leases.new + judging_count leases.old.items judging }
-{
-    leases.retain(|lease| lease.task.judging != judging);
+    /// A task that the host holds.
+    fn task_of_host(&self, host: u32) -> Option<Task>
+        ensures none { IfNone result (held_count self.now.leases host ≡ 0) }
+        ensures one { IfSome result (λ task. EndsOne (holds host) self.now.leases task) }
+    {
+        match self.by_host.first_of(host as u64) {
+            Some(lease) => Some(lease.task),
+            None => None,
+        }
+    }
+
+    /// A task of the judging that is held.
+    fn task_of_judging(&self, judging: u32) -> Option<Task>
+        ensures none { IfNone result (judging_count self.now.leases judging ≡ 0) }
+        ensures one { IfSome result (λ task. EndsOne (λ lease. lease.task.judging == judging) self.now.leases task) }
+    {
+        match self.by_judging.first_of(judging as u64) {
+            Some(lease) => Some(lease.task),
+            None => None,
+        }
+    }
 }

@@ -2,7 +2,7 @@
 #![tactic(auto)]
 
 mod book;
-mod lookup;
+mod change;
 #[cfg(test)]
 mod tests;
 

@@ -1,8 +1,21 @@
-use Rattle.std.proofs.Common.{arith}
+use Rattle.std.proofs.Common.{◌≡◌, arith}
+use Rattle.farm_model.specs.Leases.{holds, held_count}
+use Rattle.lease_book.proofs.Changed.{IsEmptied, emptied}
 use Rattle.lease_book.proofs.book.LeaseBook.end_host.Goals as goal
 
-pub invariant_of-self : goal.invariant_of-self
-invariant_of-self c = record {
-  single = c.end_host.ensures.single c.self.invariant.single;
-  few = omega (arith, c.end_host.ensures.count, c.self.invariant.few);
-}
+ended : (c : goal.After-len) → IsEmptied (holds c.args.host) c.args.self.now c.loop-task.self
+ended c =
+    let none : held_count c.loop-task.self.leases c.args.host ≡ 0 = rw c.in_default.is at c.task_of_host.ensures.none in
+    emptied (holds c.args.host) c.args.self.now c.loop-task.self none c.loop-task.invariant.left c.loop-task.invariant.room
+
+pub overflow_sub-result : goal.overflow_sub-result
+overflow_sub-result c = let e = ended c in omega (arith, e.count, c.len-held.ensures.count, c.len.ensures.count)
+
+pub returns-clause-count : goal.returns-clause-count
+returns-clause-count c = let e = ended c in omega (arith, e.count, c.len-held.ensures.count, c.len.ensures.count)
+
+pub returns-clause-leases : goal.returns-clause-leases
+returns-clause-leases c = (ended c).leases
+
+pub returns-clause-spare : goal.returns-clause-spare
+returns-clause-spare c = let e = ended c in omega (arith, e.count, e.spare, c.len-held.ensures.count, c.len.ensures.count)

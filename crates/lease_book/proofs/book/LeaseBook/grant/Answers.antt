@@ -1,13 +1,53 @@
-use Rattle.std.proofs.Common.{◌≡◌, None, ap, ◌∙◌, arith, length}
+use Rattle.std.proofs.Common.{ℕ, ◌≡◌, ◌+◌, ◌-◌, [], ◌∷◌, ◌++◌, None, ap, ◌∙◌, arith, length}
+use Rattle.std.proofs.lemmas.List.{length_push}
+use Rattle.farm_kinds.specs.declared.outcomes.Task.{Task}
+use Rattle.farm_model.specs.declared.records.Lease.{Lease}
 use Rattle.farm_model.specs.Leases.{lease_on}
+use Rattle.lease_tree.specs.declared.keys.Order.TheVariants as order
 use Rattle.lease_book.specs.Book.{Book}
+use Rattle.lease_book.specs.BookLayout.{leases_held}
+use Rattle.lease_book.specs.declared.change.Change.TheVariants as change
+use Rattle.lease_book.proofs.Index.{index_added}
 use Rattle.lease_book.proofs.Singly.{granted}
+use Rattle.lease_book.proofs.Changed.{held_after, free_there, few_there, layout}
 use Rattle.lease_book.proofs.book.LeaseBook.grant.Goals as goal
+
+abbrev lease_of : ℕ → Task → ℕ → Lease
+lease_of host task until = record { host = host; task = task; until = until }
+
+pub insert-requires-clause-free : goal.insert-requires-clause-free
+insert-requires-clause-free c = free_there c.self.inside c.args.self.now (lease_of c.args.host c.args.task c.args.until) order.Judging c.self.inside.by_judging c.self.view_is c.requires.unheld c.self.invariant.judgings
+
+pub insert-requires-clause-few : goal.insert-requires-clause-few
+insert-requires-clause-few c = few_there c.self.inside c.args.self.now order.Judging c.self.inside.by_judging c.self.view_is c.requires.few c.self.invariant.judgings
+
+pub insert-requires-2-clause-free : goal.insert-requires-2-clause-free
+insert-requires-2-clause-free c = free_there c.self.inside c.args.self.now (lease_of c.args.host c.args.task c.args.until) order.Host c.self.inside.by_host c.self.view_is c.requires.unheld c.self.invariant.hosts
+
+pub insert-requires-2-clause-few : goal.insert-requires-2-clause-few
+insert-requires-2-clause-few c = few_there c.self.inside c.args.self.now order.Host c.self.inside.by_host c.self.view_is c.requires.few c.self.invariant.hosts
+
+pub insert-requires-3-clause-free : goal.insert-requires-3-clause-free
+insert-requires-3-clause-free c = free_there c.self.inside c.args.self.now (lease_of c.args.host c.args.task c.args.until) order.End c.self.inside.by_end c.self.view_is c.requires.unheld c.self.invariant.ends
+
+pub insert-requires-3-clause-few : goal.insert-requires-3-clause-few
+insert-requires-3-clause-few c = few_there c.self.inside c.args.self.now order.End c.self.inside.by_end c.self.view_is c.requires.few c.self.invariant.ends
 
 pub invariant_of-self : goal.invariant_of-self
 invariant_of-self c =
-    let unheld : lease_on c.self.inside.leases.items c.args.task ≡ None = ap (λ (b : Book). lease_on b.leases c.args.task) c.self.view_is ∙ c.requires.unheld in
-    record {
-      single = rw c.push_reserved.ensures.items (granted c.self.inside.leases.items _ c.self.invariant.single unheld);
-      few = omega (arith, c.push_reserved.ensures.len, c.requires.few, ap (λ (b : Book). length b.leases) c.self.view_is, c.self.inside.leases.ok.0);
-    }
+    let lease : Lease = record { host = c.args.host; task = c.args.task; until = c.args.until } in
+    let old = leases_held c.self.inside.history.items in
+    let n = c.self.inside.spare in
+    let less : n - 1 + 1 ≡ n = omega (arith, c.requires.spare, ap (λ (b : Book). b.spare) c.self.view_is) in
+    let is : leases_held c.and-self-inside.result.items ≡ old ++ lease ∷ [] = held_after c.self.inside.history.items c.and-self-inside.result.items (change.Granted lease) c.and-self-inside.ensures in
+    let unheld : lease_on old c.args.task ≡ None = ap (λ (b : Book). lease_on b.leases c.args.task) c.self.view_is ∙ c.requires.unheld in
+    let a = c.insert.ensures in
+    let b = c.insert-2.ensures in
+    let d = c.insert-3.ensures in
+    let len = length_push old lease in
+    layout _ (old ++ lease ∷ []) is (granted old lease c.self.invariant.single unheld)
+    (omega (arith, len, c.requires.few, ap (λ (b : Book). length b.leases) c.self.view_is))
+    (index_added order.Judging old n (n - 1) lease c.self.inside.by_judging c.insert.new.self c.self.invariant.judgings a.order a.added a.spare less)
+    (index_added order.Host old n (n - 1) lease c.self.inside.by_host c.insert-2.new.self c.self.invariant.hosts b.order b.added b.spare less)
+    (index_added order.End old n (n - 1) lease c.self.inside.by_end c.insert-3.new.self c.self.invariant.ends d.order d.added d.spare less)
+    (omega (arith, len, less, c.self.invariant.room))

@@ -1,6 +1,10 @@
-use Rattle.std.proofs.Common.{subst}
-use Rattle.lease_book.specs.Book.{Book, IsSinglyLeased}
+use Rattle.std.proofs.Common.{ap, ◌∙◌, length}
+use Rattle.lease_book.specs.Book.{Book}
+use Rattle.lease_book.specs.BookLayout.{leases_held}
+use Rattle.lease_book.proofs.Index.{length_same}
 use Rattle.lease_book.proofs.book.LeaseBook.len.Goals as goal
 
-pub returns-clause-single : goal.returns-clause-single
-returns-clause-single c = subst (λ (b : Book). IsSinglyLeased b.leases) c.self.view_is c.self.invariant.single
+pub returns-clause-count : goal.returns-clause-count
+returns-clause-count c =
+    c.len.ensures.count ∙ length_same (leases_held c.self.inside.history.items) c.self.inside.by_judging.leases c.self.invariant.judgings.same
+    ∙ ap (λ (b : Book). length b.leases) c.self.view_is

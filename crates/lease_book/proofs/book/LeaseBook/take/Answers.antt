@@ -1,0 +1,66 @@
+use Rattle.std.proofs.Common.{◌≡◌, ◌+◌, Some, sym, ap, ◌∙◌, arith, length, find, is_some, not}
+use Rattle.farm_model.specs.Leases.{lease_on, without_task}
+use Rattle.lease_tree.specs.declared.keys.Order.TheVariants as order
+use Rattle.lease_tree.specs.Keys.{has_key}
+use Rattle.lease_book.specs.Book.{Book}
+use Rattle.lease_book.specs.BookLayout.{leases_held}
+use Rattle.lease_book.specs.declared.change.Change.TheVariants as change
+use Rattle.lease_book.proofs.Counts.{one_if}
+use Rattle.lease_book.proofs.Index.{index_taken}
+use Rattle.lease_book.proofs.Singly.{some_of, one_less, on}
+use Rattle.lease_book.proofs.Changed.{held_after, layout, task_of, all_stay, none_on}
+use Rattle.lease_book.proofs.book.LeaseBook.take.Goals as goal
+
+-- the lease was held, and the others stay
+record IsEnded (c : goal.After-self-2-1) : Type 0 where
+  held : lease_on (leases_held c.self.inside.history.items) c.in-Some.lease.task ≡ Some c.in-Some.lease
+  left : leases_held c.and-self-inside.result.items ≡ without_task (leases_held c.self.inside.history.items) c.in-Some.lease.task
+  less : length (leases_held c.self.inside.history.items) ≡ length (without_task (leases_held c.self.inside.history.items) c.in-Some.lease.task) + 1
+
+ended : (c : goal.After-self-2-1) → IsEnded c
+ended c =
+    let old = leases_held c.self.inside.history.items in
+    let found : lease_on old c.args.task ≡ Some c.in-Some.lease = ap (λ (b : Book). lease_on b.leases c.args.task) c.self.view_is ∙ sym c.find.ensures ∙ c.in-Some.is in
+    let same = task_of old c.args.task c.in-Some.lease found in
+    let held : lease_on old c.in-Some.lease.task ≡ Some c.in-Some.lease = ap (λ k. lease_on old k) same ∙ found in
+    let one : one_if (is_some (lease_on old c.in-Some.lease.task)) ≡ 1 = ap (λ o. one_if (is_some o)) held in
+    record {
+      held = held;
+      left = held_after c.self.inside.history.items c.and-self-inside.result.items (change.Ended c.args.task) c.and-self-inside.ensures ∙ ap (λ k. without_task old k) (sym same);
+      less = omega (arith, one_less old c.in-Some.lease.task c.self.invariant.single, one);
+    }
+
+pub invariant_of-self : goal.invariant_of-self
+invariant_of-self c =
+    let old = leases_held c.self.inside.history.items in
+    let n = c.self.inside.spare in
+    let lease = c.in-Some.lease in
+    let e = ended c in
+    let single = c.self.invariant.single in
+    let a = c.remove.ensures in
+    let b = c.remove-2.ensures in
+    let d = c.remove-3.ensures in
+    layout _ (without_task old lease.task) e.left (some_of (λ x. not (on lease.task x)) old single) (omega (arith, e.less, c.self.invariant.few))
+    (index_taken order.Judging old n lease c.self.inside.by_judging c.remove.new.self c.remove.result c.self.invariant.judgings single e.held (a.lease ∙ ap (λ k. find (has_key c.self.inside.by_judging.order k) c.self.inside.by_judging.leases) c.key.ensures) a.order a.taken a.spare)
+    (index_taken order.Host old n lease c.self.inside.by_host c.remove-2.new.self c.remove-2.result c.self.invariant.hosts single e.held (b.lease ∙ ap (λ k. find (has_key c.self.inside.by_host.order k) c.self.inside.by_host.leases) c.key-2.ensures) b.order b.taken b.spare)
+    (index_taken order.End old n lease c.self.inside.by_end c.remove-3.new.self c.remove-3.result c.self.invariant.ends single e.held (d.lease ∙ ap (λ k. find (has_key c.self.inside.by_end.order k) c.self.inside.by_end.leases) c.key-3.ensures) d.order d.taken d.spare)
+    (omega (arith, e.less, c.self.invariant.room))
+
+pub returns-in_default-clause-leases : goal.returns-in_default-clause-leases
+returns-in_default-clause-leases c = sym (all_stay c.args.self.now.leases c.args.task (sym c.find.ensures ∙ c.in_default.is))
+
+pub returns-clause-room : goal.returns-clause-room
+returns-clause-room c =
+    let e = ended c in
+    omega (arith, ap (λ ys. length ys) e.left, e.less, ap (λ (b : Book). length b.leases) c.self.view_is, ap (λ (b : Book). b.spare) c.self.view_is)
+
+pub returns-clause-few : goal.returns-clause-few
+returns-clause-few c =
+    let e = ended c in
+    omega (arith, ap (λ ys. length ys) e.left, e.less, c.self.invariant.few)
+
+pub returns-clause-unheld : goal.returns-clause-unheld
+returns-clause-unheld c =
+    let old = leases_held c.self.inside.history.items in
+    let left : leases_held c.and-self-inside.result.items ≡ without_task old c.args.task = held_after c.self.inside.history.items c.and-self-inside.result.items (change.Ended c.args.task) c.and-self-inside.ensures in
+    ap (λ ys. lease_on ys c.args.task) left ∙ none_on old c.args.task

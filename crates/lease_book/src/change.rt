@@ -1,0 +1,9 @@
+use farm_kinds::Task;
+use farm_model::Lease;
+
+/// What becomes of leases.
+#[derive(Clone, Copy, Debug)]
+pub enum Change {
+    Granted(Lease),
+    Ended(Task),
+}
