@@ -1,3 +1,4 @@
 pub mod KeyOrder
 pub mod Rises
 pub mod Changes
+pub mod Weights

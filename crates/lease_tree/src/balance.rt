@@ -1,5 +1,5 @@
-ghost use Rattle.std.specs.Prelude.{◌≡◌, ◌+◌, ◌-◌, ◌^◌, ◌≤◌, ◌++◌, ◌∷◌, [], length, min, IfSome, IfNone};
-ghost use Rattle.lease_tree.specs.Trees.{leases_of, IsSized};
+ghost use Rattle.std.specs.Prelude.{◌≡◌, ◌+◌, ◌-◌, ◌^◌, ◌<◌, ◌≤◌, ◌++◌, ◌∷◌, [], length, min, IfSome, IfNone};
+ghost use Rattle.lease_tree.specs.Trees.{leases_of, IsSized, IsEven, IsNearlyEven, IsHeavier, IsBalanced};
 
 use crate::node::{Node, Tree, join, size};
 use std::mem;
@@ -17,6 +17,7 @@ fn weight(tree: &Tree) -> u64
 fn rotate_left(left: Tree, node: Box<Node>, right: Tree) -> Tree
     ensures leases { leases_of result ≡ leases_of left ++ node.value.lease ∷ leases_of right }
     ensures sized { IsSized left → IsSized right → IsSized result }
+    ensures balanced { IsSized left → IsSized right → length (leases_of left) + length (leases_of right) < 2 ^ 32 - 1 → IsHeavier (length (leases_of left)) (length (leases_of right)) → IsBalanced left → IsBalanced right → IsBalanced result }
 {
     let Tree::Fork(mut root) = right else {
         return join(left, node, Tree::Leaf);
@@ -38,6 +39,7 @@ fn rotate_left(left: Tree, node: Box<Node>, right: Tree) -> Tree
 fn rotate_right(left: Tree, node: Box<Node>, right: Tree) -> Tree
     ensures leases { leases_of result ≡ leases_of left ++ node.value.lease ∷ leases_of right }
     ensures sized { IsSized left → IsSized right → IsSized result }
+    ensures balanced { IsSized left → IsSized right → length (leases_of left) + length (leases_of right) < 2 ^ 32 - 1 → IsHeavier (length (leases_of right)) (length (leases_of left)) → IsBalanced left → IsBalanced right → IsBalanced result }
 {
     let Tree::Fork(mut root) = left else {
         return join(Tree::Leaf, node, right);
@@ -61,6 +63,7 @@ fn rotate_right(left: Tree, node: Box<Node>, right: Tree) -> Tree
 pub fn balance(left: Tree, node: Box<Node>, right: Tree) -> Tree
     ensures leases { leases_of result ≡ leases_of left ++ node.value.lease ∷ leases_of right }
     ensures sized { IsSized left → IsSized right → IsSized result }
+    ensures balanced { IsSized left → IsSized right → length (leases_of left) + length (leases_of right) < 2 ^ 32 - 1 → IsNearlyEven (length (leases_of left)) (length (leases_of right)) → IsBalanced left → IsBalanced right → IsBalanced result }
 {
     if weight(&right) > 3 * weight(&left) {
         return rotate_left(left, node, right);
@@ -77,6 +80,7 @@ pub fn take_first(tree: Tree) -> (Tree, Option<Box<Node>>)
     ensures empty { IfNone result.1 (leases_of result.0 ≡ []) }
     ensures first { IfSome result.1 (λ node. leases_of tree ≡ node.value.lease ∷ leases_of result.0) }
     ensures sized { IsSized tree → IsSized result.0 }
+    ensures balanced { IsSized tree → length (leases_of tree) < 2 ^ 32 → IsBalanced tree → IsBalanced result.0 }
 {
     let Tree::Fork(mut root) = tree else {
         return (Tree::Leaf, None);
@@ -94,6 +98,7 @@ pub fn take_first(tree: Tree) -> (Tree, Option<Box<Node>>)
 pub fn append(left: Tree, right: Tree) -> Tree
     ensures leases { leases_of result ≡ leases_of left ++ leases_of right }
     ensures sized { IsSized left → IsSized right → IsSized result }
+    ensures balanced { IsSized left → IsSized right → length (leases_of left) + length (leases_of right) < 2 ^ 32 → IsEven (length (leases_of left)) (length (leases_of right)) → IsBalanced left → IsBalanced right → IsBalanced result }
 {
     let (rest, first) = take_first(right);
     match first {

@@ -1,6 +1,6 @@
-ghost use Rattle.std.specs.Prelude.{◌≡◌, ◌+◌, find, length, IfSome, IfNone, Some, None};
+ghost use Rattle.std.specs.Prelude.{◌≡◌, ◌+◌, ◌-◌, ◌^◌, ◌<◌, find, length, IfSome, IfNone, Some, None};
 ghost use Rattle.lease_tree.specs.Keys.{Rising, key_of, has_key, IsAdded, IsTaken};
-ghost use Rattle.lease_tree.specs.Trees.{leases_of, IsSized};
+ghost use Rattle.lease_tree.specs.Trees.{leases_of, IsSized, IsBalanced};
 
 use crate::balance::{append, balance};
 use crate::keys::{Key, Order};
@@ -13,6 +13,7 @@ pub fn insert(tree: Tree, order: Order, node: Box<Node>) -> Tree
     ensures added { IsAdded (leases_of tree) (leases_of result) node.value.lease }
     ensures rising { Rising order (leases_of tree) → find (has_key order (key_of order node.value.lease)) (leases_of tree) ≡ None → Rising order (leases_of result) }
     ensures sized { IsSized tree → IsSized result }
+    ensures balanced { IsSized tree → length (leases_of tree) < 2 ^ 32 - 1 → IsBalanced tree → IsBalanced result }
 {
     let Tree::Fork(mut root) = tree else {
         return join(Tree::Leaf, node, Tree::Leaf);
@@ -34,6 +35,7 @@ pub fn remove(tree: Tree, order: Order, key: Key) -> (Tree, Option<Box<Node>>)
     ensures taken { IfSome result.1 (λ node. IsTaken (leases_of tree) (leases_of result.0) node.value.lease) }
     ensures lease { Rising order (leases_of tree) → IfSome result.1 (λ node. find (has_key order key) (leases_of tree) ≡ Some node.value.lease) }
     ensures sized { IsSized tree → IsSized result.0 }
+    ensures balanced { IsSized tree → length (leases_of tree) < 2 ^ 32 → IsBalanced tree → IsBalanced result.0 }
 {
     let Tree::Fork(mut root) = tree else {
         return (Tree::Leaf, None);

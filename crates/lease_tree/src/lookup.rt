@@ -1,6 +1,6 @@
 ghost use Rattle.std.specs.Prelude.{◌≡◌, ◌-◌, ◌^◌, find, slice_get, min};
 ghost use Rattle.lease_tree.specs.Keys.{Rising, has_key, has_rank, count_below};
-ghost use Rattle.lease_tree.specs.Trees.{leases_of, IsSized};
+ghost use Rattle.lease_tree.specs.Trees.{leases_of, IsSized, depth};
 
 use crate::keys::{Key, Order};
 use crate::node::{Tree, size};
@@ -76,5 +76,15 @@ pub fn count_below(tree: &Tree, order: Order, rank: u64) -> u32
             let right = count_below(&node.right, order, rank);
             size(&node.left).saturating_add(1).saturating_add(right)
         }
+    }
+}
+
+/// How many leases stand on the longest way from the root, at most 2^32 - 1.
+pub fn depth(tree: &Tree) -> u32
+    ensures { result ≡ min (depth tree.now) (2 ^ 32 - 1) }
+{
+    match tree {
+        Tree::Leaf => 0,
+        Tree::Fork(node) => depth(&node.left).max(depth(&node.right)).saturating_add(1),
     }
 }

@@ -1,5 +1,5 @@
 ghost use Rattle.std.specs.Prelude.{◌≡◌, ◌+◌, ◌-◌, ◌^◌, ◌≤◌, ◌++◌, ◌∷◌, length, min};
-ghost use Rattle.lease_tree.specs.Trees.{leases_of, IsSized};
+ghost use Rattle.lease_tree.specs.Trees.{leases_of, IsSized, IsEven, IsBalanced};
 
 use farm_model::Lease;
 
@@ -36,6 +36,7 @@ pub fn size(tree: &Tree) -> u32
 pub fn join(left: Tree, mut node: Box<Node>, right: Tree) -> Tree
     ensures leases { leases_of result ≡ leases_of left ++ node.value.lease ∷ leases_of right }
     ensures sized { IsSized left → IsSized right → IsSized result }
+    ensures balanced { IsEven (length (leases_of left)) (length (leases_of right)) → IsBalanced left → IsBalanced right → IsBalanced result }
 {
     node.size = size(&left).saturating_add(size(&right)).saturating_add(1);
     node.left = left;

@@ -92,7 +92,7 @@ fn leases_come_out_in_order(rt: HostRuntime) -> Result<(), Fail> {
             assert_eq!(rt; tree.remove(key).map(parts_of), Some(want));
             assert_eq!(rt; tree.remove(key).map(parts_of), None);
         }
-        assert_eq!(rt; (tree.len(), tree.spare()), (0, 10));
+        assert_eq!(rt; (tree.len(), tree.spare(), tree.depth()), (0, 10, 0));
     }
     Ok(())
 }

@@ -1,4 +1,4 @@
-ghost use Rattle.std.specs.Prelude.{◌≡◌, ◌+◌, ◌-◌, ◌<◌, ◌≤◌, ◌^◌, find, length, slice_get, is_some, None, IfSome, IfNone, OnOk, OnErr, vec_len, vec_capacity, if◌then◌else◌};
+ghost use Rattle.std.specs.Prelude.{◌≡◌, ℕ, ◌+◌, ◌-◌, ◌*◌, ◌<◌, ◌≤◌, ◌^◌, find, length, slice_get, is_some, None, IfSome, IfNone, OnOk, OnErr, vec_len, vec_capacity, if◌then◌else◌};
 ghost use Rattle.lease_tree.specs.Keys.{key_of, has_key, has_rank, count_below, NoneBefore, IsAdded, IsTaken};
 ghost use Rattle.lease_tree.specs.TreeValue.{no_leases};
 
@@ -13,10 +13,10 @@ use std::mem;
 
 /// Leases in one of their orders. Only `reserve` takes memory.
 ///
-/// The tree is balanced by weight: of two sides none is more than three times as heavy as the other, where
-/// an empty side weighs 1. So each call but `reserve` looks at no more nodes than about two and a half times
-/// the binary digits of the number of leases, whatever leases come and go and in which order. That is how it
-/// is written; what is proved is what each call answers and leaves.
+/// It is a search tree that is balanced by weight: of two sides none is more than three times as heavy as
+/// the other, where a side weighs one more than its leases. That is kept whatever leases come and go, and
+/// `depth` says what follows from it. Each call but `reserve` and `depth` goes down one way from the root,
+/// or two.
 #[derive(Drop)]
 pub struct LeaseTree {
     alloc: Global,
@@ -82,6 +82,14 @@ impl LeaseTree {
         ensures few { length self.now.leases < 2 ^ 32 }
     {
         node::size(&self.root)
+    }
+
+    /// How many leases stand on the longest way from the root, at most three for each binary digit of the
+    /// number of leases. It looks at each lease.
+    pub fn depth(&self) -> u32
+        ensures { (bits : ℕ) → length self.now.leases < 2 ^ bits → result ≤ 3 * bits }
+    {
+        lookup::depth(&self.root)
     }
 
     /// How many more leases can be put in before `reserve` must be called.
