@@ -1,0 +1,11 @@
+pub mod Prefixes
+pub mod Numbers
+pub mod Histories
+pub mod Views
+pub mod Turns
+pub mod Seats
+pub mod Ends
+pub mod Passes
+pub mod Trusts
+pub mod Agreeing
+pub mod Callers

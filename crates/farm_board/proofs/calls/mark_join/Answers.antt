@@ -1,0 +1,16 @@
+use Rattle.std.proofs.Common.{rules, ap, sym, ◌∙◌, subst}
+use Rattle.farm_board.specs.Histories.{board_after, number_of, IsNext}
+use Rattle.farm_board.specs.Views.{Suits}
+use Rattle.farm_board.specs.declared.entries.Entry.{Entry}
+use Rattle.farm_board.proofs.Turns.{marks}
+use Rattle.farm_board.proofs.calls.mark_join.Goals as goal
+
+pub load-requires : goal.load-requires
+load-requires g c =
+    let is = sym c.requires.entry in
+    let v = c.args.seat.now.me.0 in (
+      search rules,
+      search rules,
+      marks _ _ _ _ _ _ c.requires.turn.0 c.requires.turn.1 (ap (λ (e : Entry). number_of e) c.requires.entry ∙ c.requires.own)
+          (subst (λ (e : Entry). IsNext (board_after v.start.value v.seen) e) is c.requires.next) (subst (λ (e : Entry). Suits e v) is c.requires.suits),
+    )

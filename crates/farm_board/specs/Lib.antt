@@ -1,0 +1,9 @@
+pub mod BoardState
+pub mod Histories
+pub mod Passes
+pub mod Trusts
+pub mod Views
+pub mod Rules
+pub mod Steps
+pub mod Homes
+pub mod Copies

@@ -1,0 +1,188 @@
+ghost use Rattle.std.specs.Prelude.{◌≡◌, ◌+◌, ◌<◌, ◌≤◌, true, false, []};
+ghost use Rattle.farm_board.specs.Histories.{board_after, IsNext};
+ghost use Rattle.farm_board.specs.Views.{with_coming, split_left, split_right, Suits, IsFree};
+ghost use Rattle.farm_board.specs.Steps.{EndsTurn};
+ghost use Rattle.farm_board.specs.Passes.{pass_of, call_of, IsSeated, IsGiving, IsSoundView, Calls, SplitsOff, TakesIn};
+ghost use Rattle.farm_board.specs.Trusts.{IsAdmitted, AdmitsOne, NeverDiffers};
+ghost use Rattle.farm_board.specs.declared.entries.Entry.TheVariants as entry;
+
+use crate::rule::{BoardSeat, JoinSeat, MarkEntry, PicksEntry, PicksShare, SharedBoard, SplitSeat};
+use crate::trust::Admission;
+use crate::turn::{end_turn, take_turn};
+use farm_kinds::{Event, Reply};
+use std::marker::Brand;
+use std::sync::Wait;
+
+/// Marks a call as the entry to come.
+fn mark_call<A: Admission, G: PicksEntry>(
+    shared: &SharedBoard<A>,
+    seat: &mut BoardSeat<A>,
+    number: u64,
+    event: &Event,
+    reply: &Reply,
+)
+    requires table { IsSeated seat.old.table_id shared.now.table_id }
+    requires entry { G.entry ≡ entry.Call (call_of number event.now reply.now) }
+    requires turn { (seat.old.me.0.turn ≡ true) × (seat.old.me.0.ended ≡ false) }
+    requires own { number ≡ seat.old.me.0.number }
+    requires next { IsNext (board_after seat.old.me.0.start.value seat.old.me.0.seen) (entry.Call (call_of number event.now reply.now)) }
+    requires suits { Suits (entry.Call (call_of number event.now reply.now)) seat.old.me.0 }
+    ensures table { (seat.new.table_id ≡ seat.old.table_id) × (seat.new.id ≡ seat.old.id) }
+    ensures view { seat.new.me ≡ (with_coming seat.old.me.0 (entry.Call (call_of number event.now reply.now)), seat.old.me.1) }
+{
+    shared.load::<MarkEntry<G>>(seat, 1);
+}
+
+/// Marks a split as the entry to come.
+fn mark_split<A: Admission, G: PicksEntry>(
+    shared: &SharedBoard<A>,
+    seat: &mut BoardSeat<A>,
+    number: u64,
+    new: u64,
+)
+    requires table { IsSeated seat.old.table_id shared.now.table_id }
+    requires entry { G.entry ≡ entry.Split number new }
+    requires turn { (seat.old.me.0.turn ≡ true) × (seat.old.me.0.ended ≡ false) }
+    requires own { number ≡ seat.old.me.0.number }
+    requires next { IsNext (board_after seat.old.me.0.start.value seat.old.me.0.seen) (entry.Split number new) }
+    requires suits { Suits (entry.Split number new) seat.old.me.0 }
+    ensures table { (seat.new.table_id ≡ seat.old.table_id) × (seat.new.id ≡ seat.old.id) }
+    ensures view { seat.new.me ≡ (with_coming seat.old.me.0 (entry.Split number new), seat.old.me.1) }
+{
+    shared.load::<MarkEntry<G>>(seat, 1);
+}
+
+/// Marks a join as the entry to come.
+fn mark_join<A: Admission, G: PicksEntry>(
+    shared: &SharedBoard<A>,
+    seat: &mut BoardSeat<A>,
+    number: u64,
+    old: u64,
+)
+    requires table { IsSeated seat.old.table_id shared.now.table_id }
+    requires entry { G.entry ≡ entry.Join number old }
+    requires turn { (seat.old.me.0.turn ≡ true) × (seat.old.me.0.ended ≡ false) }
+    requires own { number ≡ seat.old.me.0.number }
+    requires next { IsNext (board_after seat.old.me.0.start.value seat.old.me.0.seen) (entry.Join number old) }
+    requires suits { Suits (entry.Join number old) seat.old.me.0 }
+    ensures table { (seat.new.table_id ≡ seat.old.table_id) × (seat.new.id ≡ seat.old.id) }
+    ensures view { seat.new.me ≡ (with_coming seat.old.me.0 (entry.Join number old), seat.old.me.1) }
+{
+    shared.load::<MarkEntry<G>>(seat, 1);
+}
+
+/// A new seat, with the number that this one has to give and a share of its calls.
+fn split_off<A: Admission, G: PicksShare>(
+    shared: &SharedBoard<A>,
+    seat: &mut BoardSeat<A>,
+    new: u64,
+    share: u64,
+) -> BoardSeat<A>
+    requires table { IsSeated seat.old.table_id shared.now.table_id }
+    requires named { G.share ≡ share }
+    requires to_give { IsGiving new seat.old.me.0 }
+    requires share { share ≤ seat.old.me.0.left }
+    ensures table { (seat.new.table_id ≡ seat.old.table_id) × (seat.new.id ≡ seat.old.id) × (result.table_id ≡ seat.old.table_id) }
+    ensures left { seat.new.me ≡ (split_left share seat.old.me.0, seat.old.me.1) }
+    ensures right { result.me ≡ (split_right share seat.old.me.0, []) }
+{
+    shared.split_seat::<SplitSeat<G>>(seat)
+}
+
+/// Takes a turn, in which the farm answers the event.
+pub(crate) fn call<W: Wait, A: Admission>(
+    rt: &W,
+    shared: &SharedBoard<A>,
+    seat: &mut BoardSeat<A>,
+    number: u64,
+    event: &Event,
+) -> Reply
+    requires table { IsSeated seat.old.table_id shared.now.table_id }
+    requires free { IsFree seat.old.me.0 × (seat.old.me.1 ≡ []) }
+    requires number { number ≡ seat.old.me.0.number }
+    requires left { 0 < seat.old.me.0.left }
+    requires admitted { IsAdmitted A.admits event.now }
+    ensures table { seat.new.table_id ≡ seat.old.table_id }
+    ensures free { IsFree seat.new.me.0 × (seat.new.me.1 ≡ []) }
+    ensures calls { Calls (pass_of seat.old.table_id seat.old.me.0) (pass_of seat.new.table_id seat.new.me.0) event.now result }
+    ensures keeps { IsSoundView seat.new.me.0 }
+    ensures agrees { AdmitsOne A.admits → NeverDiffers event.now result }
+{
+    let mut held = take_turn(rt, shared, seat);
+    let reply = held.call(number, event);
+    mark_call::<A, Brand>(shared, seat, number, event, &reply);
+    end_turn(shared, seat, held);
+    reply
+}
+
+/// Takes a turn, after which the pass has this number to give to a new one.
+fn split_turn<W: Wait, A: Admission>(
+    rt: &W,
+    shared: &SharedBoard<A>,
+    seat: &mut BoardSeat<A>,
+    number: u64,
+) -> u64
+    requires table { IsSeated seat.old.table_id shared.now.table_id }
+    requires free { IsFree seat.old.me.0 × (seat.old.me.1 ≡ []) }
+    requires number { number ≡ seat.old.me.0.number }
+    requires left { 0 < seat.old.me.0.left }
+    requires spare { 0 < seat.old.me.0.spare }
+    ensures table { (seat.new.table_id ≡ seat.old.table_id) × (seat.new.me.1 ≡ []) }
+    ensures ended { EndsTurn seat.old.me.0 seat.new.me.0 (entry.Split number result) }
+{
+    let mut held = take_turn(rt, shared, seat);
+    let new = held.split();
+    mark_split::<A, Brand>(shared, seat, number, new);
+    end_turn(shared, seat, held);
+    new
+}
+
+/// Takes a turn, and splits off a seat with the number that this gave.
+pub(crate) fn split<W: Wait, A: Admission>(
+    rt: &W,
+    shared: &SharedBoard<A>,
+    seat: &mut BoardSeat<A>,
+    number: u64,
+    share: u64,
+) -> (BoardSeat<A>, u64)
+    requires table { IsSeated seat.old.table_id shared.now.table_id }
+    requires free { IsFree seat.old.me.0 × (seat.old.me.1 ≡ []) }
+    requires number { number ≡ seat.old.me.0.number }
+    requires left { share < seat.old.me.0.left }
+    requires spare { 0 < seat.old.me.0.spare }
+    ensures table { (seat.new.table_id ≡ seat.old.table_id) × (result.0.table_id ≡ seat.old.table_id) }
+    ensures free { IsFree seat.new.me.0 × (seat.new.me.1 ≡ []) }
+    ensures free_new { IsFree result.0.me.0 × (result.0.me.1 ≡ []) }
+    ensures number { result.1 ≡ result.0.me.0.number }
+    ensures splits { SplitsOff (pass_of seat.old.table_id seat.old.me.0) (pass_of seat.new.table_id seat.new.me.0) (pass_of result.0.table_id result.0.me.0) share }
+    ensures keeps { IsSoundView seat.new.me.0 × IsSoundView result.0.me.0 }
+{
+    let new = split_turn(rt, shared, seat, number);
+    (split_off::<A, Brand>(shared, seat, new, share), new)
+}
+
+/// Takes in another seat, which from then on has no call left, and then takes a turn that says so.
+pub(crate) fn join<W: Wait, A: Admission>(
+    rt: &W,
+    shared: &SharedBoard<A>,
+    seat: &mut BoardSeat<A>,
+    number: u64,
+    from: BoardSeat<A>,
+    old: u64,
+)
+    requires table { IsSeated seat.old.table_id shared.now.table_id × (from.table_id ≡ shared.now.table_id) }
+    requires free { IsFree seat.old.me.0 × (seat.old.me.1 ≡ []) }
+    requires free_old { IsFree from.me.0 × (from.me.1 ≡ []) }
+    requires number { (number ≡ seat.old.me.0.number) × (old ≡ from.me.0.number) }
+    requires left { 0 < seat.old.me.0.left + from.me.0.left }
+    ensures table { seat.new.table_id ≡ seat.old.table_id }
+    ensures free { IsFree seat.new.me.0 × (seat.new.me.1 ≡ []) }
+    ensures joins { TakesIn (pass_of seat.old.table_id seat.old.me.0) (pass_of from.table_id from.me.0) (pass_of seat.new.table_id seat.new.me.0) }
+    ensures keeps { IsSoundView seat.new.me.0 }
+{
+    shared.join_seat::<JoinSeat>(seat, from);
+    let mut held = take_turn(rt, shared, seat);
+    held.join(old);
+    mark_join::<A, Brand>(shared, seat, number, old);
+    end_turn(shared, seat, held);
+}
