@@ -1,8 +1,41 @@
-ghost use Rattle.std.specs.Prelude.{◌≡◌};
+ghost use Rattle.std.specs.Prelude.{◌≡◌, IfOk};
+ghost use Rattle.case_run.specs.Cases.{CanRun, test_case};
+ghost use Rattle.case_run.specs.Values.{case_value};
+ghost use Rattle.judgehost.specs.Runners.{RunsCases};
 
-use farm_kinds::{Kind, Task};
+use case_run::Case;
+use farm_kinds::{Kind, NoMemory, Task};
 
-/// A task that was run, and its result.
+/// A closure that gives the result of a case.
+type Run = Box<dyn Fn(&Case<'_>) -> Result<Kind, NoMemory> + Sync>;
+
+/// What runs cases: a closure that is known to give the value of each case that it is called on, or that no memory was
+/// left.
+#[derive(Drop)]
+pub struct Runner {
+    run: Run,
+    ghost runs: { RunsCases (Run.pre run) (Run.post run) },
+}
+
+impl Runner {
+    /// A runner of this closure.
+    pub fn new(run: Box<dyn Fn(&Case<'_>) -> Result<Kind, NoMemory> + Sync>) -> Runner
+        requires { RunsCases (pre run) (post run) }
+    {
+        Runner { run }
+    }
+
+    /// Runs the case of a task. `NoMemory` says nothing of the case.
+    pub fn run(&self, task: Task, case: &Case<'_>) -> Result<Done, NoMemory>
+        requires can_run { CanRun (test_case case.now) }
+        ensures { IfOk result (λ done. (done.task ≡ task) × (done.kind ≡ case_value (test_case case.now))) }
+    {
+        let kind = (self.run)(case)?;
+        Ok(Done { task, kind })
+    }
+}
+
+/// A task that was run, and its result. Only [`Runner::run`] makes one.
 #[derive(Debug, Drop)]
 pub struct Done {
     task: Task,
