@@ -1,8 +1,9 @@
-ghost use Rattle.std.specs.Prelude.{◌≡◌, ◌≢◌, ℕ, ◌+◌, ◌≤◌, ◌^◌, None, Some, IfNone, true};
+ghost use Rattle.std.specs.Prelude.{◌≡◌, ◌≢◌, ℕ, ◌+◌, ◌≤◌, ◌<◌, ◌^◌, None, Some, IfNone, true};
 ghost use Rattle.judgehost.specs.declared.bench.BenchFault.{BenchFault as FaultValue};
 ghost use Rattle.judgehost.specs.declared.gate.Point.{Point as PointValue};
+ghost use Rattle.judgehost.specs.Gates.{MayPass};
 ghost use Rattle.judgehost.specs.Benches.{Nothing, Refused};
-ghost use Rattle.judgehost.specs.Hosts.{left_over, left_of};
+ghost use Rattle.judgehost.specs.Hosts.{Handed, HandedIn, left_over, left_of};
 
 use crate::bench::{Bench, BenchFault, Claimed};
 use crate::gate::{Gate, Go, Point};
@@ -42,6 +43,9 @@ pub fn host_loop<B: Bench, G: Gate>(
     ensures unheard { result ≡ HostEnd.Fuel → B.heard bench.new ≡ None }
     ensures refused { (fault : FaultValue) → result ≡ HostEnd.Bench fault → B.heard bench.new ≡ Some (Refused fault) }
     ensures claims { B.claims bench.new ≤ fuel }
+    ensures tasks { Handed result (B.claims bench.new + B.tasks bench.old) (B.tasks bench.new) }
+    ensures passed { (turn : ℕ) → 1 ≤ turn → turn < B.claims bench.new → MayPass (G.may_answer gate.now) host turn }
+    ensures all_passed { result ≡ HostEnd.Fuel → (turn : ℕ) → 1 ≤ turn → turn ≤ fuel → MayPass (G.may_answer gate.now) host turn }
     ensures posts { B.posts bench.new + B.tasks bench.old + left_over result ≡ B.posts bench.old + B.tasks bench.new }
     ensures later { B.faults bench.old ≤ B.faults bench.new }
     ensures fixed { B.fixed bench.new ≡ B.fixed bench.old }
@@ -70,6 +74,8 @@ fn take_turn<B: Bench, G: Gate>(
     ensures died { (point : PointValue) (turn : ℕ) → result ≡ Some (HostEnd.Died point turn) → G.may_answer gate.now host point turn Go.Die ≡ true }
     ensures turn { (point : PointValue) (at : ℕ) → result ≡ Some (HostEnd.Died point at) → at ≡ turn }
     ensures not_spent { result ≢ Some HostEnd.Fuel }
+    ensures tasks { HandedIn result (B.claims bench.new + B.tasks bench.old) (B.claims bench.old + B.tasks bench.new) }
+    ensures passed { IfNone result (MayPass (G.may_answer gate.now) host turn) }
     ensures refused { (fault : FaultValue) → result ≡ Some (HostEnd.Bench fault) → B.heard bench.new ≡ Some (Refused fault) }
     ensures posts { B.posts bench.new + B.tasks bench.old + left_of result ≡ B.posts bench.old + B.tasks bench.new }
     ensures later { B.faults bench.old ≤ B.faults bench.new }

@@ -20,7 +20,7 @@ pub struct Runner {
 impl Runner {
     /// A runner of this closure.
     pub fn new(run: Box<dyn Fn(&Case<'_>) -> Result<Kind, NoMemory> + Sync>) -> Runner
-        requires { RunsCases (pre run) (post run) }
+        requires runs_cases { RunsCases (pre run) (post run) }
     {
         Runner { run }
     }
@@ -28,7 +28,8 @@ impl Runner {
     /// Runs the case of a task. `NoMemory` says nothing of the case.
     pub fn run(&self, task: Task, case: &Case<'_>) -> Result<Done, NoMemory>
         requires can_run { CanRun (test_case case.now) }
-        ensures { IfOk result (λ done. (done.task ≡ task) × (done.kind ≡ case_value (test_case case.now))) }
+        ensures task { IfOk result (λ done. done.task ≡ task) }
+        ensures value { IfOk result (λ done. done.kind ≡ case_value (test_case case.now)) }
     {
         let kind = (self.run)(case)?;
         Ok(Done { task, kind })
