@@ -1,5 +1,5 @@
 -- How the loop of a host ends.
-use Rattle.std.specs.Prelude.{◌≡◌, ◌⊎◌, ℕ, ◌+◌, Option, Some, None}
+use Rattle.std.specs.Prelude.{◌≡◌, ◌⊎◌, ℕ, ◌+◌}
 use Rattle.judgehost.specs.declared.gate.Point.{Point}
 use Rattle.judgehost.specs.declared.gate.Point.TheVariants as point
 use Rattle.judgehost.specs.declared.host.HostEnd.{HostEnd}
@@ -19,11 +19,6 @@ left_over end.Fuel = 0
 left_over (end.Bench fault) = 0
 left_over end.NoMemory = 1
 
--- the same of a turn, after which the host may go on
-abbrev pub left_of : Option HostEnd → ℕ
-left_of None = 0
-left_of (Some ended) = left_over ended
-
 -- Every claim handed out a task, but the last one where the host found none or was refused.
 abbrev pub Handed : HostEnd → ℕ → ℕ → Type 0
 Handed end.Idle claims tasks = claims ≡ tasks + 1
@@ -31,8 +26,3 @@ Handed (end.Died p turn) claims tasks = claims ≡ tasks
 Handed end.Fuel claims tasks = claims ≡ tasks
 Handed (end.Bench fault) claims tasks = (claims ≡ tasks + 1) ⊎ (claims ≡ tasks)
 Handed end.NoMemory claims tasks = claims ≡ tasks
-
--- the same of a turn, after which the host may go on
-abbrev pub HandedIn : Option HostEnd → ℕ → ℕ → Type 0
-HandedIn None claims tasks = claims ≡ tasks
-HandedIn (Some ended) claims tasks = Handed ended claims tasks

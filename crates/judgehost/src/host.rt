@@ -1,9 +1,9 @@
-ghost use Rattle.std.specs.Prelude.{◌≡◌, ◌≢◌, ℕ, ◌+◌, ◌≤◌, ◌<◌, ◌^◌, None, Some, IfNone, true};
+ghost use Rattle.std.specs.Prelude.{◌≡◌, ◌≢◌, ℕ, ◌+◌, ◌≤◌, ◌<◌, ◌^◌, None, Some, IfOk, IfErr, Err, true};
 ghost use Rattle.judgehost.specs.declared.bench.BenchFault.{BenchFault as FaultValue};
 ghost use Rattle.judgehost.specs.declared.gate.Point.{Point as PointValue};
 ghost use Rattle.judgehost.specs.Gates.{MayPass};
 ghost use Rattle.judgehost.specs.Benches.{Nothing, Refused};
-ghost use Rattle.judgehost.specs.Hosts.{Handed, HandedIn, left_over, left_of};
+ghost use Rattle.judgehost.specs.Hosts.{Handed, left_over};
 
 use crate::bench::{Bench, BenchFault, Claimed};
 use crate::gate::{Gate, Go, Point};
@@ -24,8 +24,11 @@ pub enum HostEnd {
     NoMemory,
 }
 
-/// Claims one task after the other, runs its case and posts the result, until no task is open, the gate lets the host
-/// die, a call is refused, or `fuel` claims were made. A turn is one claim and what follows it.
+/// Works as a host: claims one task after the other, runs its case and posts the result, until no task is open, the gate
+/// lets the host die, a call is refused, or `fuel` claims were made.
+///
+/// A turn is one claim and what follows it. The gate is asked after each claim that hands out a task, before the post
+/// and after it. After whatever ends the host nothing is called any more.
 pub fn host_loop<B: Bench, G: Gate>(
     runner: &Runner,
     bench: &mut B,
@@ -44,71 +47,67 @@ pub fn host_loop<B: Bench, G: Gate>(
     ensures refused { (fault : FaultValue) → result ≡ HostEnd.Bench fault → B.heard bench.new ≡ Some (Refused fault) }
     ensures claims { B.claims bench.new ≤ fuel }
     ensures tasks { Handed result (B.claims bench.new + B.tasks bench.old) (B.tasks bench.new) }
+    ensures posts { B.posts bench.new + B.tasks bench.old + left_over result ≡ B.posts bench.old + B.tasks bench.new }
     ensures passed { (turn : ℕ) → 1 ≤ turn → turn < B.claims bench.new → MayPass (G.may_answer gate.now) host turn }
     ensures all_passed { result ≡ HostEnd.Fuel → (turn : ℕ) → 1 ≤ turn → turn ≤ fuel → MayPass (G.may_answer gate.now) host turn }
-    ensures posts { B.posts bench.new + B.tasks bench.old + left_over result ≡ B.posts bench.old + B.tasks bench.new }
     ensures later { B.faults bench.old ≤ B.faults bench.new }
     ensures fixed { B.fixed bench.new ≡ B.fixed bench.old }
 {
     for made in 0..fuel {
-        if let Some(end) = take_turn(runner, bench, gate, host, made + 1) {
+        if let Err(end) = take_turn(runner, bench, gate, host, made + 1) {
             return end;
         }
     }
     HostEnd::Fuel
 }
 
-/// One claim and what follows it. None where the host goes on.
+/// One claim and what follows it. An error says why the host stops.
 fn take_turn<B: Bench, G: Gate>(
     runner: &Runner,
     bench: &mut B,
     gate: &G,
     host: u32,
     turn: u64,
-) -> Option<HostEnd>
+) -> Result<(), HostEnd>
     requires turn { turn ≡ B.claims bench.old + 1 }
     requires room { turn ≤ 2 ^ 32 }
     ensures claims { B.claims bench.new ≡ turn }
-    ensures goes_on { IfNone result (B.heard bench.new ≡ None) }
-    ensures idle { result ≡ Some HostEnd.Idle → B.heard bench.new ≡ Some Nothing }
-    ensures died { (point : PointValue) (turn : ℕ) → result ≡ Some (HostEnd.Died point turn) → G.may_answer gate.now host point turn Go.Die ≡ true }
-    ensures turn { (point : PointValue) (at : ℕ) → result ≡ Some (HostEnd.Died point at) → at ≡ turn }
-    ensures not_spent { result ≢ Some HostEnd.Fuel }
-    ensures tasks { HandedIn result (B.claims bench.new + B.tasks bench.old) (B.claims bench.old + B.tasks bench.new) }
-    ensures passed { IfNone result (MayPass (G.may_answer gate.now) host turn) }
-    ensures refused { (fault : FaultValue) → result ≡ Some (HostEnd.Bench fault) → B.heard bench.new ≡ Some (Refused fault) }
-    ensures posts { B.posts bench.new + B.tasks bench.old + left_of result ≡ B.posts bench.old + B.tasks bench.new }
+    ensures goes_on { IfOk result (λ _. B.heard bench.new ≡ None) }
+    ensures done { IfOk result (λ _. (B.tasks bench.new ≡ B.tasks bench.old + 1) × (B.posts bench.new ≡ B.posts bench.old + 1)) }
+    ensures passed { IfOk result (λ _. MayPass (G.may_answer gate.now) host turn) }
+    ensures idle { result ≡ Err HostEnd.Idle → B.heard bench.new ≡ Some Nothing }
+    ensures died { (point : PointValue) (at : ℕ) → result ≡ Err (HostEnd.Died point at) → G.may_answer gate.now host point at Go.Die ≡ true }
+    ensures turn { (point : PointValue) (at : ℕ) → result ≡ Err (HostEnd.Died point at) → at ≡ turn }
+    ensures not_spent { result ≢ Err HostEnd.Fuel }
+    ensures refused { (fault : FaultValue) → result ≡ Err (HostEnd.Bench fault) → B.heard bench.new ≡ Some (Refused fault) }
+    ensures tasks { IfErr result (λ end. Handed end (1 + B.tasks bench.old) (B.tasks bench.new)) }
+    ensures posts { IfErr result (λ end. B.posts bench.new + B.tasks bench.old + left_over end ≡ B.posts bench.old + B.tasks bench.new) }
     ensures later { B.faults bench.old ≤ B.faults bench.new }
     ensures fixed { B.fixed bench.new ≡ B.fixed bench.old }
 {
     let task = match bench.claim() {
         Claimed::Task(task) => task,
-        Claimed::Nothing => return Some(HostEnd::Idle),
-        Claimed::Refused(fault) => return Some(HostEnd::Bench(fault)),
+        Claimed::Nothing => return Err(HostEnd::Idle),
+        Claimed::Refused(fault) => return Err(HostEnd::Bench(fault)),
     };
-    if gate.pass(host, Point::AfterClaim, turn) == Go::Die {
-        return Some(HostEnd::Died {
-            point: Point::AfterClaim,
-            turn,
-        });
-    }
+    pass(gate, host, Point::AfterClaim, turn)?;
     let Ok(done) = runner.run(task, &bench.case(task)) else {
-        return Some(HostEnd::NoMemory);
+        return Err(HostEnd::NoMemory);
     };
-    if gate.pass(host, Point::BeforePost, turn) == Go::Die {
-        return Some(HostEnd::Died {
-            point: Point::BeforePost,
-            turn,
-        });
-    }
+    pass(gate, host, Point::BeforePost, turn)?;
     if let Err(fault) = bench.post(done) {
-        return Some(HostEnd::Bench(fault));
+        return Err(HostEnd::Bench(fault));
     }
-    if gate.pass(host, Point::AfterPost, turn) == Go::Die {
-        return Some(HostEnd::Died {
-            point: Point::AfterPost,
-            turn,
-        });
+    pass(gate, host, Point::AfterPost, turn)
+}
+
+/// Asks the gate. An error says that the host died here.
+fn pass<G: Gate>(gate: &G, host: u32, point: Point, turn: u64) -> Result<(), HostEnd>
+    ensures on { IfOk result (λ _. G.may_answer gate.now host point turn Go.On ≡ true) }
+    ensures died { IfErr result (λ end. (end ≡ HostEnd.Died point turn) × (G.may_answer gate.now host point turn Go.Die ≡ true)) }
+{
+    match gate.pass(host, point, turn) {
+        Go::On => Ok(()),
+        Go::Die => Err(HostEnd::Died { point, turn }),
     }
-    None
 }
