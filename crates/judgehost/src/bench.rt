@@ -36,15 +36,15 @@ pub enum Claimed {
     Refused(BenchFault),
 }
 
-/// Where a host gets its tasks and posts their results.
+/// Where a host gets its tasks and posts their results. A new bench has made no claim and heard nothing.
 pub trait Bench {
-    /// The type of what stays the same.
+    /// What kind of data stays the same.
     ghost Fixed: { Type 0 };
     /// What stays the same in every call.
     ghost fixed: { Self → Fixed };
     /// The task that was handed out last, with its case, until a result is posted.
     ghost pending: { Self → Option (Task × TestCase) };
-    /// How often the bench has failed.
+    /// How often the link to the farm has failed.
     ghost faults: { Self → ℕ };
     /// How many claims were made.
     ghost claims: { Self → ℕ };
@@ -55,7 +55,7 @@ pub trait Bench {
     /// What the last call answered, where this was nothing or a refusal.
     ghost heard: { Self → Option Heard };
 
-    /// Asks for a task.
+    /// Asks for a task, which is then the pending one. Any other answer leaves none pending.
     fn claim(&mut self) -> Claimed
         requires room { claims self.old < 2 ^ 32 }
         ensures claims { claims self.new ≡ claims self.old + 1 }
@@ -73,7 +73,8 @@ pub trait Bench {
         ensures case { pending self.now ≡ Some (task, test_case result) }
         ensures can_run { CanRun (test_case result) };
 
-    /// Posts the result of the pending task, which is pending no more, whatever the answer.
+    /// Posts the result of the pending task, which is pending no more, whatever the answer. Gives the farm's reply, and
+    /// never `NoHost` or `NoMemory`: these are refusals.
     fn post(&mut self, done: Done) -> Result<Reply, BenchFault>
         requires value { (c : TestCase) × (pending self.old ≡ Some (done.task, c)) × (done.kind ≡ case_value c) }
         ensures claims { claims self.new ≡ claims self.old }

@@ -21,6 +21,7 @@ impl Runner {
     /// A runner of this closure.
     pub fn new(run: Box<dyn Fn(&Case<'_>) -> Result<Kind, NoMemory> + Sync>) -> Runner
         requires runs_cases { RunsCases (pre run) (post run) }
+        ensures run { result.run ≡ run }
     {
         Runner { run }
     }

@@ -173,6 +173,7 @@ fn a_run_without_memory_posts_nothing(rt: HostRuntime) -> Result<(), Fail> {
 fn fuel_is_a_number_of_claims(rt: HostRuntime) -> Result<(), Fail> {
     for (fuel, end, steps, runs) in [
         (0, HostEnd::Fuel, 0, 0),
+        (1, HostEnd::Fuel, 5, 1),
         (2, HostEnd::Fuel, 10, 2),
         (3, HostEnd::Fuel, 15, 3),
         (4, HostEnd::Idle, 16, 3),
