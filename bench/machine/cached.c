@@ -49,11 +49,15 @@ static __attribute__((noinline)) int fetch_anew(struct machine *m, uint32_t pc, 
 
 #define A m->reg[i.rs1]
 #define B m->reg[i.rs2]
-#define GIVE(v) do { uint32_t v_ = (v); m->reg[i.rd] = v_; m->reg[0] = 0; } while (0); break
-#define JUMP(to) do { uint32_t t_ = (to); if (t_ & 3) { e = TRAP_JUMP; goto out; } m->reg[i.rd] = next; m->reg[0] = 0; next = t_; } while (0); break
-#define BRANCH(c) if (c) { uint32_t t_ = pc + imm; if (t_ & 3) { e = TRAP_JUMP; goto out; } next = t_; } break
-#define LOAD(width, as) if ((e = load(m, A + imm, width, &v)) >= 0) goto out; GIVE(as)
-#define STORE(width) if ((e = store(m, A + imm, width, B)) >= 0) goto out; break
+#define IMM ((uint32_t)i.imm)
+#define PC pc
+#define NEXT break
+#define GIVE(value) { m->reg[i.rd] = (value); m->reg[0] = 0; break; }
+#define TO(to) pc_after = (to); if (pc_after & 3) { e = TRAP_JUMP; goto out; }
+#define JUMP(to) { TO(to) m->reg[i.rd] = pc + 4; m->reg[0] = 0; break; }
+#define BRANCH(condition) { if (condition) { TO(pc + IMM) } break; }
+#define LOAD(width, as) { if ((e = load(m, A + IMM, width, &v)) >= 0) goto out; GIVE(as) }
+#define STORE(width) { if ((e = store(m, A + IMM, width, B)) >= 0) goto out; break; }
 
 static int run(struct machine *m) {
     uint32_t pc = m->pc, v;
@@ -65,54 +69,11 @@ static int run(struct machine *m) {
         struct entry *kept = &cache[(pc >> 2) % ENTRIES];
         if (kept->at == pc) i = kept->instr;
         else if ((e = fetch_anew(m, pc, &i)) >= 0) goto out;
-        uint32_t next = pc + 4, imm = (uint32_t)i.imm;
+        uint32_t pc_after = pc + 4;
         switch (i.op) {
-        case LUI: GIVE(imm);
-        case AUIPC: GIVE(pc + imm);
-        case JAL: JUMP(pc + imm);
-        case JALR: JUMP((A + imm) & ~1u);
-        case BEQ: BRANCH(A == B);
-        case BNE: BRANCH(A != B);
-        case BLT: BRANCH((int32_t)A < (int32_t)B);
-        case BGE: BRANCH((int32_t)A >= (int32_t)B);
-        case BLTU: BRANCH(A < B);
-        case BGEU: BRANCH(A >= B);
-        case LB: LOAD(1, (uint32_t)(int8_t)v);
-        case LH: LOAD(2, (uint32_t)(int16_t)v);
-        case LW: LOAD(4, v);
-        case LBU: LOAD(1, v);
-        case LHU: LOAD(2, v);
-        case SB: STORE(1);
-        case SH: STORE(2);
-        case SW: STORE(4);
-        case ADDI: GIVE(A + imm);
-        case SLTI: GIVE((int32_t)A < (int32_t)imm);
-        case SLTIU: GIVE(A < imm);
-        case XORI: GIVE(A ^ imm);
-        case ORI: GIVE(A | imm);
-        case ANDI: GIVE(A & imm);
-        case SLLI: GIVE(A << (imm & 31));
-        case SRLI: GIVE(A >> (imm & 31));
-        case SRAI: GIVE((uint32_t)((int32_t)A >> (imm & 31)));
-        case ADD: GIVE(A + B);
-        case SUB: GIVE(A - B);
-        case SLL: GIVE(A << (B & 31));
-        case SLT: GIVE((int32_t)A < (int32_t)B);
-        case SLTU: GIVE(A < B);
-        case XOR: GIVE(A ^ B);
-        case SRL: GIVE(A >> (B & 31));
-        case SRA: GIVE((uint32_t)((int32_t)A >> (B & 31)));
-        case OR: GIVE(A | B);
-        case AND: GIVE(A & B);
-        case MUL: GIVE(A * B);
-        case MULH: GIVE(mulh(A, B));
-        case MULHSU: GIVE(mulhsu(A, B));
-        case MULHU: GIVE(mulhu(A, B));
-        case DIV: GIVE(quotient(A, B));
-        case DIVU: GIVE(B ? A / B : UINT32_MAX);
-        case REM: GIVE(remainder_of(A, B));
-        case REMU: GIVE(B ? A % B : A);
-        case FENCE: break;
+#define X(operation, effect) case operation: effect;
+#include "operations.h"
+#undef X
         case ECALL:
             m->cost = cost;
             e = call(m);
@@ -122,7 +83,7 @@ static int run(struct machine *m) {
             break;
         case EBREAK: e = TRAP_BREAK; goto out;
         }
-        pc = next;
+        pc = pc_after;
     }
 out:
     m->pc = pc;
