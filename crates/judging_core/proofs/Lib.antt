@@ -1,4 +1,8 @@
 pub mod Changed
+pub mod Items
 pub mod Held
-pub mod FirstOpen
 pub mod MadeAhead
+pub mod Shown
+pub mod Wanted
+pub mod Listed
+pub mod OpenTasks

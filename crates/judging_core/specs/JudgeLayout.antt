@@ -1,11 +1,12 @@
 -- How a judge lies in memory.
-use Rattle.std.specs.Prelude.{◌≤◌, ◌<◌, ◌+◌, ◌*◌, ◌^◌, length, vec_len, vec_capacity}
+use Rattle.std.specs.Prelude.{ℕ, ◌≤◌, ◌<◌, ◌+◌, ◌*◌, ◌^◌, length, vec_len, vec_capacity}
 use Rattle.farm_model.specs.Limits.{max_hosts, max_judgings, max_held}
 use Rattle.farm_model.specs.Judge.{JudgeState}
 use Rattle.lease_book.specs.Book.{room}
 use Rattle.judging_core.specs.JudgeValue.{JudgeValue}
 use Rattle.judging_core.specs.JudgeShape.{judging_values, AreWellKept, AreRuledBy, reserved_of, ArePrepared}
 use Rattle.judging_core.specs.Holding.{IsHeldWell}
+use Rattle.judging_core.specs.Listed.{IsListed}
 use Rattle.judging_core.specs.declared.judge.Judge.TheInside.{Inside}
 
 abbrev pub judge_state : Inside → JudgeState
@@ -39,3 +40,7 @@ pub record IsJudgeLayout (a : Inside) : Type 0 where
   pub prepared_ruled : AreRuledBy a.rule a.prepared.items
   -- room for all that is made ahead
   pub spare : vec_len a.judgings + vec_len a.prepared ≤ vec_capacity a.judgings
+  -- each open task is listed
+  pub listed : IsListed a.rule a.mode (judging_values a.judgings.items) a.leases.leases a.tasks
+  -- the list has room for all that is made ahead, as far as there can be judgings
+  pub ahead : (k : ℕ) → k ≤ length a.judgings.items + length a.prepared.items → k ≤ max_judgings → k ≤ length a.tasks

@@ -1,10 +1,9 @@
 ghost use Rattle.std.specs.Prelude.{◌≡◌, Some, None, ◌+◌, ◌≤◌, ◌<◌, length, All, IfOk, IfNone, OnOk, OnErr, IsOk, IsTrue};
 ghost use Rattle.farm_kinds.specs.Rules.{remap_of};
-ghost use Rattle.farm_model.specs.Leases.{left_after, ended_at, is_held_by};
+ghost use Rattle.farm_model.specs.Leases.{is_held_by};
 ghost use Rattle.farm_model.specs.Limits.{max_tests, max_hosts, max_judgings};
 ghost use Rattle.farm_model.specs.Judge.{answer_of_judging, counted, judge_claim, judge_enter, judge_result, judge_renew, judge_tick, judge_down, drop_judging, renew_refusal};
 ghost use Rattle.lazy_stop.specs.Matters.{IsPossible};
-ghost use Rattle.lease_book.specs.Book.{room};
 ghost use Rattle.farm_model.specs.Judgings.{cell_of, is_dropped};
 ghost use Rattle.judging_core.specs.JudgeValue.{first_judge, in_state, with_judging, starts_with};
 
@@ -12,6 +11,7 @@ use crate::judgings::{
     KeptJudging, answer_of, cell_at, empty_judging, entry_refusal, fill, judging_at, mark_dropped,
     mark_handed, result_refusal,
 };
+use crate::listing::{end_due, end_host, list_judging, make_room, unlist_judging};
 use crate::open::first_open;
 use crate::prepared::{is_next, prepared_judgings, take_prepared};
 use farm_kinds::{
@@ -21,6 +21,7 @@ use lazy_stop::remapped_is_possible;
 use lease_book::LeaseBook;
 use std::alloc::Global;
 use std::marker::Model;
+use task_tree::TaskTree;
 
 /// The moment past which time does not go on, in seconds: 10^18 - 1.
 const LAST_MOMENT: u64 = 999_999_999_999_999_999;
@@ -38,6 +39,8 @@ pub struct Judge {
     prepared: Vec<KeptJudging>,
     hosts: u32,
     leases: LeaseBook,
+    /// Each open task is shown here, so that claims need not look at the judgings.
+    tasks: TaskTree,
 }
 
 impl Model for Judge {
@@ -70,6 +73,7 @@ impl Judge {
             prepared: Vec::new(alloc),
             hosts: 0,
             leases: LeaseBook::new(alloc),
+            tasks: TaskTree::new(alloc),
         }
     }
 
@@ -89,6 +93,7 @@ impl Judge {
     {
         let prepared = prepared_judgings(self.alloc, self.rule, tests.as_slice())?;
         self.judgings.reserve(prepared.len()).map_err(|_| NoMemory)?;
+        make_room(&mut self.tasks, self.judgings.len() + prepared.len())?;
         self.prepared = prepared;
         Ok(())
     }
@@ -107,9 +112,12 @@ impl Judge {
             return Ok(self.add_reserved(class, tests));
         }
         let judging = empty_judging(self.alloc, self.rule, class, tests)?;
+        let number = self.judgings.len() + 1;
+        make_room(&mut self.tasks, number)?;
         self.judgings.push(judging).map_err(|_| NoMemory)?;
         self.prepared = Vec::new(self.alloc);
-        Ok(self.judgings.len() as u32)
+        list_judging(&mut self.tasks, class, number as u32, tests);
+        Ok(number as u32)
     }
 
     /// Adds a judging of this many tests, for which there is room, and answers its number.
@@ -124,7 +132,9 @@ impl Judge {
             return 0;
         };
         self.judgings.push_reserved(judging);
-        self.judgings.len() as u32
+        let number = self.judgings.len() as u32;
+        list_judging(&mut self.tasks, class, number, tests);
+        number
     }
 
     /// Adds a host, and answers its number. There is room for 64 leases of each host then, so that no
@@ -154,10 +164,11 @@ impl Judge {
         if self.leases.held(host) >= MAX_HELD {
             return Claim::Holding;
         }
-        let Some(task) = first_open(self.mode, &self.judgings, &self.leases) else {
+        let Some(task) = first_open(self.mode, &self.judgings, &self.leases, &mut self.tasks) else {
             return Claim::Nothing;
         };
         let until = self.moment + self.lease;
+        self.tasks.hide_task(task);
         mark_handed(&mut self.judgings, task);
         self.leases.grant(host, task, until);
         Claim::Handed { task, until }
@@ -189,7 +200,7 @@ impl Judge {
         self.count(judging, test, given)
     }
 
-    /// Fills the empty cell of the task, and ends the lease on it.
+    /// Fills the empty cell of the task, ends the lease on it, and takes it off the list.
     fn count(&mut self, judging: u32, test: u32, given: Kind) -> Count
         requires numbered { 1 ≤ judging }
         requires known { judging ≤ length self.old.state.judgings }
@@ -200,10 +211,12 @@ impl Judge {
         ensures answer { result ≡ Count.Counted }
     {
         fill(&mut self.judgings, judging, test, given);
-        self.leases.end(Task {
+        let task = Task {
             judging,
             test: test as u16,
-        });
+        };
+        self.leases.end(task);
+        self.tasks.hide_task(task);
         Count::Counted
     }
 
@@ -254,7 +267,7 @@ impl Judge {
     {
         let now = self.moment.max(moment.min(LAST_MOMENT));
         self.moment = now;
-        end_due(&mut self.leases, now)
+        end_due(&mut self.leases, &mut self.tasks, self.judgings.len(), now)
     }
 
     /// Ends the leases of the host, and counts them.
@@ -262,7 +275,7 @@ impl Judge {
         ensures state { self.new ≡ in_state self.old (judge_down self.old.state host).0 }
         ensures count { result ≡ (judge_down self.old.state host).1 }
     {
-        self.leases.end_host(host)
+        end_host(&mut self.leases, &mut self.tasks, self.judgings.len(), host)
     }
 
     /// Drops a judging: it takes no more results, and the leases on its tasks end. Its cells stay.
@@ -273,6 +286,8 @@ impl Judge {
     {
         mark_dropped(&mut self.judgings, judging);
         self.leases.end_judging(judging);
+        let tests = self.judgings[judging as usize - 1].handed.len() as u16;
+        unlist_judging(&mut self.tasks, judging, tests);
     }
 
     /// Whether a judging was dropped.
@@ -311,15 +326,4 @@ fn is_held_by(leases: &LeaseBook, host: u32, task: Task) -> bool
         Some(lease) => lease.host == host,
         None => false,
     }
-}
-
-/// Ends the leases that end at or before now, and counts them.
-fn end_due(leases: &mut LeaseBook, now: u64) -> u32
-    ensures leases { leases.new.leases ≡ left_after leases.old.leases now }
-    ensures count { result ≡ length (ended_at leases.old.leases now) }
-    ensures room { room leases.new ≡ room leases.old }
-{
-    let held = leases.len();
-    while let Some(_) = leases.due(now) {}
-    held - leases.len()
 }

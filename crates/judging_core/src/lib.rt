@@ -9,6 +9,7 @@
 
 mod judge;
 mod judgings;
+mod listing;
 mod open;
 mod prepared;
 #[cfg(test)]

@@ -239,7 +239,7 @@ impl LeaseBook {
     }
 
     /// A task that the host holds.
-    fn task_of_host(&self, host: u32) -> Option<Task>
+    pub fn task_of_host(&self, host: u32) -> Option<Task>
         ensures none { IfNone result (held_count self.now.leases host ≡ 0) }
         ensures one { IfSome result (λ task. EndsOne (holds host) self.now.leases task) }
     {

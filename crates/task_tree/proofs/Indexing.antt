@@ -117,6 +117,15 @@ index_kept ks classes p k y h a e b sub =
       | inr other ↦ other_index ks (of_class classes c).numbers y.class c p y h e refl other (a.each c)
     ])
 
+-- a judging of which no task is shown changes to another
+pub index_classed : (ks : List KeptTasks) (classes : Classes) (p : ℕ) (y : KeptTasks) → p < length ks → IsIndexed ks classes → y.shown ≡ (kept_at ks p).shown
+    → ((k : ℕ) → bit (kept_at ks p).shown k ≢ 1) → IsIndexed (set ks p y) classes
+index_classed ks classes p y h a e none =
+    changed_index ks classes classes y.class p y a (record { others = λ _ _. refl; size = refl; top_words = refl }) (λ c.
+    let ns = (of_class classes c).numbers in
+    let out : bit ns p ≢ 1 = λ b. let u = (a.each c).some p b in none u.0 u.1 in
+    index_change c ks ns ns p y h (a.each c) (λ _ _. refl) (λ _ k b. absurd (none k (ap (λ w. bit w k) (sym e) ∙ b))) (λ b. absurd (out b)) (λ b. absurd (out b)))
+
 -- ---- a judging is added
 
 at_pushed : (ks : List KeptTasks) (y : KeptTasks) (i : ℕ) → i < length ks → kept_at (ks ++ y ∷ []) i ≡ kept_at ks i

@@ -1,5 +1,5 @@
 -- Sets seen as lists of tests.
-use Rattle.std.proofs.Common.{ℕ, zero, suc, ◌≡◌, ◌≢◌, ◌+◌, ◌-◌, ◌<◌, ◌≤◌, List, [], ◌∷◌, length, get_or, set, Bool, true, false, refl, sym, ap, ◌∙◌, arith, inl, inr, length-set, get_or-set_same, get_or-set_other, slice_get}
+use Rattle.std.proofs.Common.{ℕ, zero, suc, ◌≡◌, ◌≢◌, ◌+◌, ◌-◌, ◌<◌, ◌≤◌, List, [], ◌∷◌, length, get_or, set, Bool, true, false, refl, sym, ap, ◌∙◌, arith, inl, inr, length-set, get_or-set_same, get_or-set_other, slice_get, Option, Some, unwrap_or}
 use Rattle.std.specs.Prelude.{◌==◌, replicate, nat_lt}
 use Rattle.std.specs.Option.{option_map_or}
 use Rattle.std.proofs.lemmas.Bool.{cases_eq}
@@ -7,8 +7,10 @@ use Rattle.std.proofs.lemmas.Bool.Decides.{nat_tests}
 use Rattle.std.proofs.lemmas.List.{ext_get_or}
 use Rattle.farm_kinds.specs.declared.outcomes.Task.{Task}
 use Rattle.task_tree.specs.Bits.{bit, IsInserted, IsRemoved, IsEmpty}
-use Rattle.task_tree.specs.Shown.{JudgingTasks, tests_of, HasTask}
-use Rattle.task_tree.specs.TreeLayout.{shown_from, tasks_values, kept_at, IsSized}
+use Rattle.farm_model.specs.Numbered.{item_of}
+use Rattle.farm_model.specs.Judgings.{task_of}
+use Rattle.task_tree.specs.Shown.{JudgingTasks, tests_of, is_shown, HasTask}
+use Rattle.task_tree.specs.TreeLayout.{shown_from, tasks_value, tasks_values, kept_at, IsSized}
 use Rattle.task_tree.specs.declared.tree.KeptTasks.{KeptTasks}
 
 pub length_shown : (words : List ℕ) (i n : ℕ) → length (shown_from words i n) ≡ n
@@ -97,3 +99,43 @@ pub has_task : (ks : List KeptTasks) (i k : ℕ) → i < length ks → k < (kept
 has_task ks i k l h =
     let place : i + 1 - 1 ≡ i = omega arith in
     has_task_at ks (record { judging = i + 1; test = k + 1 }) (omega arith) (omega arith) (rw place l) (rw place (omega arith))
+
+-- ---- whether a task is shown
+
+item_next : {X : Type 0} (xs : List X) (i : ℕ) → item_of xs (i + 1) ≡ slice_get xs i
+item_next xs i =
+    let here : i + 1 - 1 ≡ i = omega arith in
+    let yes : nat_lt 0 (i + 1) ≡ true = grind (arith, nat_tests) in
+    rw (yes, here) refl
+
+value_at : (ks : List KeptTasks) (i : ℕ) → i < length ks → slice_get (tasks_values ks) i ≡ Some (tasks_value (kept_at ks i))
+value_at [] i l = absurd (omega arith)
+value_at (k ∷ ks) zero l = refl
+value_at (k ∷ ks) (suc i) l = value_at ks i (omega arith)
+
+get_there : (xs : List Bool) (k : ℕ) → k < length xs → unwrap_or (slice_get xs k) false ≡ get_or xs k false
+get_there [] k l = absurd (omega arith)
+get_there (x ∷ xs) zero l = refl
+get_there (x ∷ xs) (suc k) l = get_there xs k (omega arith)
+
+-- the test of a judging is shown where its bit is set
+pub is_shown_at : (ks : List KeptTasks) (i k : ℕ) → i < length ks → k < (kept_at ks i).tests → is_shown (tasks_values ks) (task_of (i + 1) (k + 1)) ≡ (bit (kept_at ks i).shown k == 1)
+is_shown_at ks i k l h =
+    let kept = kept_at ks i in
+    let bits = shown_from kept.shown 0 kept.tests in
+    let there : item_of (tasks_values ks) (i + 1) ≡ Some (tasks_value kept) = item_next (tasks_values ks) i ∙ value_at ks i l in
+    ap (λ o. unwrap_or (item_of (option_map_or (λ (j : JudgingTasks). j.shown) o []) (k + 1)) false) there
+    ∙ ap (λ (o : Option Bool). unwrap_or o false) (item_next bits k)
+    ∙ get_there bits k (omega (arith, h, length_shown kept.shown 0 kept.tests))
+    ∙ get_shown kept.shown 0 kept.tests k h
+    ∙ ap (λ m. bit kept.shown m == 1) (omega arith)
+
+-- a judging of which no task is shown has no bit set
+pub none_shown_at : (ks : List KeptTasks) (n : ℕ) → 1 ≤ n → n ≤ length ks → IsSized (kept_at ks (n - 1)) → ((test : ℕ) → is_shown (tasks_values ks) (task_of n test) ≡ false)
+    → (k : ℕ) → bit (kept_at ks (n - 1)).shown k ≢ 1
+none_shown_at ks n low high s h k b =
+    let place : n - 1 + 1 ≡ n = omega arith in
+    let one : (bit (kept_at ks (n - 1)).shown k == 1) ≡ true = ap (λ m. m == 1) b in
+    let t : is_shown (tasks_values ks) (task_of n (k + 1)) ≡ true = ap (λ m. is_shown (tasks_values ks) (task_of m (k + 1))) (sym place) ∙ is_shown_at ks (n - 1) k (omega arith) (s.bound k b) ∙ one in
+    let f = h (k + 1) in
+    cc

@@ -1,5 +1,5 @@
 -- Tasks that are shown, of judgings that are numbered from 1, and their order: by class, judging and test.
-use Rattle.std.specs.Prelude.{ℕ, ◌-◌, ◌≤◌, List, ◌++◌, length, map, filter, flat_map, slice_get, slice_index_or, Option, Bool, false, replicate}
+use Rattle.std.specs.Prelude.{ℕ, ◌-◌, ◌≤◌, List, ◌++◌, length, map, filter, flat_map, slice_get, slice_index_or, unwrap_or, Option, Bool, false, [], replicate}
 use Rattle.std.specs.List.{enumerate_from}
 use Rattle.std.specs.Option.{option_map_or}
 use Rattle.farm_kinds.specs.declared.outcomes.Class.{Class}
@@ -31,6 +31,18 @@ pub record HasTask (judgings : List JudgingTasks) (task : Task) : Type 0 where
 abbrev pub with_shown : List JudgingTasks → Task → Bool → List JudgingTasks
 with_shown judgings task shown =
     with_change judgings task.judging (λ j. record j { shown = with_item j.shown task.test shown })
+
+-- the judging, and those of its tasks that are shown, in another class
+abbrev pub with_class : List JudgingTasks → ℕ → Class → List JudgingTasks
+with_class judgings n class = with_change judgings n (λ j. record j { class = class })
+
+-- for each test of the judging of this number whether its task is shown
+abbrev pub shown_of : List JudgingTasks → ℕ → List Bool
+shown_of judgings n = option_map_or (λ j. j.shown) (item_of judgings n) []
+
+-- there is such a task, and it is shown
+abbrev pub is_shown : List JudgingTasks → Task → Bool
+is_shown judgings task = unwrap_or (item_of (shown_of judgings task.judging) task.test) false
 
 abbrev pub is_shown_test : List Bool → ℕ → Bool
 is_shown_test shown test = slice_index_or shown (test - 1) false

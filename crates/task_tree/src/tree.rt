@@ -3,7 +3,7 @@ ghost use Rattle.farm_model.specs.Judgings.{task_of};
 ghost use Rattle.farm_model.specs.Limits.{max_judgings, max_tests};
 ghost use Rattle.task_tree.specs.Bits.{bit, IsInserted, IsRemoved, IsEmpty, IsLeast};
 ghost use Rattle.task_tree.specs.Tree.{of_class};
-ghost use Rattle.task_tree.specs.Shown.{hidden, HasTask, with_shown, shown_in_class, shown_tasks, first_shown};
+ghost use Rattle.task_tree.specs.Shown.{hidden, HasTask, with_shown, with_class, is_shown, shown_in_class, shown_tasks, first_shown};
 ghost use Rattle.task_tree.specs.TreeLayout.{tasks_values, kept_at, AreSized, IsIndexed};
 
 use crate::classes::Classes;
@@ -80,6 +80,17 @@ impl TaskTree {
         Ok(place as u32 + 1)
     }
 
+    /// Puts a judging of which no task is shown into a class.
+    pub fn set_class(&mut self, judging: u32, class: Class)
+        requires numbered { 1 ≤ judging }
+        requires known { judging ≤ length self.old }
+        requires hidden { (test : ℕ) → is_shown self.old (task_of judging test) ≡ false }
+        ensures { self.new ≡ with_class self.old judging class }
+    {
+        let kept = &mut self.judgings[judging as usize - 1];
+        kept.class = class;
+    }
+
     /// How many judgings there are, at most 400,000.
     pub fn judging_count(&self) -> usize
         ensures count { result ≡ length self.now }
@@ -134,6 +145,7 @@ impl TaskTree {
         ensures first { result ≡ first_shown self.now }
         ensures none { result ≡ None ↔ (shown_tasks self.now ≡ []) }
         ensures there { IfSome result (HasTask self.now) }
+        ensures shown { IfSome result (λ task. is_shown self.now task ≡ true) }
         ensures cost { (bits : ℕ) → length self.now < 2 ^ bits → steps.new ≤ steps.old + 2 * bits + 20 }
         ensures most { steps.new ≤ steps.old + 58 }
     {
@@ -161,6 +173,7 @@ fn first_in<L: Ledger>(
     requires indexed { IsIndexed judgings.now.items classes.now }
     ensures first { result ≡ slice_get (shown_in_class (tasks_values judgings.now.items) class) 0 }
     ensures there { IfSome result (HasTask (tasks_values judgings.now.items)) }
+    ensures shown { IfSome result (λ task. is_shown (tasks_values judgings.now.items) task ≡ true) }
     ensures none { IfNone result (steps.new ≤ steps.old + (of_class classes.now class).top_words) }
     ensures some { IfSome result (λ _. (steps.new ≤ steps.old + (of_class classes.now class).top_words + 18) × (0 < length judgings.now.items)) }
 {

@@ -1,10 +1,11 @@
-use Rattle.std.proofs.Common.{sym, subst}
+use Rattle.std.proofs.Common.{sym, subst, ap, ◌∙◌}
+use Rattle.std.specs.Prelude.{◌==◌}
 use Rattle.std.proofs.lemmas.List.{get_or_read}
 use Rattle.task_tree.specs.Bits.{IsLeast}
 use Rattle.task_tree.specs.Tree.{of_class}
 use Rattle.task_tree.specs.TreeLayout.{no_tasks}
 use Rattle.task_tree.specs.declared.tree.KeptTasks.{KeptTasks}
-use Rattle.task_tree.proofs.ShownTests.{has_task}
+use Rattle.task_tree.proofs.ShownTests.{has_task, is_shown_at}
 use Rattle.task_tree.proofs.Firsts.{none_of_class, first_of_class}
 use Rattle.task_tree.proofs.tree.first_in.Goals as goal
 
@@ -29,3 +30,11 @@ returns-in-Some-first-clause-there g c =
     let read = get_or_read ks c.in-Some.place c.index.result.now there c.index.ensures no_tasks in
     let here = subst (λ (x : KeptTasks). IsLeast x.shown c.in-Some-first.number) read c.in-Some-first.ensures.least in
     has_task ks c.in-Some.place c.in-Some-first.number there ((c.requires.sized.each c.in-Some.place there).bound c.in-Some-first.number here.here)
+
+pub returns-in-Some-first-clause-shown : goal.returns-in-Some-first-clause-shown
+returns-in-Some-first-clause-shown g c =
+    let ks = c.args.judgings.now.items in
+    let there = (c.requires.indexed.each c.args.class).known c.in-Some.place c.in-Some.ensures.least.here in
+    let read = get_or_read ks c.in-Some.place c.index.result.now there c.index.ensures no_tasks in
+    let here = subst (λ (x : KeptTasks). IsLeast x.shown c.in-Some-first.number) read c.in-Some-first.ensures.least in
+    is_shown_at ks c.in-Some.place c.in-Some-first.number there ((c.requires.sized.each c.in-Some.place there).bound c.in-Some-first.number here.here) ∙ ap (λ m. m == 1) here.here

@@ -1,13 +1,15 @@
-use Rattle.std.proofs.Common.{ℕ, ◌≡◌, ◌∙◌, ◌≤◌, ◌<◌, rules, sym, ap, arith, List, ◌++◌, ◌∷◌, [], Bool, true, false, if◌then◌else◌, is_ok, length}
+use Rattle.std.proofs.Common.{ℕ, ◌≡◌, ◌∙◌, ◌≤◌, ◌<◌, ◌+◌, rules, sym, ap, arith, List, ◌++◌, ◌∷◌, [], Bool, true, false, if◌then◌else◌, is_ok, length}
 use Rattle.std.specs.List.{All}
-use Rattle.std.proofs.lemmas.List.{length_push, length-map, map-append}
+use Rattle.std.proofs.lemmas.List.{length_push, length-map, map_push, map-append}
 use Rattle.std.proofs.lemmas.List.Elements.{All-push}
 use Rattle.farm_model.specs.Judge.{add_judging}
-use Rattle.farm_model.specs.Judgings.{Judging, empty_judging}
+use Rattle.farm_model.specs.Judgings.{Judging, task_of, empty_judging}
 use Rattle.judging_core.specs.JudgeValue.{JudgeValue, with_judging, starts_with}
 use Rattle.judging_core.specs.JudgeLayout.{judge_value}
 use Rattle.judging_core.specs.declared.judgings.KeptJudging.{KeptJudging}
 use Rattle.judging_core.specs.JudgeShape.{judging_value, judging_values, IsWellKept, AreWellKept, IsRuledBy, AreRuledBy, reserved_of}
+use Rattle.judging_core.specs.Listed.{IsListed}
+use Rattle.judging_core.proofs.Listed.{count_is, ahead_kept}
 use Rattle.judging_core.proofs.MadeAhead.{none_left}
 use Rattle.judging_core.proofs.judge.Judge.add_judging.Goals as goal
 
@@ -20,6 +22,50 @@ one_more : {X : Type 0} (n : ℕ) (pushed : Bool) (xs : List X) (x : X) → leng
 one_more n true xs x lt = omega (arith, length_push xs x)
 one_more n false xs x lt = omega arith
 
+small : (judgings : List KeptJudging) (judge : JudgeValue) → judging_values judgings ≡ judge.state.judgings → length judge.state.judgings < 400000 → length judgings < 400000
+small judgings judge e few = omega (arith, few, count_is judgings, ap length e)
+
+pub invariant_of-self : goal.invariant_of-self
+invariant_of-self c =
+    let at = c.self.inside in
+    let listed : IsListed at.rule at.mode (judging_values at.judgings.items) at.leases.leases c.make_room.new.tasks = c.make_room.ensures.listed at.rule at.mode (judging_values at.judgings.items) at.leases.leases c.self.invariant.listed in
+    let ahead : (k : ℕ) → k ≤ length at.judgings.items + length at.prepared.items → k ≤ 400000 → k ≤ length c.make_room.new.tasks =
+    ahead_kept (length at.judgings.items + length at.prepared.items) (length at.judgings.items + length at.prepared.items) (length at.tasks) (length c.make_room.new.tasks) c.self.invariant.ahead (omega arith) c.make_room.ensures.grows in
+    search rules
+
+pub invariant_of-self-in_err-map_err : goal.invariant_of-self-in_err-map_err
+invariant_of-self-in_err-map_err c =
+    let at = c.self.inside in
+    let failed : is_ok c.push.result ≡ false = sym c.map_err.ensures.variant ∙ ap is_ok c.in_err-map_err.was in
+    let same : c.push.new.self.items ≡ at.judgings.items = c.push.ensures.items ∙ ap (λ (b : Bool). if b then at.judgings.items ++ c.in_ok-judging.judging ∷ [] else at.judgings.items) failed in
+    let listed : IsListed at.rule at.mode (judging_values c.push.new.self.items) at.leases.leases c.make_room.new.tasks = rw same (c.make_room.ensures.listed at.rule at.mode (judging_values at.judgings.items) at.leases.leases c.self.invariant.listed) in
+    let size : length c.push.new.self.items ≡ length at.judgings.items = ap length same in
+    let ahead : (k : ℕ) → k ≤ length c.push.new.self.items + length at.prepared.items → k ≤ 400000 → k ≤ length c.make_room.new.tasks =
+    ahead_kept (length at.judgings.items + length at.prepared.items) (length c.push.new.self.items + length at.prepared.items) (length at.tasks) (length c.make_room.new.tasks) c.self.invariant.ahead (omega (arith, size)) c.make_room.ensures.grows in
+    let rows : AreWellKept c.push.new.self.items = rw same c.self.invariant.rows in
+    let ruled : AreRuledBy at.rule c.push.new.self.items = rw same c.self.invariant.ruled in
+    let few : length c.push.new.self.items ≤ 400000 = omega (arith, size, c.self.invariant.few) in
+    search rules
+
+pub list_judging-requires-clause-known : goal.list_judging-requires-clause-known
+list_judging-requires-clause-known c =
+    let at = c.self.inside in
+    let few = small at.judgings.items c.args.self.now (ap (λ (v : JudgeValue). v.state.judgings) c.self.view_is) c.requires.few in
+    let n = c.len-number.ensures in
+    c.in_ok-make_room.ensures.enough (c.len-number.result + 1) (omega arith) (omega (arith, n, few, at.judgings.ok))
+
+pub list_judging-requires-clause-wide : goal.list_judging-requires-clause-wide
+list_judging-requires-clause-wide c =
+    let at = c.self.inside in
+    (c.make_room.ensures.listed at.rule at.mode (judging_values at.judgings.items) at.leases.leases c.self.invariant.listed).wide
+
+pub list_judging-requires-clause-hidden : goal.list_judging-requires-clause-hidden
+list_judging-requires-clause-hidden c = λ test.
+    let at = c.self.inside in
+    let n = c.len-number.ensures in
+    (c.make_room.ensures.listed at.rule at.mode (judging_values at.judgings.items) at.leases.leases c.self.invariant.listed).rest (task_of (c.len-number.result + 1) test)
+    (omega (arith, n, at.judgings.ok, count_is at.judgings.items, length-map (judging_values at.judgings.items) (λ (j : Judging). j.class)))
+
 pub invariant_of-self-2 : goal.invariant_of-self-2
 invariant_of-self-2 c =
     let at = c.self.inside.judgings.items in
@@ -28,6 +74,21 @@ invariant_of-self-2 c =
     let ruled : AreRuledBy c.self.inside.rule c.push.new.self.items = rw c.push.ensures.items (all_with (IsRuledBy c.self.inside.rule) (is_ok c.push.result) at judging c.self.invariant.ruled c.in_ok-judging.ensures.ruled) in
     let room : length at < 400000 = omega (arith, length-map at judging_value, ap (λ (v : JudgeValue). length v.state.judgings) c.self.view_is, c.requires.few) in
     let few : length c.push.new.self.items ≤ 400000 = rw c.push.ensures.items (one_more 400000 (is_ok c.push.result) at judging room) in
+    let inside = c.self.inside in
+    let ok : is_ok c.push.result ≡ true = sym c.map_err.ensures.variant ∙ ap is_ok c.in_ok-map_err.was in
+    let pushed : c.push.new.self.items ≡ at ++ judging ∷ [] = c.push.ensures.items ∙ ap (λ (b : Bool). if b then at ++ judging ∷ [] else at) ok in
+    let value : judging_values c.push.new.self.items ≡ judging_values at ++ empty_judging c.args.class c.args.tests ∷ [] =
+    ap judging_values pushed ∙ map_push judging_value at judging ∙ ap (λ (j : Judging). judging_values at ++ j ∷ []) c.in_ok-judging.ensures.value in
+    let n = c.len-number.ensures in
+    let here : length (judging_values at) + 1 ≡ c.len-number.result + 1 = omega (arith, n, inside.judgings.ok, count_is at) in
+    let listed : IsListed inside.rule inside.mode (judging_values c.push.new.self.items) inside.leases.leases c.list_judging.new.tasks =
+    rw value (c.list_judging.ensures.listed inside.rule inside.mode (judging_values at) inside.leases.leases here (c.make_room.ensures.listed inside.rule inside.mode (judging_values at) inside.leases.leases c.self.invariant.listed)) in
+    let size = c.list_judging.ensures.count in
+    let more : length c.push.new.self.items ≡ length at + 1 = ap length pushed ∙ length_push at judging in
+    let none : length c.new.result.items ≡ 0 = ap length c.new.ensures.items in
+    let ahead : (k : ℕ) → k ≤ length c.push.new.self.items + length c.new.result.items → k ≤ 400000 → k ≤ length c.list_judging.new.tasks = λ k l under.
+    let e = c.in_ok-make_room.ensures.enough k (omega (arith, l, more, none, n, inside.judgings.ok)) under in
+    omega (arith, e, size) in
     search rules
 
 -- no room is left where another number of tests was reserved

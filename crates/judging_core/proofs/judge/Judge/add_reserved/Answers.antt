@@ -1,21 +1,58 @@
-use Rattle.std.proofs.Common.{ℕ, ◌≤◌, ◌<◌, rules, ap, arith, List, ◌++◌, ◌∷◌, [], Bool, true, false, if◌then◌else◌, length}
-use Rattle.std.proofs.lemmas.List.{length_push, length-map}
+use Rattle.std.proofs.Common.{ℕ, ◌≡◌, ◌≤◌, ◌<◌, ◌+◌, ◌∙◌, rules, ap, arith, List, ◌++◌, ◌∷◌, [], Bool, true, false, if◌then◌else◌, length}
+use Rattle.std.proofs.lemmas.List.{length_push, length-map, map_push}
 use Rattle.std.proofs.lemmas.List.Elements.{All-push}
+use Rattle.farm_model.specs.Judgings.{Judging, task_of, empty_judging}
 use Rattle.judging_core.specs.JudgeValue.{JudgeValue}
-use Rattle.judging_core.specs.JudgeShape.{judging_value, IsWellKept, AreWellKept, IsRuledBy, AreRuledBy}
+use Rattle.judging_core.specs.JudgeShape.{judging_value, judging_values, IsWellKept, AreWellKept, IsRuledBy, AreRuledBy, ArePrepared}
+use Rattle.judging_core.specs.Listed.{IsListed}
+use Rattle.judging_core.specs.declared.judgings.KeptJudging.{KeptJudging}
+use Rattle.judging_core.proofs.Listed.{count_is, ahead_kept}
 use Rattle.judging_core.proofs.judge.Judge.add_reserved.Goals as goal
 
 one_more : {X : Type 0} (n : ℕ) (pushed : Bool) (xs : List X) (x : X) → length xs < n → length (if pushed then xs ++ x ∷ [] else xs) ≤ n
 one_more n true xs x lt = omega (arith, length_push xs x)
 one_more n false xs x lt = omega arith
 
+small : (judgings : List KeptJudging) (judge : JudgeValue) → judging_values judgings ≡ judge.state.judgings → length judge.state.judgings < 400000 → length judgings < 400000
+small judgings judge e few = omega (arith, few, count_is judgings, ap length e)
+
+pub list_judging-requires-clause-known : goal.list_judging-requires-clause-known
+list_judging-requires-clause-known c =
+    let at = c.self.inside in
+    let few = small at.judgings.items c.args.self.now (ap (λ (v : JudgeValue). v.state.judgings) c.self.view_is) c.requires.few in
+    let n = c.len-number.ensures in
+    let l = c.push_reserved.ensures.len in
+    let p = c.in-Some.ensures.count in
+    c.self.invariant.ahead c.len-number.result (omega (arith, n, l, p, at.judgings.ok, at.prepared.ok)) (omega (arith, n, l, few, at.judgings.ok))
+
+pub list_judging-requires-clause-hidden : goal.list_judging-requires-clause-hidden
+list_judging-requires-clause-hidden c = λ test.
+    let at = c.self.inside in
+    let n = c.len-number.ensures in
+    let l = c.push_reserved.ensures.len in
+    c.self.invariant.listed.rest (task_of c.len-number.result test) (omega (arith, n, l, at.judgings.ok, count_is at.judgings.items, length-map (judging_values at.judgings.items) (λ (j : Judging). j.class)))
+
 pub invariant_of-self-2 : goal.invariant_of-self-2
 invariant_of-self-2 c =
+    let inside = c.self.inside in
     let at = c.self.inside.judgings.items in
     let judging = c.in-Some.judging in
+    let n = c.len-number.ensures in
+    let l = c.push_reserved.ensures.len in
+    let p = c.in-Some.ensures.count in
     let rows : AreWellKept c.push_reserved.new.self.items = rw c.push_reserved.ensures.items (All-push IsWellKept at judging c.self.invariant.rows c.in-Some.ensures.short) in
     let ruled : AreRuledBy c.self.inside.rule c.push_reserved.new.self.items = rw c.push_reserved.ensures.items (All-push (IsRuledBy c.self.inside.rule) at judging c.self.invariant.ruled (c.in-Some.ensures.ruled_itself c.self.inside.rule c.self.invariant.prepared_ruled)) in
     let others_ruled : AreRuledBy c.self.inside.rule c.take_prepared.new.prepared.items = c.in-Some.ensures.ruled c.self.inside.rule c.self.invariant.prepared_ruled in
-    let room : length at < 400000 = omega (arith, length-map at judging_value, ap (λ (v : JudgeValue). length v.state.judgings) c.self.view_is, c.requires.few) in
-    let few : length c.push_reserved.new.self.items ≤ 400000 = rw c.push_reserved.ensures.items (one_more 400000 true at judging room) in
+    let others : ArePrepared c.take_prepared.new.prepared.items = c.in-Some.ensures.prepared in
+    let few : length c.push_reserved.new.self.items ≤ 400000 = rw c.push_reserved.ensures.items (one_more 400000 true at judging (small at c.args.self.now (ap (λ (v : JudgeValue). v.state.judgings) c.self.view_is) c.requires.few)) in
+    let here : length (judging_values at) + 1 ≡ c.len-number.result = omega (arith, n, l, inside.judgings.ok, count_is at) in
+    let value : judging_values c.push_reserved.new.self.items ≡ judging_values at ++ empty_judging c.args.class c.args.tests ∷ [] =
+    ap judging_values c.push_reserved.ensures.items ∙ map_push judging_value at judging ∙ ap (λ (j : Judging). judging_values at ++ j ∷ []) c.in-Some.ensures.value in
+    let listed : IsListed inside.rule inside.mode (judging_values c.push_reserved.new.self.items) inside.leases.leases c.list_judging.new.tasks =
+    rw value (c.list_judging.ensures.listed inside.rule inside.mode (judging_values at) inside.leases.leases here c.self.invariant.listed) in
+    let less : length c.push_reserved.new.self.items + length c.take_prepared.new.prepared.items ≤ length at + length inside.prepared.items =
+    omega (arith, l, p, inside.judgings.ok, inside.prepared.ok, c.push_reserved.new.self.ok, c.take_prepared.new.prepared.ok) in
+    let size = c.list_judging.ensures.count in
+    let ahead : (k : ℕ) → k ≤ length c.push_reserved.new.self.items + length c.take_prepared.new.prepared.items → k ≤ 400000 → k ≤ length c.list_judging.new.tasks =
+    ahead_kept (length at + length inside.prepared.items) (length c.push_reserved.new.self.items + length c.take_prepared.new.prepared.items) (length inside.tasks) (length c.list_judging.new.tasks) c.self.invariant.ahead less (omega (arith, size)) in
     search rules

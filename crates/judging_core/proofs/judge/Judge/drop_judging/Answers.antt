@@ -1,8 +1,21 @@
-use Rattle.std.proofs.Common.{◌≤◌, rules, not, eqb, length}
-use Rattle.judging_core.specs.JudgeShape.{AreWellKept, AreRuledBy}
+use Rattle.std.proofs.Common.{ℕ, List, ◌≡◌, ◌≤◌, ◌+◌, ap, rules, not, eqb, length, arith}
+use Rattle.judging_core.specs.JudgeShape.{judging_values, AreWellKept, AreRuledBy}
+use Rattle.judging_core.specs.Listed.{IsListed}
+use Rattle.judging_core.proofs.Listed.{dropped_listed, dropped_closed, count_is, ahead_kept}
+use Rattle.judging_core.specs.JudgeValue.{JudgeValue}
+use Rattle.judging_core.specs.declared.judgings.KeptJudging.{KeptJudging}
 use Rattle.judging_core.specs.Holding.{IsHeldWell}
 use Rattle.judging_core.proofs.Held.{some_held}
 use Rattle.judging_core.proofs.judge.Judge.drop_judging.Goals as goal
+
+within : (judgings : List KeptJudging) (judge : JudgeValue) (n : ℕ) → judging_values judgings ≡ judge.state.judgings → n ≤ length judge.state.judgings → n ≤ length judgings
+within judgings judge n e l = omega (arith, l, count_is judgings, ap length e)
+
+pub unlist_judging-requires-clause-known : goal.unlist_judging-requires-clause-known
+unlist_judging-requires-clause-known c =
+    let at = c.self.inside in
+    let known : c.args.judging ≤ length at.judgings.items = within at.judgings.items c.args.self.now c.args.judging (ap (λ (v : JudgeValue). v.state.judgings) c.self.view_is) c.requires.known in
+    c.self.invariant.ahead c.args.judging (omega (arith, known)) (omega (arith, known, c.self.invariant.few))
 
 pub invariant_of-self : goal.invariant_of-self
 invariant_of-self c =
@@ -11,4 +24,10 @@ invariant_of-self c =
     let rows : AreWellKept c.mark_dropped.new.judgings.items = c.mark_dropped.ensures.short c.self.invariant.rows in
     let ruled : AreRuledBy at.rule c.mark_dropped.new.judgings.items = c.mark_dropped.ensures.ruled at.rule c.self.invariant.ruled in
     let few : length c.mark_dropped.new.judgings.items ≤ 400000 = rw c.mark_dropped.ensures.count c.self.invariant.few in
+    let listed : IsListed at.rule at.mode (judging_values c.mark_dropped.new.judgings.items) c.end_judging.new.self.leases c.unlist_judging.new.tasks =
+    c.unlist_judging.ensures.listed at.rule at.mode (judging_values c.mark_dropped.new.judgings.items) c.end_judging.new.self.leases
+    (λ test. rw c.mark_dropped.ensures.value (dropped_closed at.rule at.mode (judging_values at.judgings.items) c.end_judging.new.self.leases c.args.judging test))
+    (rw (c.mark_dropped.ensures.value, c.end_judging.ensures.leases) (dropped_listed at.rule at.mode (judging_values at.judgings.items) at.leases.leases at.tasks c.args.judging c.self.invariant.listed)) in
+    let size = c.unlist_judging.ensures.count in
+    let ahead : (k : ℕ) → k ≤ length c.mark_dropped.new.judgings.items + length at.prepared.items → k ≤ 400000 → k ≤ length c.unlist_judging.new.tasks = ahead_kept (length at.judgings.items + length at.prepared.items) (length c.mark_dropped.new.judgings.items + length at.prepared.items) (length at.tasks) (length c.unlist_judging.new.tasks) c.self.invariant.ahead (omega (arith, c.mark_dropped.ensures.count)) (omega (arith, size)) in
     search rules

@@ -1,0 +1,176 @@
+-- Listed tasks that are shown or hidden, and judgings that are added to the list.
+use Rattle.std.proofs.Common.{ℕ, zero, suc, ◌≡◌, ◌≢◌, ◌+◌, ◌-◌, ◌<◌, ◌≤◌, List, [], ◌∷◌, ◌++◌, Option, Some, None, Bool, true, false, ltb, refl, sym, ap, subst, ◌∙◌, arith, inl, inr, length, set, slice_get, unwrap_or, length-set}
+use Rattle.std.specs.Prelude.{replicate}
+use Rattle.std.specs.Option.{option_map_or}
+use Rattle.std.specs.List.{All}
+use Rattle.std.proofs.lemmas.Bool.{cases_eq}
+use Rattle.std.proofs.lemmas.Bool.Decides.{nat_tests}
+use Rattle.std.proofs.lemmas.List.{map_push, length-replicate, length-map}
+use Rattle.std.proofs.lemmas.List.Elements.{All-head, All-tail, All-push}
+use Rattle.farm_kinds.specs.declared.outcomes.Class.{Class}
+use Rattle.farm_kinds.specs.declared.outcomes.Task.{Task}
+use Rattle.farm_model.specs.Numbered.{item_of, with_item}
+use Rattle.farm_model.specs.Leases.{same_task}
+use Rattle.task_tree.specs.Shown.{JudgingTasks, hidden, tests_of, is_shown, with_shown, with_class, HasTask}
+use Rattle.judging_core.specs.Listed.{listed_classes, widths, IsWide, AreWide}
+use Rattle.judging_core.proofs.Items.{item_at, item_by, with_same, with_other, change_same, change_other, kept_seen, pushed_other, pushed_last, none_past}
+
+-- another task of the same judging is of another test
+pub apart : (a b : Task) → same_task a b ≡ false → a.judging ≡ b.judging → a.test ≢ b.test
+apart a b h j t = let s : same_task a b ≡ true = grind (arith, nat_tests, j, t) in cc
+
+abbrev shown_by : Option JudgingTasks → ℕ → Bool
+shown_by o test = unwrap_or (item_of (option_map_or (λ (j : JudgingTasks). j.shown) o []) test) false
+
+pub shown_other : (tasks : List JudgingTasks) (task t : Task) (b : Bool) → 1 ≤ task.test → same_task t task ≡ false → is_shown (with_shown tasks task b) t ≡ is_shown tasks t
+shown_other tasks task t b low h = elim (cases_eq task.judging t.judging) [
+  | inr other ↦ ap (λ o. shown_by o t.test) (change_other tasks task.judging t.judging _ other)
+  | inl same ↦ here (item_of tasks task.judging) refl same
+] where
+  here : (o : Option JudgingTasks) → item_of tasks task.judging ≡ o → task.judging ≡ t.judging → is_shown (with_shown tasks task b) t ≡ is_shown tasks t
+  here None e same = rw e refl
+  here (Some j) e same =
+      let differ : task.test ≢ t.test = λ u. apart t task h (sym same) (sym u) in
+      let new : item_of (with_shown tasks task b) t.judging ≡ Some (record j { shown = with_item j.shown task.test b }) = ap (item_of (with_shown tasks task b)) (sym same) ∙ change_same tasks task.judging _ j e in
+      let old : item_of tasks t.judging ≡ Some j = ap (item_of tasks) (sym same) ∙ e in
+      ap (λ o. shown_by o t.test) new
+      ∙ ap (λ (o : Option Bool). unwrap_or o false) (with_other j.shown task.test t.test b (omega (arith, low)) differ)
+      ∙ sym (ap (λ o. shown_by o t.test) old)
+
+some_bit : (xs : List Bool) (i : ℕ) → i < length xs → (x : Bool) × (slice_get xs i ≡ Some x)
+some_bit [] i l = absurd (omega arith)
+some_bit (x ∷ xs) zero l = (x, refl)
+some_bit (x ∷ xs) (suc i) l = some_bit xs i (omega arith)
+
+there : (tasks : List JudgingTasks) (task : Task) → HasTask tasks task → (o : Option JudgingTasks) → item_of tasks task.judging ≡ o → (j : JudgingTasks) × (o ≡ Some j) × (task.test ≤ length j.shown)
+there tasks task h None e = let z : tests_of tasks task.judging ≡ 0 = rw e refl in absurd (omega (arith, z, h.low, h.high))
+there tasks task h (Some j) e = let z : tests_of tasks task.judging ≡ length j.shown = rw e refl in (j, refl, omega (arith, z, h.high))
+
+pub shown_here : (tasks : List JudgingTasks) (task : Task) (b : Bool) → HasTask tasks task → is_shown (with_shown tasks task b) task ≡ b
+shown_here tasks task b h =
+    let a = there tasks task h (item_of tasks task.judging) refl in
+    let bit = some_bit a.0.shown (task.test - 1) (omega (arith, h.low, a.2)) in
+    ap (λ o. shown_by o task.test) (change_same tasks task.judging _ a.0 a.1)
+    ∙ ap (λ (o : Option Bool). unwrap_or o false) (with_same a.0.shown task.test bit.0 b (item_by a.0.shown task.test bit.0 (omega (arith, h.low)) bit.1))
+
+pub classes_shown : (tasks : List JudgingTasks) (task : Task) (b : Bool) → listed_classes (with_shown tasks task b) ≡ listed_classes tasks
+classes_shown tasks task b = kept_seen (λ j. j.class) tasks task.judging (λ j. record j { shown = with_item j.shown task.test b }) (λ j. refl)
+
+pub widths_shown : (tasks : List JudgingTasks) (task : Task) (b : Bool) → widths (with_shown tasks task b) ≡ widths tasks
+widths_shown tasks task b = kept_seen (λ j. length j.shown) tasks task.judging (λ j. record j { shown = with_item j.shown task.test b }) (λ j. length-set j.shown (task.test - 1) b)
+
+pub size_of : (tasks : List JudgingTasks) → length (widths tasks) ≡ length tasks
+size_of tasks = length-map tasks (λ j. length j.shown)
+
+pub same_size : (old new : List JudgingTasks) → widths new ≡ widths old → length new ≡ length old
+same_size old new e = omega (arith, size_of new, size_of old, ap length e)
+
+pub size_shown : (tasks : List JudgingTasks) (task : Task) (b : Bool) → length (with_shown tasks task b) ≡ length tasks
+size_shown tasks task b = sym (size_of (with_shown tasks task b)) ∙ ap length (widths_shown tasks task b) ∙ size_of tasks
+
+-- ---- the width of a judging
+
+wide_at : (tasks : List JudgingTasks) (i : ℕ) → AreWide tasks → i < length tasks → option_map_or (λ (j : JudgingTasks). length j.shown) (slice_get tasks i) 0 ≡ 1000
+wide_at [] i h l = absurd (omega arith)
+wide_at (j ∷ tasks) zero h l = All-head IsWide (length j.shown) (widths tasks) h
+wide_at (j ∷ tasks) (suc i) h l = wide_at tasks i (All-tail IsWide (length j.shown) (widths tasks) h) (omega arith)
+
+pub tests_wide : (tasks : List JudgingTasks) (n : ℕ) → AreWide tasks → 1 ≤ n → n ≤ length tasks → tests_of tasks n ≡ 1000
+tests_wide tasks zero h low high = absurd (omega arith)
+tests_wide tasks (suc n) h low high =
+    let yes : ltb 0 (suc n) ≡ true = grind (arith, nat_tests) in
+    let place : suc n - 1 ≡ n = omega arith in
+    rw (yes, place) (wide_at tasks n h (omega arith))
+
+pub has_wide : (tasks : List JudgingTasks) (task : Task) → AreWide tasks → 1 ≤ task.judging → task.judging ≤ length tasks → 1 ≤ task.test → task.test ≤ 1000 → HasTask tasks task
+has_wide tasks task h low high some few = record { low = some; high = omega (arith, tests_wide tasks task.judging h low high, few) }
+
+-- ---- a judging with no shown task is added, or changes its class
+
+none_shown : (n i : ℕ) → unwrap_or (slice_get (replicate n false) i) false ≡ false
+none_shown zero i = refl
+none_shown (suc n) zero = refl
+none_shown (suc n) (suc i) = none_shown n i
+
+no_test : (n test : ℕ) → unwrap_or (item_of (replicate n false) test) false ≡ false
+no_test n zero = refl
+no_test n (suc test) =
+    let yes : ltb 0 (suc test) ≡ true = grind (arith, nat_tests) in
+    rw yes (none_shown n (suc test - 1))
+
+nothing_in : (test : ℕ) → unwrap_or (item_of {X = Bool} [] test) false ≡ false
+nothing_in zero = refl
+nothing_in (suc test) = let yes : ltb 0 (suc test) ≡ true = grind (arith, nat_tests) in rw yes refl
+
+-- of a judging that is not there no task is shown
+pub past_hidden : (tasks : List JudgingTasks) (task : Task) → length tasks < task.judging → is_shown tasks task ≡ false
+past_hidden tasks task l = ap (λ o. shown_by o task.test) (none_past tasks task.judging l) ∙ nothing_in task.test
+
+pub shown_pushed : (tasks : List JudgingTasks) (class : Class) (tests : ℕ) (task : Task) → is_shown (tasks ++ hidden class tests ∷ []) task ≡ is_shown tasks task
+shown_pushed tasks class tests task = elim (cases_eq task.judging (length tasks + 1)) [
+  | inr other ↦ ap (λ o. shown_by o task.test) (pushed_other tasks (hidden class tests) task.judging other)
+  | inl same ↦
+      ap (λ o. shown_by o task.test) (ap (item_of (tasks ++ hidden class tests ∷ [])) same ∙ pushed_last tasks (hidden class tests))
+      ∙ no_test tests task.test
+      ∙ sym (past_hidden tasks task (omega (arith, same)))
+]
+
+pub wide_pushed : (tasks : List JudgingTasks) (class : Class) → AreWide tasks → AreWide (tasks ++ hidden class 1000 ∷ [])
+wide_pushed tasks class h =
+    subst (All IsWide) (sym (map_push (λ j. length j.shown) tasks (hidden class 1000))) (All-push IsWide (widths tasks) (length (replicate 1000 false)) h (length-replicate 1000 false))
+
+pub shown_classed : (tasks : List JudgingTasks) (n : ℕ) (class : Class) (task : Task) → is_shown (with_class tasks n class) task ≡ is_shown tasks task
+shown_classed tasks n class task = elim (cases_eq n task.judging) [
+  | inr other ↦ ap (λ o. shown_by o task.test) (change_other tasks n task.judging _ other)
+  | inl same ↦ here (item_of tasks n) refl same
+] where
+  here : (o : Option JudgingTasks) → item_of tasks n ≡ o → n ≡ task.judging → is_shown (with_class tasks n class) task ≡ is_shown tasks task
+  here None e same = rw e refl
+  here (Some j) e same =
+      ap (λ o. shown_by o task.test) (ap (item_of (with_class tasks n class)) (sym same) ∙ change_same tasks n _ j e)
+      ∙ sym (ap (λ o. shown_by o task.test) (ap (item_of tasks) (sym same) ∙ e))
+
+pub widths_classed : (tasks : List JudgingTasks) (n : ℕ) (class : Class) → widths (with_class tasks n class) ≡ widths tasks
+widths_classed tasks n class = kept_seen (λ j. length j.shown) tasks n (λ j. record j { class = class }) (λ j. refl)
+
+-- ---- how many tasks are shown
+
+abbrev pub count_shown : List Bool → ℕ
+count_shown [] = 0
+count_shown (true ∷ bits) = suc (count_shown bits)
+count_shown (false ∷ bits) = count_shown bits
+
+abbrev pub count_all : List JudgingTasks → ℕ
+count_all [] = 0
+count_all (j ∷ tasks) = count_shown j.shown + count_all tasks
+
+one_less : (bits : List Bool) (i : ℕ) → slice_get bits i ≡ Some true → count_shown (set bits i false) + 1 ≡ count_shown bits
+one_less [] i h = cc
+one_less (true ∷ bits) zero h = omega arith
+one_less (false ∷ bits) zero h = cc
+one_less (true ∷ bits) (suc i) h = let r = one_less bits i h in omega (arith, r)
+one_less (false ∷ bits) (suc i) h = one_less bits i h
+
+less_in : (tasks : List JudgingTasks) (i : ℕ) (x y : JudgingTasks) → slice_get tasks i ≡ Some x → count_shown y.shown + 1 ≡ count_shown x.shown → count_all (set tasks i y) + 1 ≡ count_all tasks
+less_in [] i x y h e = cc
+less_in (z ∷ tasks) zero x y h e = let s : z ≡ x = cc in let t : count_shown z.shown ≡ count_shown x.shown = ap (λ (j : JudgingTasks). count_shown j.shown) s in omega (arith, t, e)
+less_in (z ∷ tasks) (suc i) x y h e = let r = less_in tasks i x y h e in omega (arith, r)
+
+bit_true : (o : Option Bool) → unwrap_or o false ≡ true → o ≡ Some true
+bit_true None h = cc
+bit_true (Some true) h = refl
+bit_true (Some false) h = cc
+
+-- each task that is hidden is one less
+pub hidden_less : (tasks : List JudgingTasks) (task : Task) → is_shown tasks task ≡ true → count_all (with_shown tasks task false) < count_all tasks
+hidden_less tasks task h = at (item_of tasks task.judging) refl where
+  at : (o : Option JudgingTasks) → item_of tasks task.judging ≡ o → count_all (with_shown tasks task false) < count_all tasks
+  at None e = let z : is_shown tasks task ≡ false = ap (λ o. shown_by o task.test) e ∙ nothing_in task.test in let f = h in cc
+  at (Some j) e =
+      let bit : item_of j.shown task.test ≡ Some true = bit_true (item_of j.shown task.test) (sym (ap (λ o. shown_by o task.test) e) ∙ h) in
+      let less = one_less j.shown (task.test - 1) (item_at j.shown task.test true bit).1 in
+      let y : JudgingTasks = record { class = j.class; shown = set j.shown (task.test - 1) false } in
+      let all : count_all (set tasks (task.judging - 1) y) + 1 ≡ count_all tasks = less_in tasks (task.judging - 1) j y (item_at tasks task.judging j e).1 less in
+      let is : with_shown tasks task false ≡ set tasks (task.judging - 1) y = rw e refl in
+      let n : count_all (with_shown tasks task false) ≡ count_all (set tasks (task.judging - 1) y) = ap count_all is in
+      omega (arith, all, n)

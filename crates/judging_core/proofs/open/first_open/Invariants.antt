@@ -1,0 +1,17 @@
+use Rattle.std.proofs.Common.{◌≡◌, length}
+use Rattle.farm_kinds.specs.RuleValue.{RuleValue}
+use Rattle.judging_core.specs.Listed.{IsListed}
+use Rattle.judging_core.specs.JudgeShape.{judging_values, AreRuledBy}
+use Rattle.judging_core.proofs.Shown.{count_all}
+use Rattle.judging_core.proofs.open.first_open.Given as goal
+
+abbrev pub invariant-loop-task : goal.invariant-loop-task
+invariant-loop-task l = record {
+  listed : (rule : RuleValue) → AreRuledBy rule l.judgings
+      → IsListed rule l.mode (judging_values l.judgings) l.leases.leases l.fn.tasks
+      → IsListed rule l.mode (judging_values l.judgings) l.leases.leases l.tasks;
+  count : length l.tasks ≡ length l.fn.tasks;
+}
+
+abbrev pub decreases-loop-task : goal.decreases-loop-task
+decreases-loop-task l = count_all l.tasks

@@ -1,0 +1,73 @@
+-- Which tasks a judge lists for claims: at least each open one.
+use Rattle.std.specs.Prelude.{◌≡◌, ℕ, ◌<◌, ◌≤◌, List, [], ◌∷◌, map, length, All, Option, Some, None, IsSome, Bool, true, false, not, ◌&&◌}
+use Rattle.farm_kinds.specs.declared.kinds.Kind.{Kind}
+use Rattle.farm_kinds.specs.declared.outcomes.Class.{Class}
+use Rattle.farm_kinds.specs.declared.outcomes.Mode.{Mode}
+use Rattle.farm_kinds.specs.declared.outcomes.Task.{Task}
+use Rattle.farm_kinds.specs.RuleValue.{RuleValue}
+use Rattle.farm_model.specs.Limits.{max_tests}
+use Rattle.farm_model.specs.declared.records.Lease.{Lease}
+use Rattle.farm_model.specs.Numbered.{item_of}
+use Rattle.farm_model.specs.Leases.{lease_on}
+use Rattle.farm_model.specs.Judgings.{Judging, cell_of}
+use Rattle.farm_model.specs.Open.{is_free, is_wanted}
+use Rattle.task_tree.specs.Shown.{JudgingTasks, is_shown}
+use Rattle.judging_core.specs.JudgeShape.{judging_values}
+use Rattle.judging_core.specs.declared.judgings.KeptJudging.{KeptJudging}
+
+-- the cell is there, empty and wanted, in a judging that takes results
+abbrev pub is_open_cell : RuleValue → Mode → Judging → ℕ → Option (Option Kind) → Bool
+is_open_cell rule mode judging test None = false
+is_open_cell rule mode judging test (Some (Some kind)) = false
+is_open_cell rule mode judging test (Some None) = not judging.dropped && is_wanted rule mode judging.row test
+
+abbrev pub is_open_in : RuleValue → Mode → ℕ → Option Judging → Bool
+is_open_in rule mode test None = false
+is_open_in rule mode test (Some judging) = is_open_cell rule mode judging test (item_of judging.row test)
+
+-- the task is open
+abbrev pub is_open : RuleValue → Mode → List Judging → List Lease → Task → Bool
+is_open rule mode judgings leases task =
+    is_open_in rule mode task.test (item_of judgings task.judging) && is_free leases task
+
+abbrev pub judging_classes : List Judging → List Class
+judging_classes judgings = map (λ judging. judging.class) judgings
+
+abbrev pub listed_classes : List JudgingTasks → List Class
+listed_classes tasks = map (λ judging. judging.class) tasks
+
+-- how many tests each judging has room for
+abbrev pub widths : List JudgingTasks → List ℕ
+widths tasks = map (λ judging. length judging.shown) tasks
+
+abbrev pub IsWide : ℕ → Type 0
+IsWide tests = tests ≡ max_tests
+
+-- each judging has room for the most tests that a judging can have
+abbrev pub AreWide : List JudgingTasks → Type 0
+AreWide tasks = All IsWide (widths tasks)
+
+-- the second list begins with the first
+abbrev pub Begins : List Class → List Class → Type 0
+Begins [] others = Unit {0}
+Begins (class ∷ classes) [] = ⊥
+Begins (class ∷ classes) (other ∷ others) = (other ≡ class) × Begins classes others
+
+-- each open task is listed, by the class of its judging; behind the judgings nothing is
+pub record IsListed (rule : RuleValue) (mode : Mode) (judgings : List Judging) (leases : List Lease)
+    (tasks : List JudgingTasks) : Type 0 where
+  pub shown : (task : Task) → is_open rule mode judgings leases task ≡ true → is_shown tasks task ≡ true
+  pub classes : Begins (judging_classes judgings) (listed_classes tasks)
+  pub wide : AreWide tasks
+  pub rest : (task : Task) → length (judging_classes judgings) < task.judging → is_shown tasks task ≡ false
+
+-- no row has more cells than a judging can have tests
+pub record AreShort (judgings : List Judging) : Type 0 where
+  pub each : (n : ℕ) (judging : Judging) → item_of judgings n ≡ Some judging → length judging.row ≤ max_tests
+
+-- a free task on a cell of a judging that is there
+pub record IsOpenTask (judgings : List KeptJudging) (leases : List Lease) (task : Task) : Type 0 where
+  pub numbered : 1 ≤ task.judging
+  pub known : task.judging ≤ length judgings
+  pub cell : IsSome (cell_of (judging_values judgings) task.judging task.test)
+  pub unheld : lease_on leases task ≡ None

@@ -1,0 +1,116 @@
+ghost use Rattle.std.specs.Prelude.{◌≡◌, ℕ, List, ◌+◌, ◌≤◌, ◌++◌, ◌∷◌, [], length, false, OnOk};
+ghost use Rattle.farm_kinds.specs.RuleValue.{RuleValue};
+ghost use Rattle.farm_kinds.specs.declared.outcomes.Mode.{Mode};
+ghost use Rattle.farm_model.specs.declared.records.Lease.{Lease};
+ghost use Rattle.farm_model.specs.Limits.{max_tests, max_judgings};
+ghost use Rattle.farm_model.specs.Judgings.{Judging, task_of, empty_judging};
+ghost use Rattle.farm_model.specs.Leases.{left_after, ended_at, without_host, held_count, without_task};
+ghost use Rattle.lease_book.specs.Book.{room};
+ghost use Rattle.task_tree.specs.Shown.{is_shown};
+ghost use Rattle.judging_core.specs.Listed.{is_open, IsListed, AreShort, AreWide};
+
+use farm_kinds::{Class, MAX_JUDGINGS, MAX_TESTS, NoMemory, Task};
+use lease_book::LeaseBook;
+use task_tree::TaskTree;
+
+/// Makes room on the list for so many judgings in all, or for the most that there can be, each of at most
+/// 1,000 tests. At `NoMemory` some of the room may be there, and nothing else changes.
+pub fn make_room(tasks: &mut TaskTree, count: usize) -> Result<(), NoMemory>
+    ensures enough { OnOk result ((k : ℕ) → k ≤ count → k ≤ max_judgings → k ≤ length tasks.new) }
+    ensures grows { length tasks.old ≤ length tasks.new }
+    ensures listed { (rule : RuleValue) (mode : Mode) (judgings : List Judging) (leases : List Lease)
+        → IsListed rule mode judgings leases tasks.old → IsListed rule mode judgings leases tasks.new }
+{
+    let wanted = count.min(MAX_JUDGINGS as usize);
+    while tasks.judging_count() < wanted {
+        tasks.add(Class::Normal, MAX_TESTS as u16)?;
+    }
+    Ok(())
+}
+
+/// Lists the tasks of the judging of this number, the next one, for which there is room.
+pub fn list_judging(tasks: &mut TaskTree, class: Class, judging: u32, tests: u16)
+    requires numbered { 1 ≤ judging }
+    requires known { judging ≤ length tasks.old }
+    requires short { tests ≤ max_tests }
+    requires wide { AreWide tasks.old }
+    requires hidden { (test : ℕ) → is_shown tasks.old (task_of judging test) ≡ false }
+    ensures listed { (rule : RuleValue) (mode : Mode) (judgings : List Judging) (leases : List Lease)
+        → length judgings + 1 ≡ judging → IsListed rule mode judgings leases tasks.old
+        → IsListed rule mode (judgings ++ empty_judging class tests ∷ []) leases tasks.new }
+    ensures count { length tasks.new ≡ length tasks.old }
+{
+    tasks.set_class(judging, class);
+    for i in 0..tests {
+        tasks.show_task(Task {
+            judging,
+            test: i + 1,
+        });
+    }
+}
+
+/// Takes the tasks of a judging off the list, none of which is open any more.
+pub fn unlist_judging(tasks: &mut TaskTree, judging: u32, tests: u16)
+    requires numbered { 1 ≤ judging }
+    requires known { judging ≤ length tasks.old }
+    requires short { tests ≤ max_tests }
+    requires wide { AreWide tasks.old }
+    ensures listed { (rule : RuleValue) (mode : Mode) (judgings : List Judging) (leases : List Lease)
+        → ((test : ℕ) → is_open rule mode judgings leases (task_of judging test) ≡ false)
+        → IsListed rule mode judgings leases tasks.old → IsListed rule mode judgings leases tasks.new }
+    ensures count { length tasks.new ≡ length tasks.old }
+{
+    for i in 0..tests {
+        tasks.hide_task(Task {
+            judging,
+            test: i + 1,
+        });
+    }
+}
+
+/// Lists the task, on which a lease has ended, where it is one of so many judgings.
+pub fn list_again(tasks: &mut TaskTree, judgings: usize, task: Task)
+    ensures listed { (rule : RuleValue) (mode : Mode) (all : List Judging) (leases : List Lease)
+        → length all ≡ judgings → judgings ≤ length tasks.old → AreShort all → IsListed rule mode all leases tasks.old
+        → IsListed rule mode all (without_task leases task) tasks.new }
+    ensures count { length tasks.new ≡ length tasks.old }
+{
+    if task.judging as usize <= judgings && tasks.has_task(task) {
+        tasks.show_task(task);
+    }
+}
+
+/// Ends the leases that end at or before now, lists their tasks again, and counts them.
+pub fn end_due(leases: &mut LeaseBook, tasks: &mut TaskTree, judgings: usize, now: u64) -> u32
+    ensures leases { leases.new.leases ≡ left_after leases.old.leases now }
+    ensures count { result ≡ length (ended_at leases.old.leases now) }
+    ensures room { room leases.new ≡ room leases.old }
+    ensures listed { (rule : RuleValue) (mode : Mode) (all : List Judging)
+        → length all ≡ judgings → judgings ≤ length tasks.old → AreShort all → IsListed rule mode all leases.old.leases tasks.old
+        → IsListed rule mode all leases.new.leases tasks.new }
+    ensures judgings { length tasks.new ≡ length tasks.old }
+{
+    let held = leases.len();
+    while let Some(lease) = leases.due(now) {
+        list_again(tasks, judgings, lease.task);
+    }
+    held - leases.len()
+}
+
+/// Ends the leases of the host, lists their tasks again, and counts them.
+pub fn end_host(leases: &mut LeaseBook, tasks: &mut TaskTree, judgings: usize, host: u32) -> u32
+    ensures leases { leases.new.leases ≡ without_host leases.old.leases host }
+    ensures count { result ≡ held_count leases.old.leases host }
+    ensures room { room leases.new ≡ room leases.old }
+    ensures listed { (rule : RuleValue) (mode : Mode) (all : List Judging)
+        → length all ≡ judgings → judgings ≤ length tasks.old → AreShort all → IsListed rule mode all leases.old.leases tasks.old
+        → IsListed rule mode all leases.new.leases tasks.new }
+    ensures judgings { length tasks.new ≡ length tasks.old }
+{
+    let held = leases.len();
+    while let Some(task) = leases.task_of_host(host) {
+        leases.end(task);
+        list_again(tasks, judgings, task);
+    }
+    held - leases.len()
+}
