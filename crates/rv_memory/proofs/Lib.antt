@@ -5,3 +5,4 @@ pub mod Storing
 pub mod Ranges
 pub mod Laws
 pub mod Paging
+pub mod Recents

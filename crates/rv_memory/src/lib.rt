@@ -5,6 +5,7 @@
 mod index;
 mod memory;
 mod page;
+mod recent;
 #[cfg(test)]
 mod tests;
 

@@ -1,9 +1,10 @@
 ghost use Rattle.std.specs.Prelude.{ℕ, ◌≡◌, ◌+◌, ◌*◌, ◌/◌, ◌%◌, ◌^◌, ◌++◌, ◌∷◌, ◌<◌, ◌≤◌, ◌↔◌, IfOk, IfSome, IfNone, IfErr, OnOk, OnErr, IsTrue, vec_len, length, get_or, take, true, false, []};
 ghost use Rattle.rv_memory.specs.Paged as paged;
-ghost use Rattle.rv_memory.specs.Indexed.{IsIndexed};
+ghost use Rattle.rv_memory.specs.Indexed.{AreRecent, IsIndexed};
 
 use crate::index::PageIndex;
 use crate::page::{Page, blank, read8, read16, read32, write_all, write8, write16, write32};
+use crate::recent::{Recent, find_recent, make_recent, remember};
 use std::alloc::{AllocError, Global};
 use std::marker::Model;
 
@@ -26,8 +27,8 @@ pub enum MemFault {
 pub struct Memory {
     alloc: Global,
     limit: u32,
-    // For the low bits of a page's number, the place of the last such page that was used: a guess.
-    recent: Vec<u32>,
+    // For the low bits of a page's number, the last such page that was used.
+    recent: Vec<Recent>,
     index: PageIndex,
     pages: Vec<Page>,
 }
@@ -35,13 +36,13 @@ pub struct Memory {
 impl Model for Memory {
     ghost use Rattle.std.specs.Prelude.{◌≤◌, ◌<◌, ◌^◌, vec_len};
     ghost use Rattle.rv_memory.specs.Paged.{State, IsWhole};
-    ghost use Rattle.rv_memory.specs.Indexed.{IsIndexed};
+    ghost use Rattle.rv_memory.specs.Indexed.{AreRecent, IsIndexed};
 
     ghost Value = { State };
 
     ghost view = { λ m. record { limit = m.limit; pages = m.pages.items } };
 
-    ghost invariant = { λ m. (IsIndexed m.index m.pages.items) × (IsWhole m.pages.items) × (vec_len m.pages ≤ m.limit) × (m.limit < 2 ^ 32) };
+    ghost invariant = { λ m. (IsIndexed m.index m.pages.items) × (IsWhole m.pages.items) × (vec_len m.pages ≤ m.limit) × (m.limit < 2 ^ 32) × (AreRecent m.recent.items m.pages.items) };
 }
 
 impl Memory {
@@ -234,7 +235,7 @@ impl Memory {
     }
 
     #[inline(always)]
-    #[tactic(auto, using(crate::proofs::Places::indexed_set, crate::proofs::Places::whole_set))]
+    #[tactic(auto, using(crate::proofs::Places::indexed_set, crate::proofs::Places::whole_set, crate::proofs::Recents::recent_set))]
     fn set8(&mut self, at: u32, value: u32) -> Result<usize, MemFault>
         ensures place { IfOk result (λ k. k ≡ paged.place self.new.pages (at / 4096)) }
         ensures stored { OnOk result (self.new ≡ paged.store8 self.old at value) }
@@ -250,7 +251,7 @@ impl Memory {
     }
 
     #[inline(always)]
-    #[tactic(auto, using(crate::proofs::Places::indexed_set, crate::proofs::Places::whole_set, crate::proofs::Storing::store16_in_page, crate::proofs::Storing::length_set_bytes))]
+    #[tactic(auto, using(crate::proofs::Places::indexed_set, crate::proofs::Places::whole_set, crate::proofs::Recents::recent_set, crate::proofs::Storing::store16_in_page, crate::proofs::Storing::length_set_bytes))]
     fn set16(&mut self, at: u32, value: u32) -> Result<usize, MemFault>
         ensures place { IfOk result (λ k. k ≡ paged.place self.new.pages (at / 4096)) }
         ensures stored { OnOk result (self.new ≡ paged.store16 self.old at value) }
@@ -269,7 +270,7 @@ impl Memory {
     }
 
     #[inline(always)]
-    #[tactic(auto, using(crate::proofs::Places::indexed_set, crate::proofs::Places::whole_set, crate::proofs::Storing::store32_in_page, crate::proofs::Storing::length_set_bytes))]
+    #[tactic(auto, using(crate::proofs::Places::indexed_set, crate::proofs::Places::whole_set, crate::proofs::Recents::recent_set, crate::proofs::Storing::store32_in_page, crate::proofs::Storing::length_set_bytes))]
     fn set32(&mut self, at: u32, value: u32) -> Result<usize, MemFault>
         ensures place { IfOk result (λ k. k ≡ paged.place self.new.pages (at / 4096)) }
         ensures stored { OnOk result (self.new ≡ paged.store32 self.old at value) }
@@ -333,15 +334,16 @@ impl Memory {
     }
 
     // Takes back the pages after the first so many.
-    #[tactic(auto, using(crate::proofs::Places::indexed_take, crate::proofs::Places::whole_take))]
+    #[tactic(auto, using(crate::proofs::Places::indexed_take, crate::proofs::Places::whole_take, crate::proofs::Recents::recent_none))]
     fn forget_after(&mut self, kept: usize)
         ensures { self.new ≡ record { limit = self.old.limit; pages = take kept self.old.pages } }
     {
+        self.recent.truncate(0);
         self.pages.truncate(kept);
     }
 
     // Puts bytes that lie in one page, which was touched.
-    #[tactic(auto, using(crate::proofs::Places::indexed_set, crate::proofs::Places::whole_set, crate::proofs::Storing::store_bytes_in_touched, crate::proofs::Storing::length_set_bytes))]
+    #[tactic(auto, using(crate::proofs::Places::indexed_set, crate::proofs::Places::whole_set, crate::proofs::Recents::recent_set, crate::proofs::Storing::store_bytes_in_touched, crate::proofs::Storing::length_set_bytes))]
     fn put_in_page(&mut self, at: u32, bytes: &[u8])
         requires some { 0 < length bytes.now }
         requires one { at % 4096 + length bytes.now ≤ 4096 }
@@ -374,7 +376,7 @@ impl Memory {
     {
         match find(&self.index, &self.pages, number) {
             Some(k) => {
-                remember(&mut self.recent, number, k);
+                remember(&mut self.recent, &self.pages, number, k);
                 k
             }
             None => self.pages.len(),
@@ -413,12 +415,12 @@ impl Memory {
         ensures unchanged { OnErr result (self.new ≡ self.old) }
     {
         let n = self.pages.len();
-        // The first page is guessed without a table.
+        // The first page is found without a table.
         if n > 0 {
-            make_recent(self.alloc, &mut self.recent)?;
+            make_recent(self.alloc, &mut self.recent, &self.pages)?;
         }
         add_page(&mut self.index, &mut self.pages, number)?;
-        remember(&mut self.recent, number, n);
+        remember(&mut self.recent, &self.pages, number, n);
         Ok(())
     }
 }
@@ -435,30 +437,6 @@ fn span(at: u32, count: u64) -> u32
     }
 }
 
-// What is guessed for a page, 0 where there is no guess yet.
-#[inline(always)]
-fn guess(recent: &Vec<u32>, number: u32) -> usize {
-    match recent.get((number % 4096) as usize) {
-        Some(k) => *k as usize,
-        None => 0,
-    }
-}
-
-fn remember(recent: &mut Vec<u32>, number: u32, k: usize)
-    requires { k < 2 ^ 32 }
-{
-    if let Some(place) = recent.get_mut((number % 4096) as usize) {
-        *place = k as u32;
-    }
-}
-
-fn make_recent(alloc: Global, recent: &mut Vec<u32>) -> Result<(), AllocError> {
-    if recent.is_empty() {
-        *recent = vec![in alloc; 0; 4096]?;
-    }
-    Ok(())
-}
-
 // Whether the page at a place has the number.
 #[inline(always)]
 fn is_at(pages: &Vec<Page>, k: usize, number: u32) -> bool
@@ -470,30 +448,11 @@ fn is_at(pages: &Vec<Page>, k: usize, number: u32) -> bool
     }
 }
 
-// The place of a page that was used of late.
-#[inline(always)]
-#[tactic(auto, using(crate::proofs::Places::place_numbered))]
-fn find_recent(
-    recent: &Vec<u32>,
-    index: &PageIndex,
-    pages: &Vec<Page>,
-    number: u32,
-) -> Option<usize>
-    requires { IsIndexed index.now pages.now.items }
-    ensures { IfSome result (λ k. (k < length pages.now.items) × (k ≡ paged.place pages.now.items number)) }
-{
-    let k = guess(recent, number);
-    if is_at(pages, k, number) {
-        Some(k)
-    } else {
-        None
-    }
-}
-
 // The place of a page, if it was touched; a recent one is found at once.
 #[inline(always)]
-fn look(recent: &Vec<u32>, index: &PageIndex, pages: &Vec<Page>, number: u32) -> Option<usize>
-    requires { IsIndexed index.now pages.now.items }
+fn look(recent: &Vec<Recent>, index: &PageIndex, pages: &Vec<Page>, number: u32) -> Option<usize>
+    requires indexed { IsIndexed index.now pages.now.items }
+    requires recent { AreRecent recent.now.items pages.now.items }
     ensures none { IfNone result (paged.place pages.now.items number ≡ length pages.now.items) }
     ensures some { IfSome result (λ k. (k < length pages.now.items) × (k ≡ paged.place pages.now.items number)) }
 {
@@ -509,6 +468,7 @@ fn find(index: &PageIndex, pages: &Vec<Page>, number: u32) -> Option<usize>
     requires { IsIndexed index.now pages.now.items }
     ensures none { IfNone result (paged.place pages.now.items number ≡ length pages.now.items) }
     ensures some { IfSome result (λ k. (k < length pages.now.items) × (k ≡ paged.place pages.now.items number)) }
+    ensures number { IfSome result (λ k. (get_or pages.now.items k paged.no_page).number ≡ number) }
 {
     let k = index.find(number);
     if is_at(pages, k, number) {
