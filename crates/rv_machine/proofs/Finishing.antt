@@ -1,4 +1,4 @@
-use Rattle.std.proofs.Common.{◌≡◌, ℕ, zero, suc, ◌+◌, ◌-◌, ◌%◌, ◌^◌, ◌<◌, ◌≤◌, Bool, true, false, not, nat_eq, nat_lt, min, List, length, Option, Some, None, Err, refl, sym, ap, ◌∙◌, arith, if◌then◌else◌, inl, inr, ◌/◌}
+use Rattle.std.proofs.Common.{◌≡◌, ℕ, zero, suc, ◌+◌, ◌-◌, ◌*◌, ◌%◌, ◌^◌, ◌<◌, ◌≤◌, Bool, true, false, not, nat_eq, nat_lt, min, List, length, Option, Some, None, Err, refl, sym, ap, ◌∙◌, arith, if◌then◌else◌, inl, inr, ◌/◌}
 use Rattle.rv_memory.specs.Paged as memory
 use Rattle.rv_machine.specs.declared.ending.Ending.{Ending}
 use Rattle.rv_machine.specs.declared.ending.Ending.TheVariants.{Time, Memory}
@@ -138,6 +138,19 @@ pub jump_goes : (h : Hart) (to : ℕ) (new : Storage) (e : Effect) → Does h (f
 jump_goes h to new (Moves g) d = (d.1, d.2)
 jump_goes h to new (Ends f g) d = absurd d
 jump_goes h to new (Calls g) d = absurd d
+
+within_applied : (s : State) (k : ℕ) (new : Storage) (e : Effect) → Does s.hart (flow.Within k) e new → applied s e ≡ Next (record s { hart = hart_of new (s.hart.pc / 4096 * 4096 + 4 * k); cost = s.cost + 1 })
+within_applied s k new (Moves h) d = ap (λ x. Next (record s { hart = x; cost = s.cost + 1 })) (sym d.0)
+within_applied s k new (Ends f h) d = absurd d
+within_applied s k new (Calls h) d = absurd d
+
+pub within_finish : (s : State) (k : ℕ) (new : Storage) → s.cost < s.limits.instructions → Does s.hart (flow.Within k) (instruction s.hart) new → finish s ≡ finish (record s { hart = hart_of new (s.hart.pc / 4096 * 4096 + 4 * k); cost = s.cost + 1 })
+within_finish s k new h d = finish_step s ∙ ap (onward finish) (step_does s h ∙ within_applied s k new (instruction s.hart) d)
+
+pub within_goes : (h : Hart) (k : ℕ) (new : Storage) (e : Effect) → Does h (flow.Within k) e new → (k < 1024) × Keeps h.memory new.memory
+within_goes h k new (Moves g) d = (d.1, d.2)
+within_goes h k new (Ends f g) d = absurd d
+within_goes h k new (Calls g) d = absurd d
 
 -- where an instruction does not go on it changes nothing
 pub stopped_keeps : (h : Hart) (new : Storage) (x : Stop) (e : Effect) → Does h (flow.Stopped x) e new → hart_of new h.pc ≡ h

@@ -1,5 +1,4 @@
-use Rattle.std.proofs.Common.{◌≡◌, ℕ, ◌+◌, ◌/◌, ◌%◌, ◌^◌, ◌<◌, ◌≤◌, true, false, not, nat_eq, eqb-true, Option, None, Some, inl, inr, refl, ap, sym, ◌∙◌, arith}
-use Rattle.std.proofs.lemmas.Bool.{cases_eq}
+use Rattle.std.proofs.Common.{◌≡◌, ℕ, ◌+◌, ◌*◌, ◌/◌, ◌%◌, ◌^◌, ◌<◌, ◌≤◌, false, Option, None, Some, ap, sym, ◌∙◌, arith}
 use Rattle.rv_machine.specs.declared.ending.Ending.TheVariants.{Time}
 use Rattle.rv_machine.specs.declared.processor.Flow.TheVariants as flow
 use Rattle.rv_machine.specs.declared.processor.Stop.{Stop}
@@ -12,7 +11,7 @@ use Rattle.rv_machine.specs.Stepping.{State, finish}
 use Rattle.rv_machine.specs.declared.processor.Stored.{Stored}
 use Rattle.rv_memory.specs.Paged as memory
 use Rattle.rv_machine.specs.Storage.{Storage, hart_of}
-use Rattle.rv_machine.proofs.Finishing.{next_finish, stored_finish, jump_finish, stopped_finish, time_finish, fetched_finish}
+use Rattle.rv_machine.proofs.Finishing.{next_finish, stored_finish, jump_finish, within_finish, stopped_finish, time_finish, fetched_finish}
 
 later : (s : State) (p new : Storage) (pc to spent more : ℕ) → IsLater s (moved s p pc spent) → spent ≤ more → IsLater s (moved s new to more)
 later s p new pc to spent more w h = record { cost = let c : s.cost ≤ spent = w.cost in omega arith; limits = w.limits }
@@ -40,6 +39,11 @@ pub jump_way : (s : State) (p new : Storage) (pc to spent limit : ℕ) → s.lim
 jump_way s p new pc to spent limit e h w d =
     record { same = w.same ∙ jump_finish (moved s p pc spent) to new (rw e h) d; later = later s p new pc to spent (spent + 1) w.later (omega arith) }
 
+pub within_way : (s : State) (p new : Storage) (pc k spent limit : ℕ) → s.limits.instructions ≡ limit → spent < limit → IsOnWay s (moved s p pc spent) →
+    Does (hart_of p pc) (flow.Within k) (instruction (hart_of p pc)) new → IsOnWay s (moved s new (pc / 4096 * 4096 + 4 * k) (spent + 1))
+within_way s p new pc k spent limit e h w d =
+    record { same = w.same ∙ within_finish (moved s p pc spent) k new (rw e h) d; later = later s p new pc (pc / 4096 * 4096 + 4 * k) spent (spent + 1) w.later (omega arith) }
+
 -- where the run from s goes on as that from t, it stops as that
 stops_from : (s t u : State) (x : Stop) → finish s ≡ finish t → Stops x t u → Stops x s u
 stops_from s t u (stop.Ended e) same w = same ∙ w
@@ -47,15 +51,6 @@ stops_from s t u stop.Call same w = (same ∙ w.0, same ∙ w.1)
 stops_from s t u stop.NoMemory same w = same ∙ w
 
 -- ---- pages
-
-pub same_page_next : (pc to : ℕ) → pc < 2 ^ 32 → pc % 4 ≡ 0 → to ≡ (pc + 4) % 2 ^ 32 → not (nat_eq (to % 4096) 0) ≡ true → pc / 4096 ≡ to / 4096
-same_page_next pc to fits aligned e stays = elim (cases_eq (to % 4096) 0) [
-  | inl edge ↦ absurd (let f : not (nat_eq (to % 4096) 0) ≡ false = rw edge refl in let g : true ≡ false = sym stays ∙ f in cc)
-  | inr inside ↦ omega (arith, e)
-]
-
-pub same_page_jump : (pc to : ℕ) → nat_eq (to / 4096) (pc / 4096) ≡ true → pc / 4096 ≡ to / 4096
-same_page_jump pc to stays = sym (eqb-true (to / 4096) (pc / 4096) stays)
 
 -- the run goes on from s by the page that t entered
 pub resumed : (s t u : State) (g : Hart) (o : Option Stop) → IsOnWay s t → t.cost < t.limits.instructions → (memory.is_over t.hart.memory (t.hart.pc / 4096) ≡ false) × (g ≡ fetched t.hart) → Pauses o (record t { hart = g }) u → Pauses o s u

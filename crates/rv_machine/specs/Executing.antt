@@ -1,4 +1,4 @@
-use Rattle.std.specs.Prelude.{◌≡◌, ℕ, ◌/◌, ◌%◌, ◌⊎◌, true, false, Option, Some, None, Result, Ok, Err}
+use Rattle.std.specs.Prelude.{◌≡◌, ℕ, ◌+◌, ◌*◌, ◌/◌, ◌%◌, ◌^◌, ◌<◌, ◌⊎◌, true, false, Option, Some, None, Result, Ok, Err}
 use Rattle.rv_word.specs.Table.{instruction_of}
 use Rattle.rv_memory.specs.Paged as memory
 use Rattle.rv_memory.specs.declared.memory.MemFault.{MemFault}
@@ -6,7 +6,8 @@ use Rattle.rv_memory.specs.declared.memory.MemFault.TheVariants as faults
 use Rattle.rv_machine.specs.declared.ending.Ending.TheVariants.{Trap, Memory}
 use Rattle.rv_machine.specs.declared.ending.Trap.TheVariants.{Misaligned}
 use Rattle.rv_machine.specs.declared.processor.Flow.{Flow}
-use Rattle.rv_machine.specs.declared.processor.Flow.TheVariants.{Next, Stored, Jump, Stopped}
+use Rattle.rv_machine.specs.declared.processor.Flow.TheVariants.{Next, Stored, Within, Jump, Stopped}
+use Rattle.rv_machine.specs.declared.processor.ProgramCounter.{ProgramCounter}
 use Rattle.rv_machine.specs.declared.processor.Stop.{Stop}
 use Rattle.rv_machine.specs.declared.processor.Stop.TheVariants.{Ended, Call, NoMemory}
 use Rattle.rv_word.specs.declared.instr.Instr.{Instr}
@@ -18,6 +19,16 @@ use Rattle.rv_machine.specs.Hart.{Hart, Effect, Moves, Ends, Calls, next_pc}
 use Rattle.rv_machine.specs.Operations.{fetched, instruction}
 use Rattle.rv_machine.specs.Storage.{Storage, hart_of}
 
+-- the address of a word of a page; that behind the last word is the next page's
+abbrev pub address_of : ProgramCounter → ℕ
+address_of c = (c.page + 4 * c.word) % 2 ^ 32
+
+-- the page is the address of one, and the word is one of its words
+pub record IsInPage (c : ProgramCounter) : Type 0 where
+  pub page : c.page % 4096 ≡ 0
+  pub small : c.page < 2 ^ 32
+  pub word : c.word < 1024
+
 -- an instruction of the hart, whose page is touched, has the effect; where it does not go on it changes nothing, and
 -- there may also be no memory for it
 abbrev pub Does : Hart → Flow → Effect → Storage → Type 0
@@ -27,6 +38,10 @@ Does h Next (Calls g) new = ⊥
 Does h (Stored w) (Moves g) new = (hart_of new (next_pc h) ≡ g) × IsWritten h.memory new.memory w
 Does h (Stored w) (Ends e g) new = ⊥
 Does h (Stored w) (Calls g) new = ⊥
+Does h (Within k) (Moves g) new =
+    (hart_of new (h.pc / 4096 * 4096 + 4 * k) ≡ g) × (k < 1024) × Keeps h.memory new.memory
+Does h (Within k) (Ends e g) new = ⊥
+Does h (Within k) (Calls g) new = ⊥
 Does h (Jump to) (Moves g) new = (hart_of new to ≡ g) × (to % 4 ≡ 0) × Keeps h.memory new.memory
 Does h (Jump to) (Ends e g) new = ⊥
 Does h (Jump to) (Calls g) new = ⊥

@@ -1,9 +1,9 @@
-ghost use Rattle.std.specs.Prelude.{ℕ, List, ◌≡◌, ◌≢◌, ◌+◌, ◌-◌, ◌*◌, ◌/◌, ◌%◌, ◌^◌, ◌<◌, ◌≤◌, ◌++◌, IfOk, IfErr, OnOk, OnErr, if◌then◌else◌, Some, true, false, [], length, get_or, nat_eq, int_lt, slice_index, slice_set};
+ghost use Rattle.std.specs.Prelude.{ℕ, List, ◌≡◌, ◌≢◌, ◌+◌, ◌-◌, ◌*◌, ◌/◌, ◌%◌, ◌^◌, ◌<◌, ◌≤◌, ◌++◌, IfOk, IfErr, IfSome, OnOk, OnErr, if◌then◌else◌, Some, true, false, [], length, get_or, nat_eq, int_lt, slice_index, slice_set};
 ghost use Rattle.std.specs.Int.{cast_signed, w8, w16};
 ghost use Rattle.rv_machine.specs.Hart as hart;
 ghost use Rattle.rv_machine.specs.Operations as operations;
 ghost use Rattle.rv_machine.specs.Storage.{hart_of};
-ghost use Rattle.rv_machine.specs.Executing.{Does, stop_of};
+ghost use Rattle.rv_machine.specs.Executing.{Does, IsInPage, address_of, stop_of};
 ghost use Rattle.rv_machine.specs.Decoded.{IsCode, IsStep, instr_of};
 ghost use Rattle.rv_machine.specs.declared.code.Code.{Code};
 ghost use Rattle.rv_word.specs.Effect as effect;
@@ -24,13 +24,49 @@ pub enum Stop {
     NoMemory,
 }
 
-/// What comes after an instruction: the next word, also after a store, another address, or a stop.
+/// What comes after an instruction: the next word, also after a store, a word of the same page, another address, or a
+/// stop.
 #[derive(Clone, Copy)]
 pub enum Flow {
     Next,
     Stored(Stored),
+    Within(usize),
     Jump(u32),
     Stopped(Stop),
+}
+
+/// Where an instruction stands: the address of its page, and the number of its word there.
+#[derive(Clone, Copy)]
+pub struct ProgramCounter {
+    pub page: u32,
+    pub word: usize,
+}
+
+impl ProgramCounter {
+    ghost use Rattle.rv_machine.specs.Executing.{IsInPage, address_of};
+
+    /// The address; that behind the last word is the next page's.
+    #[inline(always)]
+    pub fn address(self) -> u32
+        requires { self.word ≤ 1024 }
+        ensures { result ≡ address_of self }
+    {
+        self.page.wrapping_add(4 * self.word as u32)
+    }
+
+    /// The number of the word at an address, if it is one of this page.
+    #[inline(always)]
+    fn word_at(self, to: u32) -> Option<usize>
+        requires { IsInPage self }
+        ensures { IfSome result (λ k. (k < 1024) × (to ≡ address_of self / 4096 * 4096 + 4 * k) × (to % 4 ≡ 0)) }
+    {
+        let offset = to.wrapping_sub(self.page);
+        if offset % 4 == 0 && offset < 4096 {
+            Some((offset / 4) as usize)
+        } else {
+            None
+        }
+    }
 }
 
 /// Where an instruction stored: the place of the page in memory, and the address.
@@ -184,19 +220,19 @@ impl Processor {
     }
 
     #[inline(always)]
-    fn address(&self, i: Instr, pc: u32) -> u32
+    fn address(&self, i: Instr, pc: ProgramCounter) -> u32
         requires { IsStep i }
-        ensures { result ≡ hart.address (hart_of self.now pc) (instr_of i) }
+        ensures { result ≡ hart.address (hart_of self.now (address_of pc)) (instr_of i) }
     {
         self.reg(i.rs1).wrapping_add(i.imm.cast_unsigned())
     }
 
     // Gives rd a value (RISC-V Unprivileged ISA, "Integer Computational Instructions").
     #[inline(always)]
-    fn give(&mut self, pc: u32, i: Instr, v: u32) -> Flow
+    fn give(&mut self, pc: ProgramCounter, i: Instr, v: u32) -> Flow
         requires step { IsStep i }
-        requires aligned { pc % 4 ≡ 0 }
-        ensures does { Does (hart_of self.old pc) result (hart.gives (hart_of self.old pc) (instr_of i) v) self.new }
+        requires position { IsInPage pc }
+        ensures does { Does (hart_of self.old (address_of pc)) result (hart.gives (hart_of self.old (address_of pc)) (instr_of i) v) self.new }
         ensures next { result ≡ Flow.Next }
     {
         self.write(i.rd, v);
@@ -205,27 +241,35 @@ impl Processor {
 
     // RISC-V Unprivileged ISA, "Control Transfer Instructions".
     #[inline(always)]
-    fn jump(&mut self, pc: u32, i: Instr, to: u32) -> Flow
+    fn jump(&mut self, pc: ProgramCounter, i: Instr, to: u32) -> Flow
         requires step { IsStep i }
-        requires aligned { pc % 4 ≡ 0 }
-        ensures does { Does (hart_of self.old pc) result (hart.jumps (hart_of self.old pc) (instr_of i) to) self.new }
+        requires position { IsInPage pc }
+        ensures does { Does (hart_of self.old (address_of pc)) result (hart.jumps (hart_of self.old (address_of pc)) (instr_of i) to) self.new }
     {
+        let link = next_pc(pc.address());
+        if let Some(word) = pc.word_at(to) {
+            self.write(i.rd, link);
+            return Flow::Within(word);
+        }
         if to % 4 != 0 {
             return Flow::Stopped(Stop::Ended(Ending::Trap(Trap::Jump)));
         }
-        self.write(i.rd, next_pc(pc));
+        self.write(i.rd, link);
         Flow::Jump(to)
     }
 
     #[inline(always)]
-    fn branch(&mut self, pc: u32, i: Instr, taken: bool) -> Flow
-        requires aligned { pc % 4 ≡ 0 }
-        ensures does { Does (hart_of self.old pc) result (hart.branches (hart_of self.old pc) (instr_of i) taken) self.new }
+    fn branch(&mut self, pc: ProgramCounter, i: Instr, taken: bool) -> Flow
+        requires position { IsInPage pc }
+        ensures does { Does (hart_of self.old (address_of pc)) result (hart.branches (hart_of self.old (address_of pc)) (instr_of i) taken) self.new }
     {
         if !taken {
             return Flow::Next;
         }
-        let to = relative(pc, i);
+        let to = relative(pc.address(), i);
+        if let Some(word) = pc.word_at(to) {
+            return Flow::Within(word);
+        }
         if to % 4 != 0 {
             return Flow::Stopped(Stop::Ended(Ending::Trap(Trap::Jump)));
         }
@@ -233,22 +277,22 @@ impl Processor {
     }
 
     #[inline(always)]
-    fn compute(&mut self, pc: u32, i: Instr, op: Op) -> Flow
+    fn compute(&mut self, pc: ProgramCounter, i: Instr, op: Op) -> Flow
         requires step { IsStep i }
-        requires aligned { pc % 4 ≡ 0 }
+        requires position { IsInPage pc }
         requires op { effect.HasEffect op }
-        ensures does { Does (hart_of self.old pc) result (operations.computes op (hart_of self.old pc) (instr_of i)) self.new }
+        ensures does { Does (hart_of self.old (address_of pc)) result (operations.computes op (hart_of self.old (address_of pc)) (instr_of i)) self.new }
     {
         let v = alu(op, self.reg(i.rs1), self.reg(i.rs2));
         self.give(pc, i, v)
     }
 
     #[inline(always)]
-    fn compute_imm(&mut self, pc: u32, i: Instr, op: Op) -> Flow
+    fn compute_imm(&mut self, pc: ProgramCounter, i: Instr, op: Op) -> Flow
         requires step { IsStep i }
-        requires aligned { pc % 4 ≡ 0 }
+        requires position { IsInPage pc }
         requires op { effect.HasEffect op }
-        ensures does { Does (hart_of self.old pc) result (operations.computes_imm op (hart_of self.old pc) (instr_of i)) self.new }
+        ensures does { Does (hart_of self.old (address_of pc)) result (operations.computes_imm op (hart_of self.old (address_of pc)) (instr_of i)) self.new }
     {
         let v = alu(op, self.reg(i.rs1), i.imm.cast_unsigned());
         self.give(pc, i, v)
@@ -258,10 +302,10 @@ impl Processor {
 impl Processor {
     #[inline(always)]
     #[tactic(auto, using(crate::proofs::Kept::kept_touch))]
-    fn load_byte(&mut self, pc: u32, i: Instr) -> Flow
+    fn load_byte(&mut self, pc: ProgramCounter, i: Instr) -> Flow
         requires step { IsStep i }
-        requires aligned { pc % 4 ≡ 0 }
-        ensures does { Does (hart_of self.old pc) result (operations.loads 1 operations.signed_byte (hart_of self.old pc) (instr_of i)) self.new }
+        requires position { IsInPage pc }
+        ensures does { Does (hart_of self.old (address_of pc)) result (operations.loads 1 operations.signed_byte (hart_of self.old (address_of pc)) (instr_of i)) self.new }
     {
         let at = self.address(i, pc);
         match self.memory.load8(at) {
@@ -272,10 +316,10 @@ impl Processor {
 
     #[inline(always)]
     #[tactic(auto, using(crate::proofs::Kept::kept_touch))]
-    fn load_byte_unsigned(&mut self, pc: u32, i: Instr) -> Flow
+    fn load_byte_unsigned(&mut self, pc: ProgramCounter, i: Instr) -> Flow
         requires step { IsStep i }
-        requires aligned { pc % 4 ≡ 0 }
-        ensures does { Does (hart_of self.old pc) result (operations.loads 1 memory.byte_at (hart_of self.old pc) (instr_of i)) self.new }
+        requires position { IsInPage pc }
+        ensures does { Does (hart_of self.old (address_of pc)) result (operations.loads 1 memory.byte_at (hart_of self.old (address_of pc)) (instr_of i)) self.new }
     {
         let at = self.address(i, pc);
         match self.memory.load8(at) {
@@ -286,10 +330,10 @@ impl Processor {
 
     #[inline(always)]
     #[tactic(auto, using(crate::proofs::Kept::kept_touch))]
-    fn load_half(&mut self, pc: u32, i: Instr) -> Flow
+    fn load_half(&mut self, pc: ProgramCounter, i: Instr) -> Flow
         requires step { IsStep i }
-        requires aligned { pc % 4 ≡ 0 }
-        ensures does { Does (hart_of self.old pc) result (operations.loads 2 operations.signed_half (hart_of self.old pc) (instr_of i)) self.new }
+        requires position { IsInPage pc }
+        ensures does { Does (hart_of self.old (address_of pc)) result (operations.loads 2 operations.signed_half (hart_of self.old (address_of pc)) (instr_of i)) self.new }
     {
         let at = self.address(i, pc);
         match self.memory.load16(at) {
@@ -300,10 +344,10 @@ impl Processor {
 
     #[inline(always)]
     #[tactic(auto, using(crate::proofs::Kept::kept_touch))]
-    fn load_half_unsigned(&mut self, pc: u32, i: Instr) -> Flow
+    fn load_half_unsigned(&mut self, pc: ProgramCounter, i: Instr) -> Flow
         requires step { IsStep i }
-        requires aligned { pc % 4 ≡ 0 }
-        ensures does { Does (hart_of self.old pc) result (operations.loads 2 memory.half_at (hart_of self.old pc) (instr_of i)) self.new }
+        requires position { IsInPage pc }
+        ensures does { Does (hart_of self.old (address_of pc)) result (operations.loads 2 memory.half_at (hart_of self.old (address_of pc)) (instr_of i)) self.new }
     {
         let at = self.address(i, pc);
         match self.memory.load16(at) {
@@ -314,10 +358,10 @@ impl Processor {
 
     #[inline(always)]
     #[tactic(auto, using(crate::proofs::Kept::kept_touch))]
-    fn load_word(&mut self, pc: u32, i: Instr) -> Flow
+    fn load_word(&mut self, pc: ProgramCounter, i: Instr) -> Flow
         requires step { IsStep i }
-        requires aligned { pc % 4 ≡ 0 }
-        ensures does { Does (hart_of self.old pc) result (operations.loads 4 memory.word_at (hart_of self.old pc) (instr_of i)) self.new }
+        requires position { IsInPage pc }
+        ensures does { Does (hart_of self.old (address_of pc)) result (operations.loads 4 memory.word_at (hart_of self.old (address_of pc)) (instr_of i)) self.new }
     {
         let at = self.address(i, pc);
         match self.memory.load32(at) {
@@ -327,10 +371,10 @@ impl Processor {
     }
 
     #[inline(always)]
-    fn store8(&mut self, pc: u32, i: Instr) -> Flow
+    fn store8(&mut self, pc: ProgramCounter, i: Instr) -> Flow
         requires step { IsStep i }
-        requires aligned { pc % 4 ≡ 0 }
-        ensures does { Does (hart_of self.old pc) result (operations.stores 1 memory.store8 (hart_of self.old pc) (instr_of i)) self.new }
+        requires position { IsInPage pc }
+        ensures does { Does (hart_of self.old (address_of pc)) result (operations.stores 1 memory.store8 (hart_of self.old (address_of pc)) (instr_of i)) self.new }
     {
         let at = self.address(i, pc);
         let v = self.reg(i.rs2);
@@ -342,10 +386,10 @@ impl Processor {
     }
 
     #[inline(always)]
-    fn store16(&mut self, pc: u32, i: Instr) -> Flow
+    fn store16(&mut self, pc: ProgramCounter, i: Instr) -> Flow
         requires step { IsStep i }
-        requires aligned { pc % 4 ≡ 0 }
-        ensures does { Does (hart_of self.old pc) result (operations.stores 2 memory.store16 (hart_of self.old pc) (instr_of i)) self.new }
+        requires position { IsInPage pc }
+        ensures does { Does (hart_of self.old (address_of pc)) result (operations.stores 2 memory.store16 (hart_of self.old (address_of pc)) (instr_of i)) self.new }
     {
         let at = self.address(i, pc);
         let v = self.reg(i.rs2);
@@ -357,10 +401,10 @@ impl Processor {
     }
 
     #[inline(always)]
-    fn store32(&mut self, pc: u32, i: Instr) -> Flow
+    fn store32(&mut self, pc: ProgramCounter, i: Instr) -> Flow
         requires step { IsStep i }
-        requires aligned { pc % 4 ≡ 0 }
-        ensures does { Does (hart_of self.old pc) result (operations.stores 4 memory.store32 (hart_of self.old pc) (instr_of i)) self.new }
+        requires position { IsInPage pc }
+        ensures does { Does (hart_of self.old (address_of pc)) result (operations.stores 4 memory.store32 (hart_of self.old (address_of pc)) (instr_of i)) self.new }
     {
         let at = self.address(i, pc);
         let v = self.reg(i.rs2);
@@ -375,15 +419,15 @@ impl Processor {
 impl Processor {
     /// Carries out an instruction that stands at pc.
     #[inline(always)]
-    pub fn operate(&mut self, pc: u32, i: Instr) -> Flow
+    pub fn operate(&mut self, pc: ProgramCounter, i: Instr) -> Flow
         requires step { IsStep i }
-        requires aligned { pc % 4 ≡ 0 }
-        ensures does { Does (hart_of self.old pc) result (operations.operation i.op (hart_of self.old pc) (instr_of i)) self.new }
+        requires position { IsInPage pc }
+        ensures does { Does (hart_of self.old (address_of pc)) result (operations.operation i.op (hart_of self.old (address_of pc)) (instr_of i)) self.new }
     {
         match i.op {
             Op::Lui => self.give(pc, i, i.imm.cast_unsigned()),
-            Op::Auipc => self.give(pc, i, relative(pc, i)),
-            Op::Jal => self.jump(pc, i, relative(pc, i)),
+            Op::Auipc => self.give(pc, i, relative(pc.address(), i)),
+            Op::Jal => self.jump(pc, i, relative(pc.address(), i)),
             Op::Jalr => self.jump(pc, i, self.address(i, pc) / 2 * 2),
             Op::Beq => self.branch(pc, i, self.reg(i.rs1) == self.reg(i.rs2)),
             Op::Bne => self.branch(pc, i, self.reg(i.rs1) != self.reg(i.rs2)),

@@ -9,7 +9,7 @@ ghost use Rattle.rv_memory.specs.Paged as memory;
 
 use crate::code::{Code, decoded_page, is_decoded, is_stale, keep, operation_at, step_at, step_of};
 use crate::ending::{Ending, Trap};
-use crate::processor::{Flow, Processor, Stop, Stored, next_pc};
+use crate::processor::{Flow, Processor, ProgramCounter, Stop, Stored, next_pc};
 use rv_memory::MemFault;
 use rv_word::decode;
 
@@ -105,37 +105,33 @@ pub fn run_in_page(
     ensures code { decoded.IsKept result.stale processor.new.memory code.now }
     ensures pauses { (s : stepping.State) → running.IsStateOf s processor.old pc cost limit → running.Pauses result.stop s (running.moved s processor.new result.pc (limit - result.left)) }
 {
-    let page = &code.steps[here];
-    let mut now = pc;
+    let steps = &code.steps[here];
+    let page = pc / 4096 * 4096;
+    let mut word = (pc / 4 % 1024) as usize;
     let mut left = limit - cost;
     loop {
+        let now = ProgramCounter { page, word };
         if left == 0 {
-            return paused(now, left, Some(Stop::Ended(Ending::Time)), None);
+            return paused(now.address(), left, Some(Stop::Ended(Ending::Time)), None);
         }
-        let i = step_at(page, now);
+        let i = step_at(steps, word);
         if !is_decoded(i.op) {
-            return paused(now, left, None, None);
+            return paused(now.address(), left, None, None);
         }
-        let (to, stays) = match processor.operate(now, i) {
-            Flow::Next => {
-                let to = next_pc(now);
-                (to, to % 4096 != 0)
-            }
+        let next = match processor.operate(now, i) {
+            Flow::Next => word + 1,
             Flow::Stored(stored) => {
-                let to = next_pc(now);
                 if is_stale(code, stored.place, stored.at) {
-                    return paused(to, left - 1, None, Some(stored));
+                    return paused(next_pc(now.address()), left - 1, None, Some(stored));
                 }
-                (to, to % 4096 != 0)
+                word + 1
             }
-            Flow::Jump(to) => (to, to / 4096 == now / 4096),
-            Flow::Stopped(stop) => return paused(now, left, Some(stop), None),
+            Flow::Within(to) => to,
+            Flow::Jump(to) => return paused(to, left - 1, None, None),
+            Flow::Stopped(stop) => return paused(now.address(), left, Some(stop), None),
         };
-        now = to;
+        word = next;
         left -= 1;
-        if !stays {
-            return paused(now, left, None, None);
-        }
     }
 }
 

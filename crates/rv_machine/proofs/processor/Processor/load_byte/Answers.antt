@@ -3,9 +3,10 @@ use Rattle.std.specs.Int.{cast_signed, w8}
 use Rattle.rv_word.specs.Effect.{bits}
 use Rattle.rv_machine.specs.Decoded.{instr_of}
 use Rattle.rv_machine.specs.Operations as operations
+use Rattle.rv_machine.specs.Executing.{address_of}
 use Rattle.rv_machine.proofs.Doing.{loads_does}
 use Rattle.rv_machine.proofs.processor.Processor.load_byte.Goals as goal
 
 pub returns-in-Ok : goal.returns-in-Ok
 returns-in-Ok c =
-    record { does = loads_does 1 operations.signed_byte c.args.self.now _ c.load8.new.self c.args.pc (instr_of c.args.i) c.address-at.result _ c.give.result c.give.new.self c.self.view_is c.address-at.ensures c.in-Ok.ensures.allowed c.in-Ok.ensures.touched (c.signed_byte.ensures ∙ ap (λ (x : ℕ). bits (cast_signed w8 x)) c.in-Ok.ensures.value) c.give.ensures.next c.give.ensures.does }
+    record { does = loads_does 1 operations.signed_byte c.args.self.now _ c.load8.new.self (address_of c.args.pc) (instr_of c.args.i) c.address-at.result _ c.give.result c.give.new.self c.self.view_is c.address-at.ensures c.in-Ok.ensures.allowed c.in-Ok.ensures.touched (c.signed_byte.ensures ∙ ap (λ (x : ℕ). bits (cast_signed w8 x)) c.in-Ok.ensures.value) c.give.ensures.next c.give.ensures.does }

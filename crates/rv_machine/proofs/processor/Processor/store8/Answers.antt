@@ -1,6 +1,7 @@
 use Rattle.std.proofs.Common.{◌*◌, ◌/◌}
 use Rattle.rv_memory.specs.Paged as memory
 use Rattle.rv_machine.specs.Decoded.{DiffersAt, instr_of}
+use Rattle.rv_machine.specs.Executing.{address_of}
 use Rattle.rv_machine.proofs.Doing.{stores_does}
 use Rattle.rv_machine.proofs.Kept.{differ_store8}
 use Rattle.rv_machine.proofs.processor.Processor.store8.Goals as goal
@@ -9,4 +10,4 @@ pub returns : goal.returns
 returns c =
     let m = c.self.inside.memory in
     let d : DiffersAt m c.store8.new.self (c.address-at.result / 4 * 4) = rw c.in-Ok.ensures.stored (differ_store8 m c.address-at.result c.reg-v.result) in
-    record { does = stores_does 1 memory.store8 c.args.self.now _ c.store8.new.self c.args.pc (instr_of c.args.i) c.in-Ok.place c.address-at.result c.reg-v.result c.self.view_is c.address-at.ensures c.reg-v.ensures c.in-Ok.ensures.allowed c.in-Ok.ensures.stored d c.in-Ok.ensures.place }
+    record { does = stores_does 1 memory.store8 c.args.self.now _ c.store8.new.self (address_of c.args.pc) (instr_of c.args.i) c.in-Ok.place c.address-at.result c.reg-v.result c.self.view_is c.address-at.ensures c.reg-v.ensures c.in-Ok.ensures.allowed c.in-Ok.ensures.stored d c.in-Ok.ensures.place }
