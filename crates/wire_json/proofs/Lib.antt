@@ -1,0 +1,5 @@
+pub mod NameTexts
+pub mod NumberLists
+pub mod Plain
+pub mod RowLists
+pub mod Texts

@@ -1,0 +1,5 @@
+pub mod Fields
+pub mod Bodies
+pub mod Objects
+pub mod Replies
+pub mod FaultTexts
