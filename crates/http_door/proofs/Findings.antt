@@ -1,0 +1,169 @@
+-- What is found at the front of a window.
+use Rattle.std.proofs.Common.{ℕ, min, ◌≡◌, ◌-◌, ◌≤◌, ◌<◌, ◌⊎◌, inl, inr, List, [], ◌∷◌, ◌++◌, Option, Some, Result, Ok, Err, IfErr, IfOk, Bool, true, false, eqb, refl, sym, ap, ◌∙◌, subst, arith, length, take, drop}
+use Rattle.std.proofs.lemmas.Bool.{cases_lt}
+use Rattle.std.proofs.lemmas.Bool.Decides.{nat_tests}
+use Rattle.std.proofs.lemmas.List.{take_all, take-append-drop, take-append-le, drop-append-le, length-append, length-take, length-drop}
+use Rattle.httparse.specs.declared.spans.Span.{Span}
+use Rattle.httparse.specs.Grammar.{RequestHead, HasNoRequest, MayBecomeRequest}
+use Rattle.httparse.specs.Spans.{span_bytes}
+use Rattle.farm_io.specs.declared.block.Stop.{Stop}
+use Rattle.farm_io.specs.declared.block.Stop.TheVariants as stop
+use Rattle.farm_io.specs.Lines.{input_limit}
+use Rattle.farm_io.specs.Streams.{Rose}
+use Rattle.farm_io.specs.BlockValue.{IsEnded, HasCauseStop}
+use Rattle.http_door.specs.declared.heads.Seen.{Seen}
+use Rattle.http_door.specs.declared.ending.Ending.{Ending}
+use Rattle.http_door.specs.declared.ending.Ending.TheVariants as ending
+use Rattle.http_door.specs.declared.fields.Framing.{Framing}
+use Rattle.http_door.specs.declared.fields.Framing.TheVariants as framing
+use Rattle.http_door.specs.Heads.{head_limit, framing_of, Shows}
+use Rattle.http_door.specs.Requests.{IsHead, IsWithinHead, IsWithinBody, IsLongHead, EndsAs, IsRefusal}
+use Rattle.http_door.specs.WindowValue.{WindowValue}
+use Rattle.http_door.specs.Finding.{ShowsHead, HasShown, IsLooked, IsEndOf, Stops, ended_by, IsSized}
+use Rattle.http_door.proofs.Cutting.{head_more}
+
+take_min_at : (lim : ℕ) (bytes : List ℕ) → (length bytes < lim) ⊎ (lim ≤ length bytes) → take (min (length bytes) lim) bytes ≡ take lim bytes
+take_min_at lim bytes (inl h) =
+    take_all (min (length bytes) lim) bytes (omega arith) ∙ sym (take_all lim bytes (omega arith))
+take_min_at lim bytes (inr h) = let e : min (length bytes) lim ≡ lim = omega arith in rw e refl
+
+pub take_min : (lim : ℕ) (bytes : List ℕ) → take (min (length bytes) lim) bytes ≡ take lim bytes
+take_min lim bytes = take_min_at lim bytes (cases_lt (length bytes) lim)
+
+pub looked_more : (bytes front : List ℕ) → front ≡ take head_limit bytes → length bytes < head_limit → HasNoRequest front × MayBecomeRequest front → IsWithinHead bytes
+looked_more bytes front is short h =
+    let e : front ≡ bytes = is ∙ take_all head_limit bytes (omega (arith, short)) in
+    record { short = short; none = subst HasNoRequest e h.0; may = subst MayBecomeRequest e h.1 }
+
+pub looked_long : (bytes front : List ℕ) → front ≡ take head_limit bytes → head_limit ≤ length bytes → HasNoRequest front × MayBecomeRequest front → IsLongHead bytes
+looked_long bytes front is long h = record { long = long; none = subst HasNoRequest is h.0; may = subst MayBecomeRequest is h.1 }
+
+-- a span in a front is the same in the whole
+span_front : (xs ys : List ℕ) (s : Span) → s.start ≤ s.end → s.end ≤ length xs → span_bytes (xs ++ ys) s ≡ span_bytes xs s
+span_front xs ys s order within =
+    let le : s.start ≤ length xs = omega arith in
+    let room : s.end - s.start ≤ length (drop s.start xs) = omega (arith, length-drop s.start xs) in
+    ap (take (s.end - s.start)) (drop-append-le s.start xs ys le) ∙ take-append-le (s.end - s.start) (drop s.start xs) ys room
+
+shown_more : (front more : List ℕ) (h : RequestHead) (s : Seen) → ShowsHead front h s → ShowsHead (front ++ more) h s
+shown_more front more h s x = record {
+  is_head = subst (λ (z : List ℕ). IsHead (front ++ more) h z) (sym (drop-append-le s.len front more x.within)) (head_more front h (drop s.len front) more x.is_head);
+  short = x.short;
+  within = omega (arith, x.within, length-append front more);
+  method = span_front front more s.method x.method_within.0 (omega (arith, x.method_within.1, x.within)) ∙ x.method;
+  method_within = x.method_within;
+  target = span_front front more s.target x.target_within.0 (omega (arith, x.target_within.1, x.within)) ∙ x.target;
+  target_within = x.target_within;
+  framing = x.framing;
+  close = x.close;
+}
+
+-- a head that is seen stays seen as more bytes come
+pub shown_still : (bytes more all : List ℕ) (h : RequestHead) (s : Seen) → all ≡ bytes ++ more → ShowsHead bytes h s → ShowsHead all h s
+shown_still bytes more all h s e x = subst (λ (z : List ℕ). ShowsHead z h s) (sym e) (shown_more bytes more h s x)
+
+seen_front : (front : List ℕ) (h : RequestHead) (s : Seen) → length front ≤ head_limit → Shows front h s → ShowsHead front h s
+seen_front front h s short x = record {
+  is_head = record { reads = x.reads; short = omega (arith, x.len, x.within, short); few = x.few };
+  short = omega (arith, x.within, short);
+  within = x.within;
+  method = x.method;
+  method_within = x.method_within;
+  target = x.target;
+  target_within = x.target_within;
+  framing = x.framing;
+  close = x.close;
+}
+
+pub looked_head : (bytes front : List ℕ) (h : RequestHead) (s : Seen) → front ≡ take head_limit bytes → Shows front h s → ShowsHead bytes h s
+looked_head bytes front h s is x =
+    let short : length front ≤ head_limit = omega (arith, ap length is, length-take head_limit bytes) in
+    shown_still front (drop head_limit bytes) bytes h s (sym (take-append-drop head_limit bytes) ∙ ap (λ z. z ++ drop head_limit bytes) (sym is)) (seen_front front h s short x)
+
+refusal_end : (e : Ending) (left : Option (List ℕ)) → IsRefusal e → IsEndOf e left
+refusal_end ending.End left h = absurd h
+refusal_end ending.Cut left h = absurd h
+refusal_end ending.BadHead left h = (λ e. cc, λ e. cc)
+refusal_end (ending.HeadTooLong n) left h = (λ e. cc, λ e. cc)
+refusal_end (ending.BodyTooLong n) left h = (λ e. cc, λ e. cc)
+refusal_end ending.NoLength left h = (λ e. cc, λ e. cc)
+refusal_end ending.ReadFault left h = absurd h
+refusal_end ending.InputLimit left h = absurd h
+refusal_end ending.NoMemory left h = absurd h
+
+refusal_fault : (e : Ending) → IsRefusal e → ¬ (e ≡ ending.ReadFault)
+refusal_fault e h is = subst IsRefusal is h
+
+refusal_limit : (e : Ending) → IsRefusal e → ¬ (e ≡ ending.InputLimit)
+refusal_limit e h is = subst IsRefusal is h
+
+-- a refusal stops the reader
+pub refused : (left : Option (List ℕ)) (before now : ℕ) (w : WindowValue) (e : Ending) → EndsAs e w.ahead → IsRefusal e → Stops left before now w e
+refused left before now w e h r = record {
+  ends = h;
+  end = refusal_end e left r;
+  fault = λ is. absurd (refusal_fault e r is);
+  limit = λ is. absurd (refusal_limit e r is);
+}
+
+pub looked_err : (left : Option (List ℕ)) (before now : ℕ) (w : WindowValue) (bytes : List ℕ) (r : Result Seen Ending) → bytes ≡ w.ahead → IsLooked bytes (Some r) → IfErr r (Stops left before now w)
+looked_err left before now w bytes (Ok s) e h = tt
+looked_err left before now w bytes (Err end) e h = refused left before now w end (subst (EndsAs end) e h.0) h.1
+
+pub looked_ok : (w : WindowValue) (bytes : List ℕ) (r : Result Seen Ending) → bytes ≡ w.ahead → IsLooked bytes (Some r) → IfOk r (HasShown w.ahead)
+looked_ok w bytes (Ok s) e h = subst (λ (z : List ℕ). HasShown z s) e h
+looked_ok w bytes (Err end) e h = tt
+
+empty_is : (xs : List ℕ) → eqb (length xs) 0 ≡ true → xs ≡ []
+empty_is [] h = refl
+empty_is (x ∷ xs) h = absurd (let n : length (x ∷ xs) ≡ 0 = grind (arith, nat_tests) in omega (arith, n))
+
+some_is : (xs : List ℕ) → eqb (length xs) 0 ≡ false → 0 < length xs
+some_is xs h = grind (arith, nat_tests)
+
+-- a count that rose since has risen
+rose_from : (before was now : ℕ) → before ≤ was → Rose was now → Rose before now
+rose_from before was now le h = omega (arith, le, h)
+
+-- the bytes stop within a head, or between requests
+pub stopped_head : (left : Option (List ℕ)) (before was now : ℕ) (w : WindowValue) (s : Stop) (empty : Bool) → empty ≡ eqb (length w.ahead) 0 → IsWithinHead w.ahead → before ≤ was
+    → IsEnded (Some s) left → HasCauseStop was now (Some s) → (Some s ≡ Some stop.InputLimit → w.taken ≡ input_limit) → Stops left before now w (ended_by s empty)
+stopped_head left before was now w stop.End true is h le end cause limit =
+    record { ends = empty_is w.ahead (sym is); end = (λ e. end refl, λ e. cc); fault = λ e. cc; limit = λ e. cc }
+stopped_head left before was now w stop.End false is h le end cause limit =
+    record { ends = (some_is w.ahead (sym is), inl h); end = (λ e. cc, λ e. end refl); fault = λ e. cc; limit = λ e. cc }
+stopped_head left before was now w stop.ReadFault empty is h le end cause limit =
+    record { ends = inl h; end = (λ e. cc, λ e. cc); fault = λ e. rose_from before was now le (cause.failed refl); limit = λ e. cc }
+stopped_head left before was now w stop.InputLimit empty is h le end cause limit =
+    record { ends = inl h; end = (λ e. cc, λ e. cc); fault = λ e. cc; limit = λ e. limit refl }
+
+-- the bytes stop within a body
+pub stopped_body : (left : Option (List ℕ)) (before was now : ℕ) (w : WindowValue) (s : Stop) → IsWithinBody w.ahead → 0 < length w.ahead → before ≤ was
+    → IsEnded (Some s) left → HasCauseStop was now (Some s) → (Some s ≡ Some stop.InputLimit → w.taken ≡ input_limit) → Stops left before now w (ended_by s false)
+stopped_body left before was now w stop.End h some le end cause limit =
+    record { ends = (some, inr h); end = (λ e. cc, λ e. end refl); fault = λ e. cc; limit = λ e. cc }
+stopped_body left before was now w stop.ReadFault h some le end cause limit =
+    record { ends = inr h; end = (λ e. cc, λ e. cc); fault = λ e. rose_from before was now le (cause.failed refl); limit = λ e. cc }
+stopped_body left before was now w stop.InputLimit h some le end cause limit =
+    record { ends = inr h; end = (λ e. cc, λ e. cc); fault = λ e. cc; limit = λ e. limit refl }
+
+err_is : (e f : Ending) (r : Result ℕ Ending) → r ≡ Err e → r ≡ Err f → e ≡ f
+err_is e f r h k = cc
+
+pub no_ok : (n : ℕ) (e : Ending) (r : Result ℕ Ending) → r ≡ Err e → r ≡ Ok n → ⊥
+no_ok n e r h k = cc
+
+refusal_at : (bytes : List ℕ) (e f : Ending) → e ≡ f → EndsAs f bytes × IsRefusal f → EndsAs e bytes × IsRefusal e
+refusal_at bytes e f is h = subst (λ (z : Ending). EndsAs z bytes × IsRefusal z) (sym is) h
+
+pub sized_err_at : (bytes : List ℕ) (h : RequestHead) (rest : List ℕ) (e : Ending) (f : Framing) → f ≡ framing_of h → IsHead bytes h rest → IsSized f (Err e) → EndsAs e bytes × IsRefusal e
+sized_err_at bytes h rest e (framing.Sized n) is x s = absurd (no_ok n e (Err e) refl s)
+sized_err_at bytes h rest e framing.BadLength is x s = refusal_at bytes e ending.BadHead (err_is e _ (Err e) refl s) (inr (h, rest, x, sym is), tt)
+sized_err_at bytes h rest e framing.NoLength is x s = refusal_at bytes e ending.NoLength (err_is e _ (Err e) refl s) ((h, rest, x, sym is), tt)
+sized_err_at bytes h rest e (framing.TooLong n) is x s = refusal_at bytes e (ending.BodyTooLong n) (err_is e _ (Err e) refl s) ((h, rest, x, sym is), tt)
+
+-- a head that says no fit length stops the reader
+pub sized_err : (left : Option (List ℕ)) (before now : ℕ) (w : WindowValue) (s : Seen) (e : Ending) → HasShown w.ahead s → IsSized s.framing (Err e) → Stops left before now w e
+sized_err left before now w s e x h =
+    let r = sized_err_at w.ahead x.0 (drop s.len w.ahead) e s.framing x.1.framing x.1.is_head h in
+    refused left before now w e r.0 r.1

@@ -1,0 +1,96 @@
+-- A whole request that stands in a window already.
+use Rattle.std.proofs.Common.{ℕ, ◌≡◌, ◌+◌, ◌≤◌, List, ◌∷◌, ◌++◌, Option, Some, None, Result, Ok, Err, IsOk, IfSome, refl, sym, ap, ◌∙◌, subst, arith, length, drop}
+use Rattle.std.proofs.lemmas.List.{length-append, length-drop}
+use Rattle.std.proofs.lemmas.List.Elements.{Contains-append_left, Contains-append_right}
+use Rattle.httparse.specs.Ascii.{space}
+use Rattle.httparse.specs.Grammar.{LineEnd, crlf, lf, print_end, print_blank, print_version, print_section, RequestHead, print_request}
+use Rattle.farm_io.specs.Lines.{HasFeed, line_feed}
+use Rattle.http_door.specs.declared.heads.Seen.{Seen}
+use Rattle.http_door.specs.declared.fields.Framing.{Framing}
+use Rattle.http_door.specs.declared.fields.Framing.TheVariants as framing
+use Rattle.http_door.specs.declared.ending.Ending.{Ending}
+use Rattle.http_door.specs.declared.ending.Ending.TheVariants as end
+use Rattle.http_door.specs.Heads.{framing_of}
+use Rattle.http_door.specs.Requests.{HoldsRequest, EndsAs, IsRefusal, IsOfBytes}
+use Rattle.http_door.specs.Finding.{HasShown, IsLooked, IsSized}
+use Rattle.http_door.specs.ReaderValue.{ReaderValue, IsReadable}
+use Rattle.http_door.proofs.Cutting.{head_unique, sized_same, request_apart}
+use Rattle.http_door.proofs.Findings.{sized_err_at, no_ok}
+
+line_end_feed : (e : LineEnd) → HasFeed (print_end e)
+line_end_feed crlf = (1, omega arith, refl)
+line_end_feed lf = (0, omega arith, refl)
+
+head_feed : (h : RequestHead) → HasFeed (print_request h)
+unfolding print_request
+head_feed h =
+    let front : List ℕ = print_blank h.blank ++ h.method ++ space ∷ h.target ++ space ∷ print_version h.minor in
+    Contains-append_left (front ++ print_end h.line_end) (print_section h.fields h.last) line_feed
+    (Contains-append_right front (print_end h.line_end) line_feed (line_end_feed h.line_end))
+
+-- a whole request has a line feed
+request_feed : (bytes : List ℕ) → HoldsRequest bytes → HasFeed bytes
+request_feed bytes (r, rest, x) =
+    subst HasFeed (sym x.is_head.reads.1) (Contains-append_left (print_request x.head) (r.body ++ rest) line_feed (head_feed x.head))
+
+refusal_bytes : (e : Ending) → IsRefusal e → IsOfBytes e
+refusal_bytes end.End h = absurd h
+refusal_bytes end.Cut h = absurd h
+refusal_bytes end.BadHead h = tt
+refusal_bytes (end.HeadTooLong n) h = tt
+refusal_bytes (end.BodyTooLong n) h = tt
+refusal_bytes end.NoLength h = tt
+refusal_bytes end.ReadFault h = absurd h
+refusal_bytes end.InputLimit h = absurd h
+refusal_bytes end.NoMemory h = absurd h
+
+-- it is not refused
+pub held_refused : (bytes : List ℕ) (e : Ending) → EndsAs e bytes → IsRefusal e → HoldsRequest bytes → ⊥
+held_refused bytes e h k (r, rest, x) = request_apart bytes r rest e x (refusal_bytes e k) h
+
+-- its head is found
+pub held_found : (bytes : List ℕ) (r : Result Seen Ending) → IsLooked bytes (Some r) → HoldsRequest bytes → IsOk r
+held_found bytes (Ok s) h q = refl
+held_found bytes (Err e) h q = absurd (held_refused bytes e h.0 h.1 q)
+
+pub held_looked : (bytes : List ℕ) → (HasFeed bytes → IsLooked bytes None) → HoldsRequest bytes → ⊥
+held_looked bytes h q = (h (request_feed bytes q)).none q.2.head (q.0.body ++ q.1) q.2.is_head.reads
+
+-- its head says a length that fits
+pub held_sized : (bytes : List ℕ) (s : Seen) (e : Ending) → HasShown bytes s → IsSized s.framing (Err e) → HoldsRequest bytes → ⊥
+held_sized bytes s e x h q =
+    let r = sized_err_at bytes x.0 (drop s.len bytes) e s.framing x.1.framing x.1.is_head h in
+    held_refused bytes e r.0 r.1 q
+
+sized_ok : (f : Framing) (n : ℕ) → IsSized f (Ok n) → f ≡ framing.Sized n
+sized_ok (framing.Sized m) n h = cc
+sized_ok framing.BadLength n h = absurd (no_ok n end.BadHead (Ok n) h refl)
+sized_ok framing.NoLength n h = absurd (no_ok n end.NoLength (Ok n) h refl)
+sized_ok (framing.TooLong m) n h = absurd (no_ok n (end.BodyTooLong m) (Ok n) h refl)
+
+-- its body stands there too
+pub held_body : (bytes : List ℕ) (s : Seen) (n : ℕ) → HasShown bytes s → IsSized s.framing (Ok n) → HoldsRequest bytes → s.len + n ≤ length bytes
+held_body bytes s n (h, x) f (r, rest, y) =
+    let same = head_unique bytes y.head h (r.body ++ rest) (drop s.len bytes) y.is_head x.is_head in
+    let says : framing_of h ≡ framing.Sized n = sym x.framing ∙ sized_ok s.framing n f in
+    let size : length r.body ≡ n = sized_same (length r.body) n (sym y.framing ∙ ap framing_of same.0 ∙ says) in
+    omega (arith, size, ap length same.1, length-append r.body rest, length-drop s.len bytes, x.within)
+
+held_ended : (bytes : List ℕ) (e : Ending) → EndsAs e bytes → HoldsRequest bytes → e ≡ end.NoMemory
+held_ended bytes end.End h (r, rest, x) = absurd (request_apart bytes r rest end.End x tt h)
+held_ended bytes end.Cut h (r, rest, x) = absurd (request_apart bytes r rest end.Cut x tt h)
+held_ended bytes end.BadHead h (r, rest, x) = absurd (request_apart bytes r rest end.BadHead x tt h)
+held_ended bytes (end.HeadTooLong n) h (r, rest, x) = absurd (request_apart bytes r rest (end.HeadTooLong n) x tt h)
+held_ended bytes (end.BodyTooLong n) h (r, rest, x) = absurd (request_apart bytes r rest (end.BodyTooLong n) x tt h)
+held_ended bytes end.NoLength h (r, rest, x) = absurd (request_apart bytes r rest end.NoLength x tt h)
+held_ended bytes end.ReadFault h (r, rest, x) = absurd (request_apart bytes r rest end.ReadFault x tt h)
+held_ended bytes end.InputLimit h (r, rest, x) = absurd (request_apart bytes r rest end.InputLimit x tt h)
+held_ended bytes end.NoMemory h q = refl
+
+held_option : (bytes : List ℕ) (o : Option Ending) → IfSome o (λ e. EndsAs e bytes) → HoldsRequest bytes → IfSome o (λ e. e ≡ end.NoMemory)
+held_option bytes None h q = tt
+held_option bytes (Some e) h q = held_ended bytes e h q
+
+-- a reader that holds one has ended for want of memory alone
+pub held_reader : (r : ReaderValue) → IsReadable r → HoldsRequest r.ahead → IfSome r.ended (λ e. e ≡ end.NoMemory)
+held_reader r h q = held_option r.ahead r.ended h.ends q

@@ -1,0 +1,11 @@
+pub mod Fields
+pub mod Heads
+pub mod Requests
+pub mod WindowValue
+pub mod WindowShape
+pub mod Finding
+pub mod ReaderValue
+pub mod ReaderShape
+pub mod Reading
+pub mod Refusals
+pub mod Responses

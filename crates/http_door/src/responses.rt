@@ -1,0 +1,75 @@
+ghost use Rattle.std.specs.Prelude.{◌≡◌, ◌++◌, ℕ, codes, length, take, IfOk, OnOk, IfErr, string_bytes};
+ghost use Rattle.std.specs.Fmt.{decimal};
+ghost use Rattle.std.specs.Io.KnownBytes.{Appends};
+ghost use Rattle.http_door.specs.Responses.{phrase_of, head_lines, head_text, response_text, Writes, HasCauseWritten};
+
+use farm_io::{PutEnd, Sink};
+use farm_kinds::NoMemory;
+use http::StatusCode;
+use std::alloc::{AllocError, Global};
+
+/// Why a response was not written whole.
+#[derive(Clone, Copy, Debug, PartialEq, Eq)]
+pub enum ResponseFault {
+    /// The sink failed, and perhaps a front of the response was put.
+    WriteFault,
+    /// No memory was left, and nothing was put.
+    NoMemory,
+}
+
+/// The reason phrase of a status (RFC 9112, section 4), empty where the crate `http` has none.
+fn phrase(status: &StatusCode) -> &'static str
+    ensures { result.now ≡ phrase_of status.now }
+{
+    match status.canonical_reason() {
+        Some(phrase) => phrase,
+        None => "",
+    }
+}
+
+/// The head of a response with this code and phrase.
+fn write_lines(alloc: Global, code: u16, phrase: &str, len: usize) -> Result<String, AllocError>
+    ensures { IfOk result (λ text. string_bytes text ≡ head_lines code phrase.now len) }
+{
+    format!(in alloc;
+        "HTTP/1.1 {code} {phrase}\r\ncontent-length: {len}\r\ncontent-type: application/json\r\n\r\n"
+    )
+}
+
+/// The head of a response with a body of so many bytes.
+fn write_head(alloc: Global, status: &StatusCode, len: usize) -> Result<String, AllocError>
+    ensures { IfOk result (λ text. string_bytes text ≡ head_text status.now len) }
+{
+    write_lines(alloc, status.as_u16(), phrase(status), len)
+}
+
+/// Puts a response: the status line, a line each for `content-length` and `content-type`, an empty line and
+/// the body, which is to be JSON.
+pub fn write_response<K: Sink>(
+    alloc: Global,
+    sink: &mut K,
+    status: StatusCode,
+    body: &[u8],
+) -> Result<(), ResponseFault>
+    ensures writes { Writes (K.held sink.old) (K.held sink.new) (response_text status body.now) result }
+    ensures cause { HasCauseWritten (K.faults sink.old) (K.faults sink.new) result }
+{
+    match write_head(alloc, &status, body.len()) {
+        Err(_) => Err(ResponseFault::NoMemory),
+        Ok(head) => put_two(sink, head.as_bytes(), body),
+    }
+}
+
+/// Puts two pieces, one behind the other.
+fn put_two<K: Sink>(sink: &mut K, first: &[u8], second: &[u8]) -> Result<(), ResponseFault>
+    ensures writes { Writes (K.held sink.old) (K.held sink.new) (first.now ++ second.now) result }
+    ensures cause { HasCauseWritten (K.faults sink.old) (K.faults sink.new) result }
+{
+    match sink.put(first) {
+        PutEnd::Failed => Err(ResponseFault::WriteFault),
+        PutEnd::Done => match sink.put(second) {
+            PutEnd::Failed => Err(ResponseFault::WriteFault),
+            PutEnd::Done => Ok(()),
+        },
+    }
+}
