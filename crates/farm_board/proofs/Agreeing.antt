@@ -30,7 +30,7 @@ use Rattle.farm_board.specs.Histories.{IsReply}
 
 -- Kinds that count as equal are equal
 
-equal_kinds : (a b : Kind) → same_kind a b ≡ true → a ≡ b
+pub equal_kinds : (a b : Kind) → same_kind a b ≡ true → a ≡ b
 equal_kinds a b e = same_place a b (eqb-true (place_of a) (place_of b) e)
 
 one_value : (c : Option TestCase) (a b : Kind) → is_value_of c a ≡ true → is_value_of c b ≡ true → a ≡ b

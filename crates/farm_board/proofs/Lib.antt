@@ -8,4 +8,6 @@ pub mod Ends
 pub mod Passes
 pub mod Trusts
 pub mod Agreeing
+pub mod HostCalls
 pub mod Callers
+pub mod Sending

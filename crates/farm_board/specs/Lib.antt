@@ -2,6 +2,7 @@ pub mod BoardState
 pub mod Histories
 pub mod Passes
 pub mod Trusts
+pub mod Benches
 pub mod Views
 pub mod Rules
 pub mod Steps

@@ -40,7 +40,8 @@ abbrev pub DrawsTicket : {S : Type 0} → Step (Option S) → Me (Option S) View
 DrawsTicket step m found m' = m' ≡ (with_ticket m.0 found, m.1)
 
 -- where the turns served have come to the ticket, it is its turn
-abbrev pub LooksForTurn : {S : Type 0} → (S → BoardState) → Step (Option S) → Me (Option S) View → ℕ → Me (Option S) View → Type 0
+abbrev pub LooksForTurn : {S : Type 0} → (S → BoardState) → Step (Option S) → Me (Option S) View → ℕ
+    → Me (Option S) View → Type 0
 LooksForTurn state_of step m found m' =
     (m.0.ticket ≡ Some found → GetsTurn state_of m m') × (m.0.ticket ≢ Some found → m' ≡ m)
 

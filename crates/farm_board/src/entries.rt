@@ -62,7 +62,7 @@ impl History {
 
     /// Lets the farm answer the event, and notes the call. Where memory runs out, neither changes: a copy of the reply
     /// takes memory only where the event changes nothing.
-    pub(crate) fn note(&mut self, farm: &mut Farm, number: u64, event: &Event) -> Reply
+    pub fn note(&mut self, farm: &mut Farm, number: u64, event: &Event) -> Reply
         ensures { Noted farm.old self.old number event.now result farm.new self.new }
     {
         let Ok(noted) = copy_event(self.alloc, event) else {

@@ -7,11 +7,15 @@ mod calls;
 mod contents;
 mod copies;
 mod entries;
+mod local_bench;
 mod rule;
+#[cfg(test)]
+mod tests;
 mod trust;
 mod turn;
 mod view;
 
 pub use board::{Board, BoardOf, Pass, PassOf};
 pub use entries::{Call, History};
+pub use local_bench::LocalBench;
 pub use trust::{Admission, Anyone, Proved, Trust};
