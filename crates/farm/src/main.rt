@@ -5,10 +5,13 @@ use farm_cli::{Command, Exit, farm_main, read_command};
 use farm_io::{ReadSource, WriteSink};
 use farm_kinds::Task;
 use farm_tree::DiskTree;
+use judgehost::AlwaysOn;
 use parallel_judge::Progress;
 use std::env::{Env, FillError};
 use std::io::IsTerminal;
 use std::process::ExitCode;
+use std::sync::Wait;
+use std::thread::Threads;
 use std::time::{Duration, Instant};
 use std::{env, io};
 
@@ -18,12 +21,16 @@ const NAME: &str = "farm";
 /// How long the line of progress stays as it is.
 const PAUSE_MILLISECONDS: u64 = 100;
 
-const USAGE: &str = "usage: farm judge FOLDER --hosts 0
+const USAGE: &str = "usage: farm judge FOLDER --hosts N [--journal]
        farm script [--config FILE] < LINES
 
 judge reads the contest in FOLDER (problems/NAME/ for each package,
-submissions.txt, submissions/, farm.json), runs its submissions, and writes a
-line NUMBER TEAM PROBLEM VERDICT for each. 0 hosts: farm runs them by itself.
+submissions.txt, submissions/, farm.json), runs its submissions on N hosts at
+the same time, and writes a line NUMBER TEAM PROBLEM VERDICT for each. N is from
+0 to 16; with 0 hosts farm runs them by itself. With --journal it then writes a
+line journal PASS LINE => REPLY for each call that was made of the farm: PASS is
+0 for farm itself, LINE is one of the lines below, and REPLY what is written for
+it.
 
 script reads event lines from standard input and writes a reply to each:
   problem NAME N                 a problem with N tests
@@ -54,7 +61,7 @@ fault, 6 no memory, 7 file fault, 9 input limit.
 
 fn main(rt: HostRuntime) -> ExitCode {
     let exit = match read_words(&rt) {
-        Ok(words) => run(&rt, words.as_slice()),
+        Ok(words) => run(&rt, &rt, words.as_slice()),
         Err(fault) => unread_words(&rt, &fault),
     };
     ExitCode::from(exit.status())
@@ -88,8 +95,8 @@ impl Env for OwnName<'_> {
     }
 }
 
-/// How far a judging is, as a line on standard error that is written over: where that is a terminal, and at most ten
-/// times a second.
+/// How many tests the program has run by itself, as a line on standard error that is written over: where that is a
+/// terminal, and at most ten times a second. Hosts tell nothing.
 #[derive(Drop)]
 struct Shown<'a> {
     rt: &'a HostRuntime,
@@ -147,15 +154,24 @@ fn read_words(rt: &HostRuntime) -> io::Result<Vec<String>> {
     Ok(words.collect::<Vec<String>>(rt.alloc())?)
 }
 
-/// Runs the command of the words over the files, standard input and output, and says how it ended where it is not
-/// done.
-fn run(rt: &HostRuntime, words: &[String]) -> Exit {
+/// Runs the command of the words over the files, standard input and output, with hosts as threads that `threads`
+/// starts, and says how it ended where it is not done.
+fn run(rt: &HostRuntime, threads: &(impl Threads + Wait + Sync), words: &[String]) -> Exit {
     let alloc = rt.alloc();
     let mut input = ReadSource::new(rt.reader());
     let mut out = WriteSink::new(io::writer(rt));
     let mut tree = DiskTree::new(rt, alloc);
     let mut progress = Shown::new(rt);
-    let exit = farm_main(alloc, words, &mut tree, &mut input, &mut out, &mut progress);
+    let exit = farm_main(
+        threads,
+        alloc,
+        words,
+        &mut tree,
+        &mut input,
+        &mut out,
+        &AlwaysOn,
+        &mut progress,
+    );
     explain(rt, exit, words);
     exit
 }
@@ -164,7 +180,7 @@ fn run(rt: &HostRuntime, words: &[String]) -> Exit {
 fn explain(rt: &HostRuntime, exit: Exit, words: &[String]) {
     // Where standard error cannot be written, nobody can be told.
     let _ = match read_command(words) {
-        Some(Command::Judge { folder }) => explain_judging(rt, exit, folder),
+        Some(Command::Judge { folder, .. }) => explain_judging(rt, exit, folder),
         Some(Command::Script { config }) => explain_script(rt, exit, config.unwrap_or("")),
         None => explain_words(rt, exit),
     };
@@ -183,10 +199,10 @@ fn explain_judging(rt: &HostRuntime, exit: Exit, folder: &str) -> io::Result<()>
             "farm: {folder} is no contest, for the reason on standard output; nothing was judged"
         ),
         Exit::WriteFault => rt.eprintln(
-            "farm: standard output could not be written (is the disk full, or its reader gone?); verdicts are missing",
+            "farm: standard output could not be written (is the disk full, or its reader gone?); lines are missing",
         ),
         Exit::Memory => rt.eprintln(
-            "farm: out of memory; no verdict was written. Run it again with more memory",
+            "farm: out of memory; nothing was written. Run it again with more memory, or with fewer hosts",
         ),
         Exit::TreeFault => eprintln!(rt;
             "farm: a file or folder of {folder} could not be read: check their permissions; nothing was judged"

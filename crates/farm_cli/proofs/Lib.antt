@@ -1,3 +1,5 @@
 pub mod WordLemmas
 pub mod Ends
 pub mod Judgings
+pub mod JournalLines
+pub mod Reports

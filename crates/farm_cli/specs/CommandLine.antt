@@ -1,25 +1,27 @@
 -- The words of the command line.
-use Rattle.std.specs.Prelude.{ℕ, List, [], ◌∷◌, ◌==◌, ◌&&◌, Bool, codes, length, take, drop, Option, Some, None, option_and_then, if◌then◌else◌}
-use Rattle.std.specs.Option.{option_map}
+use Rattle.std.specs.Prelude.{ℕ, List, [], ◌∷◌, ◌==◌, Bool, true, false, codes, length, take, drop, Option, Some, None, is_some, if◌then◌else◌}
+use Rattle.std.specs.Option.{option_map, option_and_then}
 use Rattle.std.specs.Str.{bytes_eq}
+use Rattle.farm_model.specs.Numbers.{number_of, at_most}
 use Rattle.farm_cli.specs.declared.words.Command.{Command}
 use Rattle.farm_cli.specs.declared.words.Command.TheVariants as command
+use Rattle.farm_cli.specs.declared.command_line.JudgeWords.{JudgeWords as ReadWords}
 
 -- what the words ask for
 pub data CommandValue : Type 0 where
   -- the lines of a script, by the settings of the file at this path, or by the standard ones
   Script : (config : Option (List ℕ)) → CommandValue
-  -- the contest in this folder
-  Judge : (folder : List ℕ) → CommandValue
+  -- the contest in this folder, by so many hosts, and whether a journal is asked for
+  Judge : (folder : List ℕ) → (hosts : ℕ) → (journal : Bool) → CommandValue
 
 abbrev pub command_value : Command → CommandValue
 command_value (command.Script config) = Script (option_map (λ path. path.now) config)
-command_value (command.Judge folder) = Judge folder.now
+command_value (command.Judge folder hosts journal) = Judge folder.now hosts.count journal
 
 -- the path of the file or the folder that a command reads, where it reads one
 abbrev pub file_of : CommandValue → Option (List ℕ)
 file_of (Script config) = config
-file_of (Judge folder) = Some folder
+file_of (Judge folder hosts journal) = Some folder
 
 -- an operand, and a value of an option, is not empty and does not begin with `-`
 abbrev pub value_of : List ℕ → Option (List ℕ)
@@ -50,26 +52,79 @@ script_of (word ∷ []) = option_map with_config (joined_config word)
 script_of (word ∷ path ∷ []) = option_map with_config (split_config word path)
 script_of words = None
 
--- `--hosts=0`
-abbrev pub is_joined_hosts : List ℕ → Bool
-is_joined_hosts word = bytes_eq word (codes "--hosts=0")
+-- what the words behind `judge` have said so far
+pub record JudgeWords : Type 0 where
+  pub folder : Option (List ℕ)
+  pub hosts : Option ℕ
+  -- the last word was `--hosts`, and the next one is how many
+  pub awaits_hosts : Bool
+  pub journal : Bool
 
--- `--hosts 0`
-abbrev pub is_split_hosts : List ℕ → List ℕ → Bool
-is_split_hosts word value = bytes_eq word (codes "--hosts") && bytes_eq value (codes "0")
+abbrev pub no_words : JudgeWords
+no_words = record { folder = None; hosts = None; awaits_hosts = false; journal = false }
 
--- the contest in the folder of this operand
-abbrev pub in_folder : List ℕ → Option CommandValue
-in_folder operand = option_map Judge (value_of operand)
+abbrev pub words_value : ReadWords → JudgeWords
+words_value words =
+    record {
+      folder = option_map (λ path. path.now) words.folder;
+      hosts = option_map (λ hosts. hosts.count) words.hosts;
+      awaits_hosts = words.awaits_hosts;
+      journal = words.journal;
+    }
 
--- what stands behind `judge`: the folder, and the number of hosts in one of two forms, in any order
+-- a contest is judged by at most 16 hosts
+abbrev pub host_limit : ℕ
+host_limit = 16
+
+abbrev pub host_count : List ℕ → Option ℕ
+host_count word = option_and_then (at_most host_limit) (number_of word)
+
+-- the folder, which is said once
+abbrev pub with_folder : JudgeWords → List ℕ → Option JudgeWords
+with_folder said word =
+    if is_some said.folder then None
+    else option_map (λ folder. record said { folder = Some folder }) (value_of word)
+
+-- the number of hosts, which is said once
+abbrev pub with_hosts : JudgeWords → List ℕ → Option JudgeWords
+with_hosts said word =
+    if is_some said.hosts then None
+    else option_map (λ hosts. record said { hosts = Some hosts; awaits_hosts = false }) (host_count word)
+
+-- `--journal`, which is said at most once
+abbrev pub with_journal : JudgeWords → Option JudgeWords
+with_journal said = if said.journal then None else Some (record said { journal = true })
+
+-- `--hosts=N`, by what stands behind the `=`, or else the folder
+abbrev pub with_joined : JudgeWords → List ℕ → Option (List ℕ) → Option JudgeWords
+with_joined said word (Some value) = with_hosts said value
+with_joined said word None = with_folder said word
+
+-- one word more
+abbrev pub with_word : JudgeWords → List ℕ → Option JudgeWords
+with_word said word =
+    if said.awaits_hosts then with_hosts said word
+    else if bytes_eq word (codes "--hosts") then Some (record said { awaits_hosts = true })
+    else if bytes_eq word (codes "--journal") then with_journal said
+    else with_joined said word (behind (codes "--hosts=") word)
+
+-- one word after the other
+abbrev pub with_words : JudgeWords → List (List ℕ) → Option JudgeWords
+with_words said [] = Some said
+with_words said (word ∷ words) = option_and_then (λ more. with_words more words) (with_word said word)
+
+-- the contest, where its folder and how many hosts judge it are known
+abbrev pub judge_command : Option (List ℕ) → Option ℕ → Bool → Option CommandValue
+judge_command (Some folder) (Some hosts) journal = Some (Judge folder hosts journal)
+judge_command folder hosts journal = None
+
+-- all that is to be said was said
+abbrev pub said_command : JudgeWords → Option CommandValue
+said_command said = if said.awaits_hosts then None else judge_command said.folder said.hosts said.journal
+
+-- what stands behind `judge`, in any order: the folder, `--hosts N` or `--hosts=N`, and perhaps `--journal`
 abbrev pub judge_of : List (List ℕ) → Option CommandValue
-judge_of (first ∷ second ∷ []) =
-    if is_joined_hosts first then in_folder second else if is_joined_hosts second then in_folder first else None
-judge_of (first ∷ second ∷ third ∷ []) =
-    if is_split_hosts first second then in_folder third
-    else if is_split_hosts second third then in_folder first else None
-judge_of words = None
+judge_of words = option_and_then said_command (with_words no_words words)
 
 -- what stands behind a command
 abbrev pub command_with : List ℕ → List (List ℕ) → Option CommandValue

@@ -1,13 +1,17 @@
 -- How the judging of a contest ends.
-use Rattle.std.specs.Prelude.{◌≡◌, ◌⊎◌, ℕ, List, ◌∷◌, ◌++◌, [], codes, Option, Result, Ok, Err, IfSome, take}
+use Rattle.std.specs.Prelude.{◌≡◌, ◌⊎◌, ℕ, List, ◌∷◌, ◌++◌, [], Bool, true, false, codes, Option, Result, Ok, Err, IfSome, take}
+use Rattle.std.specs.Fmt.{decimal}
+use Rattle.std.specs.List.{flat_map}
 use Rattle.std.specs.Option.{IsSomeAnd}
 use Rattle.std.specs.Io.KnownBytes.{Appends}
 use Rattle.farm_tree.specs.declared.reads.TreeFile.{TreeFile}
-use Rattle.farm_model.specs.Texts.{table_text}
+use Rattle.farm_model.specs.Texts.{event_text, reply_text, table_text}
+use Rattle.farm_board.specs.declared.entries.Call.{Call}
 use Rattle.contest_folder.specs.declared.faults.ContestFault.{ContestFault}
 use Rattle.contest_folder.specs.RosterValue.{RosterValue}
 use Rattle.contest_folder.specs.Contest.{contest_of}
 use Rattle.contest_folder.specs.FaultTexts.{contest_fault_text}
+use Rattle.parallel_judge.specs.Journal.{IsJournal}
 use Rattle.parallel_judge.specs.Table.{table_rows}
 use Rattle.farm_cli.specs.declared.exit.Exit.{Exit}
 use Rattle.farm_cli.specs.declared.exit.Exit.TheVariants as exit
@@ -20,11 +24,28 @@ ContestIs files folder contest = IfSome files (λ held. contest_of held folder �
 abbrev pub contest_line : ContestFault → List ℕ
 contest_line fault = codes "bad contest: " ++ contest_fault_text fault ++ 10 ∷ []
 
--- the table of the folder's contest, whose verdicts are what running every test in rank order on one thread gives
-pub record IsTable (files : Option (List TreeFile)) (folder text : List ℕ) : Type 0 where
+-- `journal PASS LINE => REPLY`
+abbrev pub journal_line : Call → List ℕ
+journal_line call =
+    codes "journal " ++ decimal call.number ++ codes " " ++ event_text call.event ++ codes " => "
+    ++ reply_text call.reply
+
+abbrev pub journal_text : List Call → List ℕ
+journal_text calls = flat_map journal_line calls
+
+-- the table, whose verdicts are what running every test in rank order on one thread gives, and behind it, where a
+-- journal is asked for, a line for each call of one
+abbrev pub IsReport : RosterValue → ℕ → Bool → List ℕ → Type 0
+IsReport roster hosts false text = text ≡ table_text (table_rows roster)
+IsReport roster hosts true text =
+    (calls : List Call) × IsJournal roster hosts calls × (text ≡ table_text (table_rows roster) ++ journal_text calls)
+
+-- the report of the folder's contest
+pub record IsJudged (files : Option (List TreeFile)) (folder : List ℕ) (hosts : ℕ) (journal : Bool) (text : List ℕ)
+    : Type 0 where
   pub roster : RosterValue
   pub read : ContestIs files folder (Ok roster)
-  pub is : text ≡ table_text (table_rows roster)
+  pub is : IsReport roster hosts journal text
 
 -- the line of the fault that the folder has
 pub record IsFaultLine (files : Option (List TreeFile)) (folder text : List ℕ) : Type 0 where
@@ -45,17 +66,34 @@ pub record WritesFront (IsText : List ℕ → Type 0) (held held' : Option (List
   pub count : ℕ
   pub wrote : Appends held held' (take count text)
 
--- How a contest's judging ends. `unwritten` says that the output is as it was.
-abbrev pub JudgeEnds : Option (List TreeFile) → List ℕ → Option (List ℕ) → Option (List ℕ) → Type 0 → Exit → Type 0
-JudgeEnds files folder held held' unwritten exit.Done = Writes (IsTable files folder) held held'
-JudgeEnds files folder held held' unwritten exit.Usage = ⊥
-JudgeEnds files folder held held' unwritten exit.BadContest = Writes (IsFaultLine files folder) held held'
-JudgeEnds files folder held held' unwritten exit.ReadFault = ⊥
-JudgeEnds files folder held held' unwritten exit.WriteFault =
-    WritesFront (λ text. IsTable files folder text ⊎ IsFaultLine files folder text) held held'
-JudgeEnds files folder held held' unwritten exit.Memory = unwritten
-JudgeEnds files folder held held' unwritten exit.TreeFault = unwritten
-JudgeEnds files folder held held' unwritten exit.InputLimit = ⊥
+-- what is written of a folder: the report of its contest, or the line of its fault
+abbrev pub IsWritten : Option (List TreeFile) → List ℕ → ℕ → Bool → List ℕ → Type 0
+IsWritten files folder hosts journal text = IsJudged files folder hosts journal text ⊎ IsFaultLine files folder text
+
+-- How it ends where the folder is no contest, or could not be read. `unwritten` says that the output is as it was.
+abbrev pub NoContestEnds : Option (List TreeFile) → List ℕ → Option (List ℕ) → Option (List ℕ) → Type 0 → Exit → Type 0
+NoContestEnds files folder held held' unwritten exit.Done = ⊥
+NoContestEnds files folder held held' unwritten exit.Usage = ⊥
+NoContestEnds files folder held held' unwritten exit.BadContest = Writes (IsFaultLine files folder) held held'
+NoContestEnds files folder held held' unwritten exit.ReadFault = ⊥
+NoContestEnds files folder held held' unwritten exit.WriteFault = WritesFront (IsFaultLine files folder) held held'
+NoContestEnds files folder held held' unwritten exit.Memory = unwritten
+NoContestEnds files folder held held' unwritten exit.TreeFault = unwritten
+NoContestEnds files folder held held' unwritten exit.InputLimit = ⊥
+
+-- how a contest's judging ends
+abbrev pub JudgeEnds
+    : Option (List TreeFile) → List ℕ → ℕ → Bool → Option (List ℕ) → Option (List ℕ) → Type 0 → Exit → Type 0
+JudgeEnds files folder hosts journal held held' unwritten exit.Done =
+    Writes (IsJudged files folder hosts journal) held held'
+JudgeEnds files folder hosts journal held held' unwritten exit.Usage = ⊥
+JudgeEnds files folder hosts journal held held' unwritten exit.BadContest = Writes (IsFaultLine files folder) held held'
+JudgeEnds files folder hosts journal held held' unwritten exit.ReadFault = ⊥
+JudgeEnds files folder hosts journal held held' unwritten exit.WriteFault =
+    WritesFront (IsWritten files folder hosts journal) held held'
+JudgeEnds files folder hosts journal held held' unwritten exit.Memory = unwritten
+JudgeEnds files folder hosts journal held held' unwritten exit.TreeFault = unwritten
+JudgeEnds files folder hosts journal held held' unwritten exit.InputLimit = ⊥
 
 -- the tree tells that the folder is a contest
 abbrev pub HasContest : Option (List TreeFile) → List ℕ → Type 0

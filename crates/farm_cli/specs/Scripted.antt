@@ -108,8 +108,8 @@ ScriptEnds files (Some path) old new unread unwritten e =
 
 abbrev pub CommandEnds : Option (List TreeFile) → CommandValue → Streams → Streams → Type 0 → Type 0 → Exit → Type 0
 CommandEnds files (Script config) old new unread unwritten e = ScriptEnds files config old new unread unwritten e
-CommandEnds files (Judge folder) old new unread unwritten e =
-    unread × JudgeEnds files folder old.held new.held unwritten e
+CommandEnds files (Judge folder hosts journal) old new unread unwritten e =
+    unread × JudgeEnds files folder hosts journal old.held new.held unwritten e
 
 -- there is no file of settings, or the tree tells one that gives settings
 abbrev pub HasSettings : Option (List TreeFile) → Option (List ℕ) → Type 0
@@ -124,4 +124,4 @@ ScriptIsDone files config left faultless e =
 
 abbrev pub CommandIsDone : Option (List TreeFile) → CommandValue → Option (List ℕ) → Type 0 → Exit → Type 0
 CommandIsDone files (Script config) left faultless e = ScriptIsDone files config left faultless e
-CommandIsDone files (Judge folder) left faultless e = JudgeIsDone files folder faultless e
+CommandIsDone files (Judge folder hosts journal) left faultless e = JudgeIsDone files folder faultless e

@@ -1,9 +1,12 @@
 ghost use Rattle.std.specs.Prelude.{◌≡◌, ◌∷◌, [], map, option_map, string_bytes};
-ghost use Rattle.farm_cli.specs.CommandLine.{command_value, command_of, script_of, value_of, behind, joined_config, split_config, with_config, command_with, judge_of, is_split_hosts, in_folder};
+ghost use Rattle.farm_cli.specs.CommandLine.{command_value, command_of, script_of, value_of, behind, joined_config, split_config, with_config, command_with, judge_of, words_value, no_words, with_words, with_word, with_hosts, with_journal, with_folder, said_command, host_count};
 
+use crate::host_count::HostCount;
 use crate::words::Command;
+use command_text::read_number;
 
 /// Reads the words of the command line. None where they are no command.
+#[tactic(auto, using(crate::proofs::WordLemmas::few_words))]
 pub fn read_command(words: &[String]) -> Option<Command>
     ensures { option_map command_value result ≡ command_of (map string_bytes words.now) }
 {
@@ -80,52 +83,127 @@ fn value_of(word: &str) -> Option<&str>
     Some(word)
 }
 
+/// What the words behind `judge` have said so far.
+#[derive(Clone, Copy)]
+struct JudgeWords<'a> {
+    folder: Option<&'a str>,
+    hosts: Option<HostCount>,
+    /// Whether the last word was `--hosts`, so that the next one is how many.
+    awaits_hosts: bool,
+    journal: bool,
+}
+
 /// Reads what stands behind `judge`.
 fn judge_command(words: &[String]) -> Option<Command>
     ensures { option_map command_value result ≡ judge_of (map string_bytes words.now) }
 {
-    match words {
-        [first, second] => judge_joined(first.as_str(), second.as_str()),
-        [first, second, third] => judge_split(first.as_str(), second.as_str(), third.as_str()),
-        _ => None,
+    JudgeWords::none().with_words(words)?.command()
+}
+
+impl<'a> JudgeWords<'a> {
+    fn none() -> JudgeWords<'a>
+        ensures { words_value result ≡ no_words }
+    {
+        JudgeWords {
+            folder: None,
+            hosts: None,
+            awaits_hosts: false,
+            journal: false,
+        }
+    }
+
+    /// What is said with these words more. None where one of them may not stand there.
+    fn with_words(self, words: &'a [String]) -> Option<JudgeWords<'a>>
+        ensures { option_map words_value result ≡ with_words (words_value self.entry) (map string_bytes words.now) }
+    {
+        match words {
+            [] => Some(self),
+            [word, rest @ ..] => self.with_word(word.as_str())?.with_words(rest),
+        }
+    }
+
+    /// What is said with one word more. None where it may not stand there.
+    fn with_word(self, word: &'a str) -> Option<JudgeWords<'a>>
+        ensures { option_map words_value result ≡ with_word (words_value self.entry) word.now }
+    {
+        if self.awaits_hosts {
+            return self.with_hosts(word);
+        }
+        if word == "--hosts" {
+            return Some(JudgeWords {
+                awaits_hosts: true,
+                ..self
+            });
+        }
+        if word == "--journal" {
+            return self.with_journal();
+        }
+        match behind(word, "--hosts=") {
+            Some(value) => self.with_hosts(value),
+            None => self.with_folder(word),
+        }
+    }
+
+    /// The number of hosts is said once.
+    fn with_hosts(self, word: &str) -> Option<JudgeWords<'a>>
+        ensures { option_map words_value result ≡ with_hosts (words_value self.entry) word.now }
+    {
+        if self.hosts.is_some() {
+            return None;
+        }
+        let hosts = host_count(word)?;
+        Some(JudgeWords {
+            hosts: Some(hosts),
+            awaits_hosts: false,
+            ..self
+        })
+    }
+
+    /// `--journal` is said at most once.
+    fn with_journal(self) -> Option<JudgeWords<'a>>
+        ensures { option_map words_value result ≡ with_journal (words_value self.entry) }
+    {
+        if self.journal {
+            return None;
+        }
+        Some(JudgeWords {
+            journal: true,
+            ..self
+        })
+    }
+
+    /// The folder is said once.
+    fn with_folder(self, word: &'a str) -> Option<JudgeWords<'a>>
+        ensures { option_map words_value result ≡ with_folder (words_value self.entry) word.now }
+    {
+        if self.folder.is_some() {
+            return None;
+        }
+        let folder = value_of(word)?;
+        Some(JudgeWords {
+            folder: Some(folder),
+            ..self
+        })
+    }
+
+    /// What was asked for, where all that is to be said was said.
+    fn command(self) -> Option<Command<'a>>
+        ensures { option_map command_value result ≡ said_command (words_value self.entry) }
+    {
+        if self.awaits_hosts {
+            return None;
+        }
+        Some(Command::Judge {
+            folder: self.folder?,
+            hosts: self.hosts?,
+            journal: self.journal,
+        })
     }
 }
 
-fn judge_joined<'a>(first: &'a str, second: &'a str) -> Option<Command<'a>>
-    ensures { option_map command_value result ≡ judge_of (first.now ∷ second.now ∷ []) }
+/// How many hosts a value asks for: a number without a sign or leading zeros.
+fn host_count(word: &str) -> Option<HostCount>
+    ensures { option_map (λ hosts. hosts.count) result ≡ host_count word.now }
 {
-    if first == "--hosts=0" {
-        return in_folder(second);
-    }
-    if second == "--hosts=0" {
-        return in_folder(first);
-    }
-    None
-}
-
-fn judge_split<'a>(first: &'a str, second: &'a str, third: &'a str) -> Option<Command<'a>>
-    ensures { option_map command_value result ≡ judge_of (first.now ∷ second.now ∷ third.now ∷ []) }
-{
-    if is_split_hosts(first, second) {
-        return in_folder(third);
-    }
-    if is_split_hosts(second, third) {
-        return in_folder(first);
-    }
-    None
-}
-
-/// Whether these words are `--hosts 0`.
-fn is_split_hosts(word: &str, value: &str) -> bool
-    ensures { result ≡ is_split_hosts word.now value.now }
-{
-    word == "--hosts" && value == "0"
-}
-
-/// The contest in the folder of this operand.
-fn in_folder(operand: &str) -> Option<Command>
-    ensures { option_map command_value result ≡ in_folder operand.now }
-{
-    let folder = value_of(operand)?;
-    Some(Command::Judge { folder })
+    HostCount::new(read_number(word.as_bytes())?)
 }

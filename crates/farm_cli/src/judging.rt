@@ -1,31 +1,39 @@
-ghost use Rattle.std.specs.Prelude.{◌≡◌, ◌≢◌, ◌⊎◌, ℕ, Option, List, IfOk, Ok, Err};
-ghost use Rattle.farm_model.specs.Texts.{table_text};
-ghost use Rattle.parallel_judge.specs.Table.{table_rows};
+ghost use Rattle.std.specs.Prelude.{◌≡◌, ◌≢◌, ◌⊎◌, ◌≤◌, ℕ, Option, List, IfOk, Ok, Err};
 ghost use Rattle.farm_io.specs.Streams.{Rose};
 ghost use Rattle.farm_tree.specs.declared.reads.TreeFile.{TreeFile};
 ghost use Rattle.contest_folder.specs.Telling.{IsStop};
-ghost use Rattle.farm_cli.specs.Judged.{ContestIs, HasContest, JudgeEnds, contest_line};
+ghost use Rattle.farm_cli.specs.Judged.{ContestIs, HasContest, IsReport, NoContestEnds, JudgeEnds, contest_line};
 
 use crate::exit::Exit;
+use crate::journal::push_journal;
 use command_text::write_table;
 use contest_folder::{ContestFault, Roster, push_contest_fault, read_contest};
 use farm_io::{PutEnd, Sink};
-use farm_kinds::{NoMemory, Text};
+use farm_kinds::NoMemory;
 use farm_tree::Tree;
+use judgehost::Gate;
 use parallel_judge::{Progress, judge_all};
 use std::alloc::Global;
+use std::sync::Wait;
+use std::thread::Threads;
 
-/// `farm judge`: judges the contest in the folder, and writes its table.
-pub fn judge<T: Tree, K: Sink, P: Progress>(
+/// `farm judge`: judges the contest in the folder by so many host threads, and writes its table, and behind it the
+/// journal where one is asked for.
+pub fn judge<R: Threads + Wait + Sync, T: Tree, K: Sink, G: Gate + Sync, P: Progress>(
+    rt: &R,
     alloc: Global,
     folder: &str,
+    hosts: u16,
+    journal: bool,
     tree: &mut T,
     out: &mut K,
+    gate: &G,
     progress: &mut P,
 ) -> Exit
+    requires hosts { hosts ≤ 16 }
     ensures command { result ≢ Exit.Usage }
     ensures read_fault { result ≢ Exit.ReadFault }
-    ensures ends { JudgeEnds (T.files tree.old) folder.now (K.held out.old) (K.held out.new) (out.new ≡ out.old) result }
+    ensures ends { JudgeEnds (T.files tree.old) folder.now hosts journal (K.held out.old) (K.held out.new) (out.new ≡ out.old) result }
     ensures files { T.files tree.new ≡ T.files tree.old }
     ensures write_fault { result ≡ Exit.WriteFault → Rose (K.faults out.old) (K.faults out.new) }
     ensures tree_fault { result ≡ Exit.TreeFault → Rose (T.faults tree.old) (T.faults tree.new) }
@@ -34,24 +42,29 @@ pub fn judge<T: Tree, K: Sink, P: Progress>(
         → (result ≡ Exit.Done) ⊎ (result ≡ Exit.Memory) }
 {
     match read_contest(alloc, tree, folder) {
-        Ok(roster) => judge_roster(alloc, &roster, out, progress),
+        Ok(roster) => judge_roster(rt, alloc, &roster, hosts, journal, out, gate, progress),
         Err(fault) => refuse(alloc, &fault, out),
     }
 }
 
-/// Judges a contest, and writes its table.
-fn judge_roster<K: Sink, P: Progress>(
+/// Judges a contest, and writes what is reported of it.
+fn judge_roster<R: Threads + Wait + Sync, K: Sink, G: Gate + Sync, P: Progress>(
+    rt: &R,
     alloc: Global,
     roster: &Roster,
+    hosts: u16,
+    journal: bool,
     out: &mut K,
+    gate: &G,
     progress: &mut P,
 ) -> Exit
+    requires hosts { hosts ≤ 16 }
     ensures ends { (files : Option (List TreeFile)) (folder : List ℕ) → ContestIs files folder (Ok roster.now)
-        → JudgeEnds files folder (K.held out.old) (K.held out.new) (out.new ≡ out.old) result }
+        → JudgeEnds files folder hosts journal (K.held out.old) (K.held out.new) (out.new ≡ out.old) result }
     ensures write_fault { result ≡ Exit.WriteFault → Rose (K.faults out.old) (K.faults out.new) }
     ensures all { (result ≡ Exit.Done) ⊎ (result ≡ Exit.WriteFault) ⊎ (result ≡ Exit.Memory) }
 {
-    match table_of(alloc, roster, progress) {
+    match report(rt, alloc, roster, hosts, journal, gate, progress) {
         Ok(text) => match out.put(text.as_slice()) {
             PutEnd::Done => Exit::Done,
             PutEnd::Failed => Exit::WriteFault,
@@ -60,12 +73,27 @@ fn judge_roster<K: Sink, P: Progress>(
     }
 }
 
-/// The text of a contest's table.
-fn table_of<P: Progress>(alloc: Global, roster: &Roster, progress: &mut P) -> Result<Text, NoMemory>
-    ensures { IfOk result (λ text. text ≡ table_text (table_rows roster.now)) }
+/// The text of a contest's table, and behind it the journal where one is asked for.
+#[tactic(auto, using(crate::proofs::Reports::table_alone, crate::proofs::Reports::table_and_journal))]
+fn report<R: Threads + Wait + Sync, G: Gate + Sync, P: Progress>(
+    rt: &R,
+    alloc: Global,
+    roster: &Roster,
+    hosts: u16,
+    journal: bool,
+    gate: &G,
+    progress: &mut P,
+) -> Result<Vec<u8>, NoMemory>
+    requires hosts { hosts ≤ 16 }
+    ensures { IfOk result (λ text. IsReport roster.now hosts journal text.items) }
 {
-    let rows = judge_all(alloc, roster, progress)?;
-    write_table(alloc, &rows)
+    let outcome = judge_all(rt, alloc, roster, hosts, gate, journal, progress)?;
+    let mut text = write_table(alloc, &outcome.table)?.into_vec();
+    let Some(history) = &outcome.history else {
+        return Ok(text);
+    };
+    push_journal(alloc, &mut text, history.as_slice())?;
+    Ok(text)
 }
 
 /// Ends where the folder is no contest, or could not be read.
@@ -76,7 +104,7 @@ fn refuse<K: Sink>(alloc: Global, fault: &ContestFault, out: &mut K) -> Exit
     ensures memory { fault.now ≡ ContestFault.NoMemory → result ≡ Exit.Memory }
     ensures write_fault { result ≡ Exit.WriteFault → Rose (K.faults out.old) (K.faults out.new) }
     ensures ends { (files : Option (List TreeFile)) (folder : List ℕ) → (¬ IsStop fault.now → ContestIs files folder (Err fault.now))
-        → JudgeEnds files folder (K.held out.old) (K.held out.new) (out.new ≡ out.old) result }
+        → NoContestEnds files folder (K.held out.old) (K.held out.new) (out.new ≡ out.old) result }
 {
     match fault {
         ContestFault::Tree => Exit::TreeFault,
@@ -88,7 +116,7 @@ fn refuse<K: Sink>(alloc: Global, fault: &ContestFault, out: &mut K) -> Exit
 /// Writes the line that says why the folder is no contest.
 fn write_fault<K: Sink>(alloc: Global, fault: &ContestFault, out: &mut K) -> Exit
     ensures ends { (files : Option (List TreeFile)) (folder : List ℕ) → ContestIs files folder (Err fault.now)
-        → JudgeEnds files folder (K.held out.old) (K.held out.new) (out.new ≡ out.old) result }
+        → NoContestEnds files folder (K.held out.old) (K.held out.new) (out.new ≡ out.old) result }
     ensures write_fault { result ≡ Exit.WriteFault → Rose (K.faults out.old) (K.faults out.new) }
     ensures all { (result ≡ Exit.BadContest) ⊎ (result ≡ Exit.WriteFault) ⊎ (result ≡ Exit.Memory) }
 {

@@ -4,6 +4,8 @@
 mod command_line;
 mod config;
 mod exit;
+mod host_count;
+mod journal;
 mod judging;
 #[cfg(test)]
 mod judging_tests;
@@ -18,5 +20,6 @@ mod words;
 
 pub use command_line::read_command;
 pub use exit::Exit;
+pub use host_count::HostCount;
 pub use top::farm_main;
 pub use words::Command;

@@ -4,17 +4,20 @@ use crate::{Exit, farm_main};
 use farm_io::{MemorySink, MemorySource, ReliableSink, ReliableSource};
 use farm_kinds::NoMemory;
 use farm_tree::{MemoryTree, ReliableTree, TreeFiles};
+use judgehost::AlwaysOn;
 use parallel_judge::Silent;
 use std::alloc::{AllocError, Global};
 use std::process::Abort;
+use std::sync::Wait;
 use std::test::Fail;
+use std::thread::Threads;
 
 /// How many bytes a sink of these tests holds.
 const ROOM: usize = 4_194_304;
 
 const SMALLEST: &[u8] = b"problem A 2\nsubmit A\nrecord 1 1 correct\nshow 1\n";
 
-fn words(alloc: Global, given: &[&str]) -> Result<Vec<String>, AllocError> {
+pub(crate) fn words(alloc: Global, given: &[&str]) -> Result<Vec<String>, AllocError> {
     let mut words = Vec::new(alloc);
     for word in given {
         words.push(String::from_str(alloc, word)?)?;
@@ -33,6 +36,7 @@ fn tree_of(alloc: Global, path: &str, text: &[u8]) -> Result<ReliableTree, NoMem
 
 /// What the words write for the input, where nothing fails, and how they end.
 fn run(
+    rt: &(impl Threads + Wait + Sync),
     alloc: Global,
     given: &[&str],
     tree: &mut ReliableTree,
@@ -42,30 +46,41 @@ fn run(
     let mut sink = ReliableSink::new(Vec::with_capacity(alloc, ROOM)?);
     let words = words(alloc, given)?;
     let exit = farm_main(
+        rt,
         alloc,
         words.as_slice(),
         tree,
         &mut source,
         &mut sink,
+        &AlwaysOn,
         &mut Silent,
     );
     Ok((exit, sink))
 }
 
 /// What `farm script` writes for the input, and how it ends; by the settings of this text unless it is empty.
-fn script(alloc: Global, settings: &[u8], input: &[u8]) -> Result<(Exit, ReliableSink), NoMemory> {
+fn script(
+    rt: &(impl Threads + Wait + Sync),
+    alloc: Global,
+    settings: &[u8],
+    input: &[u8],
+) -> Result<(Exit, ReliableSink), NoMemory> {
     let mut tree = tree_of(alloc, "farm.json", settings)?;
     if settings.is_empty() {
-        return Ok(run(alloc, &["farm", "script"], &mut tree, input)?);
+        return Ok(run(rt, alloc, &["farm", "script"], &mut tree, input)?);
     }
     let words = ["farm", "script", "--config", "farm.json"];
-    Ok(run(alloc, &words, &mut tree, input)?)
+    Ok(run(rt, alloc, &words, &mut tree, input)?)
 }
 
-fn check_rows(rt: &impl Abort, alloc: Global, rows: &[Row]) -> Result<(), Fail> {
+fn check_rows(
+    rt: &(impl Threads + Wait + Sync + Abort),
+    alloc: Global,
+    rows: &[Row],
+) -> Result<(), Fail> {
     for row in rows {
         let name = row.name;
-        let (exit, out) = script(alloc, row.settings, row.input)?;
+        let (exit, out) = script(rt, alloc, row.settings, row.input)?;
         assert_eq!(rt; exit, Exit::Done, "{name}");
         assert_eq!(rt; out.bytes(), row.output, "{name}");
     }
@@ -201,7 +216,7 @@ fn limits(rt: HostRuntime) -> Result<(), Fail> {
         let name = row.name;
         let input = text_of(alloc, &row.input, row.from, row.to)?;
         let output = text_of(alloc, &row.output, row.from, row.to)?;
-        let (_, out) = script(alloc, b"", input.as_slice())?;
+        let (_, out) = script(&rt, alloc, b"", input.as_slice())?;
         assert_eq!(rt; out.bytes(), output.as_slice(), "{name}");
     }
     Ok(())
@@ -279,7 +294,7 @@ fn limits_of_rejudgings(rt: HostRuntime) -> Result<(), Fail> {
         ),
     ];
     for (name, input, end) in &rows {
-        let (_, out) = script(alloc, b"", input.as_slice())?;
+        let (_, out) = script(&rt, alloc, b"", input.as_slice())?;
         assert!(rt; out.bytes().ends_with(end), "{name}");
     }
     Ok(())
@@ -289,7 +304,7 @@ fn limits_of_rejudgings(rt: HostRuntime) -> Result<(), Fail> {
 fn a_line_of_4097_letters_is_too_long(rt: HostRuntime) -> Result<(), Fail> {
     let mut input = vec![in rt.alloc(); b'a'; 4097]?;
     input.extend_from_slice(b"\nshow 1")?;
-    let (_, out) = script(rt.alloc(), b"", input.as_slice())?;
+    let (_, out) = script(&rt, rt.alloc(), b"", input.as_slice())?;
     assert_eq!(rt; out.bytes(), b"too-long 4097\nno-judging 1\n".as_slice());
     Ok(())
 }
@@ -297,12 +312,13 @@ fn a_line_of_4097_letters_is_too_long(rt: HostRuntime) -> Result<(), Fail> {
 #[test]
 fn other_words_are_no_command(rt: HostRuntime) -> Result<(), Fail> {
     let alloc = rt.alloc();
-    let lines: [&[&str]; 16] = [
+    let lines: [&[&str]; 17] = [
         &[],
         &["farm"],
         &["script"],
         &["farm", "serve"],
         &["farm", "Script"],
+        &["farm", "judge", "c"],
         &["farm", "script", "more"],
         &["farm", "script", ""],
         &["farm", "script", "--config"],
@@ -317,7 +333,7 @@ fn other_words_are_no_command(rt: HostRuntime) -> Result<(), Fail> {
     ];
     for line in lines {
         let mut tree = tree_of(alloc, "f", b"{}")?;
-        let (exit, out) = run(alloc, line, &mut tree, SMALLEST)?;
+        let (exit, out) = run(&rt, alloc, line, &mut tree, SMALLEST)?;
         assert_eq!(rt; exit, Exit::Usage, "at {line:?}");
         assert_eq!(rt; out.bytes(), b"".as_slice(), "at {line:?}");
     }
@@ -362,10 +378,15 @@ const BAD_SETTINGS: [(&[u8], &[u8]); 18] = [
 ];
 
 /// How the program ends by these settings, and what it writes.
-fn refused(alloc: Global, path: &str, settings: &[u8]) -> Result<(Exit, ReliableSink), NoMemory> {
+fn refused(
+    rt: &(impl Threads + Wait + Sync),
+    alloc: Global,
+    path: &str,
+    settings: &[u8],
+) -> Result<(Exit, ReliableSink), NoMemory> {
     let mut tree = tree_of(alloc, path, settings)?;
     let words = ["farm", "script", "--config", path];
-    Ok(run(alloc, &words, &mut tree, SMALLEST)?)
+    Ok(run(rt, alloc, &words, &mut tree, SMALLEST)?)
 }
 
 fn fault_line(alloc: Global, fault: &[u8]) -> Result<Vec<u8>, AllocError> {
@@ -379,7 +400,7 @@ fn fault_line(alloc: Global, fault: &[u8]) -> Result<Vec<u8>, AllocError> {
 fn bad_settings_are_named(rt: HostRuntime) -> Result<(), Fail> {
     let alloc = rt.alloc();
     for (settings, fault) in BAD_SETTINGS {
-        let (exit, out) = refused(alloc, "farm.json", settings)?;
+        let (exit, out) = refused(&rt, alloc, "farm.json", settings)?;
         assert_eq!(rt; exit, Exit::BadContest);
         assert_eq!(rt; exit.status(), 3);
         assert_eq!(rt; out.bytes(), fault_line(alloc, fault)?.as_slice());
@@ -396,7 +417,7 @@ fn nesting_of_127_and_128_levels(rt: HostRuntime) -> Result<(), Fail> {
         settings.extend_from_slice(vec![in alloc; b'['; levels]?.as_slice())?;
         settings.extend_from_slice(vec![in alloc; b']'; levels]?.as_slice())?;
         settings.push(b'}')?;
-        let (_, out) = refused(alloc, "farm.json", settings.as_slice())?;
+        let (_, out) = refused(&rt, alloc, "farm.json", settings.as_slice())?;
         assert_eq!(rt;
             out.bytes(),
             fault_line(alloc, fault)?.as_slice(),
@@ -411,6 +432,7 @@ fn a_file_that_is_not_there_or_too_large(rt: HostRuntime) -> Result<(), Fail> {
     let alloc = rt.alloc();
     let words = ["farm", "script", "--config=a\nb.json"];
     let (exit, out) = run(
+        &rt,
         alloc,
         &words,
         &mut tree_of(alloc, "b.json", b"{}")?,
@@ -419,7 +441,7 @@ fn a_file_that_is_not_there_or_too_large(rt: HostRuntime) -> Result<(), Fail> {
     assert_eq!(rt; exit, Exit::BadContest);
     assert_eq!(rt; out.bytes(), b"bad contest: no config\n".as_slice());
     let large = vec![in alloc; b' '; 16_777_217]?;
-    let (exit, out) = refused(alloc, "a\nb.json", large.as_slice())?;
+    let (exit, out) = refused(&rt, alloc, "a\nb.json", large.as_slice())?;
     assert_eq!(rt; exit, Exit::BadContest);
     assert_eq!(rt;
         out.bytes(),
@@ -505,11 +527,13 @@ fn faults(rt: HostRuntime) -> Result<(), Fail> {
         let mut sink = MemorySink::new(Vec::with_capacity(alloc, ROOM)?, failing(alloc, row.out)?);
         let words = words(alloc, row.words)?;
         let exit = farm_main(
+            &rt,
             alloc,
             words.as_slice(),
             &mut tree,
             &mut source,
             &mut sink,
+            &AlwaysOn,
             &mut Silent,
         );
         assert_eq!(rt; exit, row.exit, "{name}");

@@ -16,23 +16,36 @@ use farm_core::Farm;
 use farm_io::{PutEnd, Sink, Source};
 use farm_settings::Settings;
 use farm_tree::Tree;
+use judgehost::Gate;
 use parallel_judge::Progress;
 use script_session::{ScriptEnd, run_script};
 use std::alloc::Global;
+use std::sync::Wait;
+use std::thread::Threads;
 
 /// The whole program. The first word is its name, which is not looked at.
 ///
 /// `farm script` starts an empty farm with the standard settings, or with those of a file, reads lines to the
 /// end of the input, and writes a reply to each line that is no comment.
 ///
-/// `farm judge` reads the contest in a folder, judges each of its submissions, and writes a line for each with its
-/// verdict. Who is told of its progress is asked nothing.
-pub fn farm_main<T: Tree, S: Source, K: Sink, P: Progress>(
+/// `farm judge` reads the contest in a folder, judges each of its submissions by host threads and the caller, and
+/// writes a line for each with its verdict; where a journal is asked for, then a line for each call by which the
+/// contest was judged. The gate decides at which points a host dies. Who is told of the progress is asked nothing.
+pub fn farm_main<
+    R: Threads + Wait + Sync,
+    T: Tree,
+    S: Source,
+    K: Sink,
+    G: Gate + Sync,
+    P: Progress,
+>(
+    rt: &R,
     alloc: Global,
     words: &[String],
     tree: &mut T,
     input: &mut S,
     out: &mut K,
+    gate: &G,
     progress: &mut P,
 ) -> Exit
     // Other words are no command. Then nothing is read, and nothing is written.
@@ -43,7 +56,7 @@ pub fn farm_main<T: Tree, S: Source, K: Sink, P: Progress>(
     // and so whatever hosts claim, answer, repeat, lose leases or die, a judging is reported final exactly where
     // no outcome of its unjudged tests could change its verdict, or with full judging where every test is judged;
     // that verdict is what running every test in rank order on one thread gives; final stays; each result counts
-    // once.
+    // once. A contest's verdicts are the same whatever the number of its hosts, the gate and the schedule.
     ensures ends { IfSome (command_of (map string_bytes words.now)) (λ command. CommandEnds (T.files tree.old) command
         (record { left = S.left input.old; held = K.held out.old }) (record { left = S.left input.new; held = K.held out.new })
         (input.new ≡ input.old) (out.new ≡ out.old) result) }
@@ -65,7 +78,21 @@ pub fn farm_main<T: Tree, S: Source, K: Sink, P: Progress>(
     };
     match command {
         Command::Script { config } => script(alloc, config, tree, input, out),
-        Command::Judge { folder } => judge(alloc, folder, tree, out, progress),
+        Command::Judge {
+            folder,
+            hosts,
+            journal,
+        } => judge(
+            rt,
+            alloc,
+            folder,
+            hosts.get(),
+            journal,
+            tree,
+            out,
+            gate,
+            progress,
+        ),
     }
 }
 

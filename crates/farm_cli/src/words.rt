@@ -1,8 +1,16 @@
+use crate::host_count::HostCount;
+
 /// What the words of the command line ask for.
 #[derive(Clone, Copy)]
 pub enum Command<'a> {
     /// The lines of a script, by the settings of the file at this path, or by the standard ones.
-    Script { config: Option<&'a str> },
-    /// The contest in this folder.
-    Judge { folder: &'a str },
+    Script {
+        config: Option<&'a str>,
+    },
+    /// The contest in this folder, by so many hosts, and whether a journal is asked for.
+    Judge {
+        folder: &'a str,
+        hosts: HostCount,
+        journal: bool,
+    },
 }

@@ -28,7 +28,7 @@ use Rattle.parallel_judge.specs.Entering.{NamedProblem, NamedSubmission, problem
 -- ---- an accepted event
 
 -- it does what it is to do
-does : (s : State) (e : Event) → refusal_of s e ≡ None → farm_step s e ≡ accepted s e
+pub does : (s : State) (e : Event) → refusal_of s e ≡ None → farm_step s e ≡ accepted s e
 does s e none = ap (λ o. refused_or s o (accepted s e)) none
 
 three_pass : {R : Type 0} (a b c : Bool) (x y z : R) → a ≡ true → b ≡ false → c ≡ false → first_of (unless a x ∷ when b y ∷ when c z ∷ []) ≡ None
@@ -37,11 +37,11 @@ three_pass true false true x y z p q r = cc
 three_pass true true c x y z p q r = cc
 three_pass false b c x y z p q r = cc
 
-not_there : {X : Type 0} (o : Option X) → o ≡ None → is_some o ≡ false
+pub not_there : {X : Type 0} (o : Option X) → o ≡ None → is_some o ≡ false
 not_there None e = refl
 not_there (Some x) e = cc
 
-less_than : (limit n : ℕ) → n < limit → nat_le limit n ≡ false
+pub less_than : (limit n : ℕ) → n < limit → nat_le limit n ≡ false
 less_than limit n l = grind (arith, nat_tests, l)
 
 -- the events of one more item
@@ -76,7 +76,7 @@ fails_to_the_end test (x ∷ xs) h = ap (λ b. cond (not b) (1 + position_or_len
 not_less : (n : ℕ) → nat_lt n n ≡ false
 not_less n = grind (arith, nat_tests)
 
-none_found : {X : Type 0} (test : X → Bool) (xs : List X) → Each (λ x. test x ≡ false) xs → position test xs ≡ None
+pub none_found : {X : Type 0} (test : X → Bool) (xs : List X) → Each (λ x. test x ≡ false) xs → position test xs ≡ None
 none_found test xs h =
     ap (λ n. cond (nat_lt n (length xs)) (Some n) None) (fails_to_the_end test xs h) ∙ ap (λ b. cond b (Some (length xs)) None) (not_less (length xs))
 
@@ -164,7 +164,7 @@ submissions_enter s (x ∷ xs) known room =
 -- ---- no results
 
 -- events that give no result count none
-no_result : (e : Event) (r : Reply) → given_by e ≡ None → counted_by (e, r) ≡ None
+pub no_result : (e : Event) (r : Reply) → given_by e ≡ None → counted_by (e, r) ≡ None
 no_result e reply.Counted none = none
 no_result e r none = refl
 

@@ -49,7 +49,7 @@ all_new (p ∷ ps) = (tt, all_new ps)
 abbrev with_contest : SettingsValue → List NamedProblem → List NamedSubmission → State
 with_contest settings ps xs = reached settings (contest_events ps xs)
 
-contest_enters : (settings : SettingsValue) (case_at : Task → Option TestCase) (cells : List ℕ) (ps : List NamedProblem) (xs : List NamedSubmission) → IsContestOf case_at cells ps xs
+pub contest_enters : (settings : SettingsValue) (case_at : Task → Option TestCase) (cells : List ℕ) (ps : List NamedProblem) (xs : List NamedSubmission) → IsContestOf case_at cells ps xs
     → ((with_contest settings ps xs).judge ≡ add_judgings (first_state settings.rule settings.mode settings.lease) Normal cells) × ((with_contest settings ps xs).hosts ≡ [])
 contest_enters settings case_at cells ps xs c =
     let s1 = state_after (start settings) (map problem_event ps) in
@@ -67,22 +67,6 @@ contest_enters settings case_at cells ps xs c =
       ap (λ (t : State). t.hosts) whole ∙ second.hosts ∙ first.hosts,
     )
 
--- ---- the host
-
-no_hosts : (s : State) (name : List ℕ) (hosts : List Host) → hosts ≡ []
-    → (refused_or s (host_refusal hosts name) (record s { hosts = hosts_with hosts name (host_number hosts name) }, reply.Host name)).0 ≡ record s { hosts = record { name = name; up = true } ∷ [] }
-no_hosts s name [] e = refl
-no_hosts s name (h ∷ hs) e = cc
-
-host_enters : (s : State) (name : List ℕ) → s.hosts ≡ [] → (farm_step s (event.Host name)).0 ≡ record s { hosts = record { name = name; up = true } ∷ [] }
-host_enters s name none = no_hosts s name s.hosts none
-
-itself : (name : List ℕ) → bytes_eq name name ≡ true
-itself name = (bytes_eq-Decides name name).1 refl
-
-up_alone : (name : List ℕ) → IsSome (up_number (record { name = name; up = true } ∷ []) name)
-up_alone name = ap (λ b. is_some (option_map (λ (i : ℕ). i + 1) (cond (nat_lt (cond (not (b && true)) 1 0) 1) (Some (cond (not (b && true)) 1 0)) None))) (itself name)
-
 -- ---- the judgings
 
 some_runs : (case_at : Task → Option TestCase) (j n : ℕ) → ((test : ℕ) → 1 ≤ test → test ≤ n → IsSome (case_at (task_of j test))) → IsRunnable case_at j (empty_judging Normal n)
@@ -94,7 +78,7 @@ some_runs case_at j n cases =
       cases = λ test low high. cases test low (omega (arith, high, row));
     }
 
-all_run : (case_at : Task → Option TestCase) (cells : List ℕ) → ((j n : ℕ) → item_of cells j ≡ Some n → (test : ℕ) → 1 ≤ test → test ≤ n → IsSome (case_at (task_of j test)))
+pub all_run : (case_at : Task → Option TestCase) (cells : List ℕ) → ((j n : ℕ) → item_of cells j ≡ Some n → (test : ℕ) → 1 ≤ test → test ≤ n → IsSome (case_at (task_of j test)))
     → AreRunnable case_at (map (empty_judging Normal) cells)
 all_run case_at cells cases j g there =
     let seen : option_map (empty_judging Normal) (item_of cells j) ≡ Some g = sym (item_seen (empty_judging Normal) cells j) ∙ there in
@@ -103,35 +87,6 @@ all_run case_at cells cases j g there =
       | Some n ↦ λ e found. let same : empty_judging Normal n ≡ g = cc in subst (IsRunnable case_at j) same (some_runs case_at j n (cases j n e))
     ] refl seen
 
-empty_lengths : (cells : List ℕ) → map (λ judging. length judging.row) (map (empty_judging Normal) cells) ≡ cells
+pub empty_lengths : (cells : List ℕ) → map (λ judging. length judging.row) (map (empty_judging Normal) cells) ≡ cells
 empty_lengths [] = refl
 empty_lengths (n ∷ cells) = ap (λ m. m ∷ map (λ judging. length judging.row) (map (empty_judging Normal) cells)) (length-replicate n None) ∙ ap (λ ns. n ∷ ns) (empty_lengths cells)
-
--- ---- the farm with the contest and the host
-
-none_given : (ps : List NamedProblem) (xs : List NamedSubmission) (host : List ℕ) → Each (λ e. given_by e ≡ None) (contest_events ps xs ++ event.Host host ∷ [])
-none_given ps xs host =
-    each_append (λ e. given_by e ≡ None) (contest_events ps xs) (event.Host host ∷ [])
-    (each_append (λ e. given_by e ≡ None) (map problem_event ps) (map submission_event xs) (problems_give_none ps) (submissions_give_none xs)) (refl, tt)
-
-pub entered : (settings : SettingsValue) (case_at : Task → Option TestCase) (cells : List ℕ) (host : List ℕ) (ps : List NamedProblem) (xs : List NamedSubmission) → IsContestOf case_at cells ps xs
-    → IsEntered settings case_at cells host (reached settings (contest_events ps xs ++ event.Host host ∷ []))
-entered settings case_at cells host ps xs c =
-    let contest = contest_enters settings case_at cells ps xs c in
-    let s = with_contest settings ps xs in
-    let whole : reached settings (contest_events ps xs ++ event.Host host ∷ []) ≡ record s { hosts = record { name = host; up = true } ∷ [] } =
-    state_after-append (start settings) (contest_events ps xs) (event.Host host ∷ []) ∙ host_enters s host contest.1 in
-    let none : counted_in (start settings) (contest_events ps xs ++ event.Host host ∷ []) ≡ [] = counts_none (start settings) (contest_events ps xs ++ event.Host host ∷ []) (none_given ps xs host) in
-    record {
-      ready = subst (IsReady case_at host) (sym whole) (record {
-        up = up_alone host;
-        free = ap (λ (j : JudgeState). j.leases) contest.0;
-        runnable = subst (λ (j : JudgeState). AreRunnable case_at j.judgings) (sym contest.0) (all_run case_at cells c.cases);
-      });
-      honest = record {
-        events = contest_events ps xs ++ event.Host host ∷ [];
-        stands = refl;
-        honest = subst (All (AgreesWith settings.rule (truth_of case_at))) (sym none) (All-nil (AgreesWith settings.rule (truth_of case_at)));
-      };
-      lengths = ap row_lengths whole ∙ ap (λ (j : JudgeState). map (λ judging. length judging.row) j.judgings) contest.0 ∙ empty_lengths cells;
-    }

@@ -4,6 +4,16 @@ pub mod Runs
 pub mod Turns
 pub mod Contests
 pub mod Entered
+pub mod HostEvents
+pub mod Deaths
+pub mod Starting
 pub mod Shown
 pub mod Reading
 pub mod Rosters
+pub mod Opening
+pub mod Replies
+pub mod Beside
+pub mod Whole
+pub mod Closing
+pub mod NotedCalls
+pub mod BenchEntries

@@ -1,5 +1,5 @@
 -- A roster is a contest that can enter a farm.
-use Rattle.std.proofs.Common.{ℕ, zero, suc, ◌≡◌, ◌+◌, ◌-◌, ◌≤◌, List, [], ◌∷◌, Option, Some, None, Bool, true, false, cond, refl, sym, ap, ◌∙◌, subst, arith, ◌++◌, length, map, take, slice_get, nat_le, nat_lt}
+use Rattle.std.proofs.Common.{ℕ, zero, suc, ◌≡◌, ◌+◌, ◌-◌, ◌<◌, ◌≤◌, List, [], ◌∷◌, Option, Some, None, Bool, true, false, cond, refl, sym, ap, ◌∙◌, subst, arith, ◌++◌, length, map, take, slice_get, nat_le, nat_lt}
 use Rattle.std.specs.Prelude.{not, ◌&&◌, IsSome, is_some, All, option_and_then}
 use Rattle.std.specs.Option.{option_map}
 use Rattle.std.specs.List.{find, AllByRecursion, enumerate_from}
@@ -7,7 +7,7 @@ use Rattle.std.specs.List.Sorted.{IsStrictlySortedBy}
 use Rattle.std.specs.Str.{bytes_eq}
 use Rattle.std.specs.Ordering.{is_eq}
 use Rattle.std.specs.declared.cmp.Ordering.TheVariants.{Less}
-use Rattle.std.proofs.lemmas.List.{length-map}
+use Rattle.std.proofs.lemmas.List.{length-map, map-append}
 use Rattle.std.proofs.lemmas.List.Elements.{All-head, All-tail}
 use Rattle.std.proofs.lemmas.List.{take-map, take_all}
 use Rattle.std.proofs.lemmas.List.FromFn.{length-enumerate_from}
@@ -27,12 +27,10 @@ use Rattle.farm_model.specs.declared.records.Problem.{Problem as Version}
 use Rattle.farm_model.specs.Numbered.{item_of, number_or_0}
 use Rattle.farm_model.specs.Changes.{tests_of}
 use Rattle.farm_model.specs.Judgings.{task_of}
-use Rattle.farm_model.specs.State.{State, start, problem_number}
-use Rattle.farm_model.specs.Farm.{farm_step}
-use Rattle.farm_model.specs.Replay.{state_after, reply_to}
+use Rattle.farm_model.specs.State.{State, problem_number}
+use Rattle.farm_model.specs.Replay.{reply_to}
 use Rattle.farm_laws.specs.Laws.{reached}
-use Rattle.farm_laws.proofs.Outputs.{state_after-append}
-use Rattle.farm_laws.proofs.Items.{item_seen}
+use Rattle.farm_laws.proofs.Items.{item_at, item_seen}
 use Rattle.farm_laws.proofs.Each.{Each}
 use Rattle.package_folder.specs.declared.package.Test.{Test}
 use Rattle.package_folder.specs.Order.{compare_bytes}
@@ -47,9 +45,12 @@ use Rattle.contest_folder.specs.JudgingCases.{numbered, case_with, case_in, case
 use Rattle.case_run.specs.Images.{is_image}
 use Rattle.parallel_judge.specs.Entering.{NamedProblem, problem_event, submission_event}
 use Rattle.parallel_judge.specs.Table.{named_problem, named_submission, tests_for, roster_events, verdict_for, row_for, table_rows}
-use Rattle.parallel_judge.specs.Working.{IsEntered, IsFinished}
-use Rattle.parallel_judge.proofs.Contests.{HasTests, Apart, IsKnown, first_version, cells_of_named, numbered_as, tests_named, one_more}
-use Rattle.parallel_judge.proofs.Entered.{IsContestOf, entered}
+use Rattle.parallel_judge.specs.Working.{IsFinished}
+use Rattle.parallel_judge.proofs.Contests.{HasTests, Apart, IsKnown, first_version, cells_of_named, numbered_as, tests_named}
+use Rattle.parallel_judge.specs.Hosts.{all_hosts, host_names, with_hosts}
+use Rattle.parallel_judge.specs.UnderWay.{IsUnderWay}
+use Rattle.parallel_judge.proofs.Entered.{IsContestOf}
+use Rattle.parallel_judge.proofs.Starting.{starts, names_differ, names_few}
 use Rattle.parallel_judge.proofs.Reading.{row_more, shown_final}
 
 -- ---- problems
@@ -205,46 +206,34 @@ contest_of_roster roster is =
 
 -- ---- the roster enters
 
-next_item : (f : NamedProblem → Event) (s : State) (problems : List Problem) (i : ℕ) (problem : Problem) → slice_get problems i ≡ Some problem
-    → state_after s (map f (map named_problem (take (i + 1) problems))) ≡ (farm_step (state_after s (map f (map named_problem (take i problems)))) (f (named_problem problem))).0
-next_item f s problems i problem h =
-    let one : i + 1 ≡ suc i = omega arith in
-    let there : slice_get (map named_problem problems) i ≡ Some (named_problem problem) = slice_get-map named_problem problems i ∙ ap (option_map named_problem) h in
-    ap (λ n. state_after s (map f (map named_problem (take n problems)))) one
-    ∙ ap (λ xs. state_after s (map f xs)) (sym (take-map named_problem (suc i) problems))
-    ∙ one_more f s (map named_problem problems) i (named_problem problem) there
-    ∙ ap (λ xs. (farm_step (state_after s (map f xs)) (f (named_problem problem))).0) (take-map named_problem i problems)
+next_taken : {X : Type 0} (xs : List X) (i : ℕ) (x : X) → slice_get xs i ≡ Some x → take (suc i) xs ≡ take i xs ++ x ∷ []
+next_taken [] i x h = cc
+next_taken (y ∷ xs) zero x h = let same : y ≡ x = cc in ap (λ z. z ∷ []) same
+next_taken (y ∷ xs) (suc i) x h = ap (λ rest. y ∷ rest) (next_taken xs i x h)
+
+pub one_taken : {X : Type 0} (xs : List X) (i : ℕ) (x : X) → slice_get xs i ≡ Some x → take (i + 1) xs ≡ take i xs ++ x ∷ []
+one_taken xs i x h = let one : i + 1 ≡ suc i = omega arith in ap (λ n. take n xs) one ∙ next_taken xs i x h
 
 abbrev told_problem : Problem → RosterProblem
 told_problem problem = record { name = problem.name; tests = length problem.contents.tests }
 
--- one more problem has entered
-pub problem_next : (s t new : State) (problems : List Problem) (i : ℕ) (who : List ℕ) (r : RosterProblem) → who ≡ jury → option_map told_problem (slice_get problems (i + 1 - 1)) ≡ Some r
-    → t ≡ state_after s (map problem_event (map named_problem (take i problems))) → new ≡ (farm_step t (event.Problem who r.name r.tests)).0
-    → new ≡ state_after s (map problem_event (map named_problem (take (i + 1) problems)))
-problem_next s t new problems i who r by_jury told before step =
+-- the events of one more problem
+pub problem_events : (problems : List Problem) (i : ℕ) (who : List ℕ) (r : RosterProblem) → who ≡ jury → option_map told_problem (slice_get problems (i + 1 - 1)) ≡ Some r
+    → map problem_event (map named_problem (take (i + 1) problems)) ≡ map problem_event (map named_problem (take i problems)) ++ event.Problem who r.name r.tests ∷ []
+problem_events problems i who r by_jury told =
     let place : i + 1 - 1 ≡ i = omega arith in
     let here : option_map told_problem (slice_get problems i) ≡ Some r = ap (λ n. option_map told_problem (slice_get problems n)) (sym place) ∙ told in
     elim (slice_get problems i) as (λ (o : Option Problem). slice_get problems i ≡ o → option_map told_problem o ≡ Some r
-    → new ≡ state_after s (map problem_event (map named_problem (take (i + 1) problems)))) [
+    → map problem_event (map named_problem (take (i + 1) problems)) ≡ map problem_event (map named_problem (take i problems)) ++ event.Problem who r.name r.tests ∷ []) [
       | None ↦ λ e seen. cc
       | Some problem ↦ λ e seen.
           let same : told_problem problem ≡ r = cc in
-          step ∙ ap (λ (w : List ℕ). (farm_step t (event.Problem w r.name r.tests)).0) by_jury
-          ∙ ap (λ (x : State). (farm_step x (event.Problem jury r.name r.tests)).0) before
-          ∙ ap (λ (x : RosterProblem). (farm_step (state_after s (map problem_event (map named_problem (take i problems)))) (event.Problem jury x.name x.tests)).0) (sym same)
-          ∙ sym (next_item problem_event s problems i problem e)
+          ap (λ xs. map problem_event (map named_problem xs)) (one_taken problems i problem e)
+          ∙ ap (map problem_event) (map-append named_problem (take i problems) (problem ∷ []))
+          ∙ map-append problem_event (map named_problem (take i problems)) (named_problem problem ∷ [])
+          ∙ ap (λ (x : RosterProblem). map problem_event (map named_problem (take i problems)) ++ event.Problem jury x.name x.tests ∷ []) same
+          ∙ ap (λ (w : List ℕ). map problem_event (map named_problem (take i problems)) ++ event.Problem w r.name r.tests ∷ []) (sym by_jury)
     ] refl here
-
-next_submission : (s : State) (xs : List Submission) (i : ℕ) (x : Submission) → slice_get xs i ≡ Some x
-    → state_after s (map submission_event (map named_submission (take (i + 1) xs))) ≡ (farm_step (state_after s (map submission_event (map named_submission (take i xs)))) (submission_event (named_submission x))).0
-next_submission s xs i x h =
-    let one : i + 1 ≡ suc i = omega arith in
-    let there : slice_get (map named_submission xs) i ≡ Some (named_submission x) = slice_get-map named_submission xs i ∙ ap (option_map named_submission) h in
-    ap (λ n. state_after s (map submission_event (map named_submission (take n xs)))) one
-    ∙ ap (λ ys. state_after s (map submission_event ys)) (sym (take-map named_submission (suc i) xs))
-    ∙ one_more submission_event s (map named_submission xs) i (named_submission x) there
-    ∙ ap (λ ys. (farm_step (state_after s (map submission_event ys)) (submission_event (named_submission x))).0) (take-map named_submission i xs)
 
 abbrev pub told_submission : Submission → RosterSubmission
 told_submission x = record { team = x.team; problem = x.problem; broken = not (is_image x.image) }
@@ -260,33 +249,29 @@ told_as xs i r told =
       | Some x ↦ λ e. (x, refl, (let same : told_submission x ≡ r = cc in same))
     ] here
 
--- one more submission has entered
-pub submission_next : (s t new : State) (xs : List Submission) (i : ℕ) (r : RosterSubmission) → option_map told_submission (slice_get xs (i + 1 - 1)) ≡ Some r
-    → t ≡ state_after s (map submission_event (map named_submission (take i xs))) → new ≡ (farm_step t (event.Submit r.problem Normal r.broken)).0
-    → new ≡ state_after s (map submission_event (map named_submission (take (i + 1) xs)))
-submission_next s t new xs i r told before step =
+-- the events of one more submission
+pub submission_events : (xs : List Submission) (i : ℕ) (r : RosterSubmission) → option_map told_submission (slice_get xs (i + 1 - 1)) ≡ Some r
+    → map submission_event (map named_submission (take (i + 1) xs)) ≡ map submission_event (map named_submission (take i xs)) ++ event.Submit r.problem Normal r.broken ∷ []
+submission_events xs i r told =
     let x = told_as xs i r told in
-    step ∙ ap (λ (y : State). (farm_step y (event.Submit r.problem Normal r.broken)).0) before
-    ∙ ap (λ (y : RosterSubmission). (farm_step (state_after s (map submission_event (map named_submission (take i xs)))) (event.Submit y.problem Normal y.broken)).0) (sym x.2)
-    ∙ sym (next_submission s xs i x.0 x.1)
+    ap (λ ys. map submission_event (map named_submission ys)) (one_taken xs i x.0 x.1)
+    ∙ ap (map submission_event) (map-append named_submission (take i xs) (x.0 ∷ []))
+    ∙ map-append submission_event (map named_submission (take i xs)) (named_submission x.0 ∷ [])
+    ∙ ap (λ (y : RosterSubmission). map submission_event (map named_submission (take i xs)) ++ event.Submit y.problem Normal y.broken ∷ []) x.2
 
--- the problems and then the submissions
-pub both_enter : (roster : RosterValue) (s t new : State) → t ≡ state_after s (map problem_event (map named_problem roster.problems))
-    → new ≡ state_after t (map submission_event (map named_submission roster.submissions)) → new ≡ state_after s (roster_events roster)
-both_enter roster s t new first second =
-    second ∙ ap (λ (x : State). state_after x (map submission_event (map named_submission roster.submissions))) first
-    ∙ sym (state_after-append s (map problem_event (map named_problem roster.problems)) (map submission_event (map named_submission roster.submissions)))
+-- the events of one more host
+pub host_events : (hosts i : ℕ) (name : List ℕ) → i < hosts → slice_get all_hosts (i + 1 - 1) ≡ Some name
+    → map event.Host (host_names (i + 1)) ≡ map event.Host (host_names i) ++ event.Host name ∷ []
+host_events hosts i name l there =
+    let place : i + 1 - 1 ≡ i = omega arith in
+    ap (map event.Host) (one_taken all_hosts i name (ap (slice_get all_hosts) (sym place) ∙ there)) ∙ map-append event.Host (host_names i) (name ∷ [])
 
--- and the host
-pub roster_entered : (roster : RosterValue) (host : List ℕ) (s t new : State) → IsContest roster → s ≡ start roster.settings → t ≡ state_after s (roster_events roster)
-    → new ≡ (farm_step t (event.Host host)).0
-    → IsEntered roster.settings (case_at roster) (map (tests_for roster) roster.submissions) host new
-roster_entered roster host s t new is first second third =
-    let whole : new ≡ reached roster.settings (roster_events roster ++ event.Host host ∷ []) =
-    third ∙ ap (λ (x : State). (farm_step x (event.Host host)).0) (second ∙ ap (λ (x : State). state_after x (roster_events roster)) first)
-    ∙ sym (state_after-append (start roster.settings) (roster_events roster) (event.Host host ∷ [])) in
-    subst (IsEntered roster.settings (case_at roster) (map (tests_for roster) roster.submissions) host) (sym whole)
-    (entered roster.settings (case_at roster) (map (tests_for roster) roster.submissions) host (map named_problem roster.problems) (map named_submission roster.submissions) (contest_of_roster roster is))
+-- the roster's contest and its hosts have entered
+pub roster_starts : (roster : RosterValue) (hosts : ℕ) → IsContest roster
+    → IsUnderWay roster.settings (case_at roster) (map (tests_for roster) roster.submissions) [] (host_names hosts) (reached roster.settings (with_hosts roster hosts))
+roster_starts roster hosts is =
+    starts roster.settings (case_at roster) (map (tests_for roster) roster.submissions) (host_names hosts) (map named_problem roster.problems) (map named_submission roster.submissions)
+    (contest_of_roster roster is) (names_differ hosts) (names_few hosts)
 
 -- ---- the table
 
@@ -311,6 +296,18 @@ row_next roster s t rows i r v done told same shown before =
     ∙ ap (λ (y : TableRow). map (row_for roster) (take i (enumerate_from 1 roster.submissions)) ++ y ∷ []) row
     ∙ sym (row_more (row_for roster) roster.submissions 1 i x.0 x.1)
     ∙ ap (λ n. map (row_for roster) (take n (enumerate_from 1 roster.submissions))) (sym one)
+
+-- each submission is shown final, with the verdict of its row
+pub each_shown_final : (roster : RosterValue) (s : State) → IsFinished roster.settings (case_at roster) (map (tests_for roster) roster.submissions) s
+    → (n : ℕ) (x : Submission) → item_of roster.submissions n ≡ Some x → reply_to s (event.Show n) ≡ reply.Shown (Final (verdict_for roster n x))
+each_shown_final roster s done n x is =
+    let at = item_at roster.submissions n x is in
+    let positive = at.0 in
+    let whole : n - 1 + 1 ≡ n = omega (arith, positive) in
+    let tests : slice_get (map (tests_for roster) roster.submissions) (n - 1) ≡ Some (tests_for roster x) =
+    slice_get-map (tests_for roster) roster.submissions (n - 1) ∙ ap (option_map (tests_for roster)) at.1 in
+    subst (λ (m : ℕ). reply_to s (event.Show m) ≡ reply.Shown (Final (verdict_for roster m x))) whole
+    (shown_final roster.settings (case_at roster) (map (tests_for roster) roster.submissions) s (n - 1) (tests_for roster x) done tests)
 
 -- all of them
 pub rows_whole : (roster : RosterValue) (n : ℕ) (rows : List TableRow) → length roster.submissions ≤ n → rows ≡ map (row_for roster) (take n (enumerate_from 1 roster.submissions)) → rows ≡ table_rows roster

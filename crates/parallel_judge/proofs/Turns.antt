@@ -25,7 +25,7 @@ use Rattle.farm_model.specs.Leases.{same_task, with_lease, without_task}
 use Rattle.farm_model.specs.Judgings.{Judging, judging_rows, kept_count, result_refusal, mark_handed, fill_cell}
 use Rattle.farm_model.specs.Judge.{JudgeState, claim_refusal, claimed, lease_end, first_open, counted}
 use Rattle.farm_model.specs.State.{State, SettingsValue, up_number}
-use Rattle.farm_model.specs.Farm.{farm_step, Stepped}
+use Rattle.farm_model.specs.Farm.{farm_step}
 use Rattle.farm_model.specs.Replay.{state_after, reply_to, counted_by, counted_in, AgreesWith}
 use Rattle.farm_laws.proofs.Handing.{IsOpen, hands_open}
 use Rattle.farm_laws.proofs.Items.{item_at, item_by, with_same, change_same, change_other}
@@ -264,14 +264,13 @@ turned_honest case_at s host task case ready first there settings run =
     subst (IsHonestRun settings case_at) (turn_state s host task x.0 kind ready.up ready.free first x.1) (goes_on settings case_at s (turn host task kind) run counted)
 
 -- the first open task was handed out, its case was run, and its result was entered
-pub turns : (case_at : Task → Option TestCase) (s handed new : State) (host : List ℕ) (task : Task) (kind : Kind) (r : Reply) (case : TestCase) → IsReady case_at host s
+pub turns : (case_at : Task → Option TestCase) (s handed new : State) (host : List ℕ) (task : Task) (kind : Kind) (case : TestCase) → IsReady case_at host s
     → first_open s.judge ≡ Some task → handed ≡ with_task s host task → case_at task ≡ Some case → kind ≡ case_value case
-    → Stepped handed (event.Result host task.judging task.test kind) new r → IsTurned case_at host s new
-turns case_at s handed new host task kind r case ready first is there value stepped =
+    → new ≡ (farm_step handed (event.Result host task.judging task.test kind)).0 → IsTurned case_at host s new
+turns case_at s handed new host task kind case ready first is there value stepped =
     let x = first_is case_at s host task ready first in
-    let some : r ≢ reply.NoMemory = (λ none. let takes = (stepped.wanted none).takes in cc) in
     let after : new ≡ with_kind s host task (remap_of s.judge.rule kind) =
-    stepped.state some ∙ ap (λ (t : State). (farm_step t (event.Result host task.judging task.test kind)).0) is ∙ ap (λ (p : State × Reply). p.0) (counts s host task x.0 kind ready.up x.1) in
+    stepped ∙ ap (λ (t : State). (farm_step t (event.Result host task.judging task.test kind)).0) is ∙ ap (λ (p : State × Reply). p.0) (counts s host task x.0 kind ready.up x.1) in
     let one = one_less_unjudged s host task x.0 (remap_of s.judge.rule kind) x.1 in
     let less : unjudged (with_kind s host task (remap_of s.judge.rule kind)).judge.judgings < unjudged s.judge.judgings = omega (arith, one) in
     subst (IsTurned case_at host s) (sym after) (record {
@@ -280,3 +279,13 @@ turns case_at s handed new host task kind r case ready first is there value step
       lengths = same_lengths s host task (remap_of s.judge.rule kind);
       fewer = less;
     })
+
+-- a claim that is not answered with a task: none is open, and nothing changed
+pub claim_hands_none : (s new : State) (host : List ℕ) (r : Reply) → IsSome (up_number s.hosts host) → s.judge.leases ≡ []
+    → new ≡ (farm_step s (event.Claim host)).0 → r ≡ (farm_step s (event.Claim host)).1 → ((task : Task) (until : ℕ) → r ≢ reply.Handed task until)
+    → (None ≡ first_open s.judge) × (new ≡ s)
+claim_hands_none s new host r up free state answer other =
+    elim (first_open s.judge) as (λ (o : Option Task). first_open s.judge ≡ o → (None ≡ first_open s.judge) × (new ≡ s)) [
+      | None ↦ λ e. (sym e, state ∙ ap (λ (p : State × Reply). p.0) (claims_none s host up free e))
+      | Some task ↦ λ e. absurd (other task (lease_end s.judge) (answer ∙ ap (λ (p : State × Reply). p.1) (claims_first s host task up free e)))
+    ] refl

@@ -1,29 +1,60 @@
-ghost use Rattle.std.specs.Prelude.{◌≡◌, IfOk, map};
-ghost use Rattle.farm_model.specs.Farm.{farm_step};
-ghost use Rattle.farm_model.specs.Replay.{state_after};
+ghost use Rattle.std.specs.Prelude.{◌≡◌, ◌≤◌, ◌+◌, ◌*◌, ◌^◌, ◌++◌, ◌∷◌, [], List, IfOk, None, map};
+ghost use Rattle.farm_kinds.specs.declared.events.Event.{Event as EventValue};
+ghost use Rattle.farm_kinds.specs.declared.events.Event.TheVariants as events;
+ghost use Rattle.farm_model.specs.Replay.{given_by};
+ghost use Rattle.farm_board.specs.BoardState.{BoardState};
+ghost use Rattle.farm_board.specs.Histories.{IsOpening};
 ghost use Rattle.parallel_judge.specs.Entering.{problem_event, submission_event};
-ghost use Rattle.parallel_judge.specs.Table.{named_problem, named_submission, roster_events};
+ghost use Rattle.parallel_judge.specs.Hosts.{HasEntered, host_names, with_hosts};
+ghost use Rattle.parallel_judge.specs.Table.{named_problem, named_submission};
 
+use crate::names::host_name;
 use contest_folder::{Roster, RosterProblem, RosterSubmission};
-use farm_core::Farm;
+use farm_board::{Admission, Board, Pass, Trust};
 use farm_kinds::{Class, Event, Name, NoMemory, Reply};
+use std::sync::Wait;
 
-/// Enters the problems of a contest and then its submissions, each in order.
-pub(crate) fn enter_contest(farm: &mut Farm, roster: &Roster) -> Result<(), NoMemory>
-    ensures { IfOk result (λ _. farm.new ≡ state_after farm.old (roster_events roster.now)) }
+/// Enters the problems of a contest, its submissions, and so many hosts, each in order, while no other pass is out.
+pub(crate) fn enter_contest<W: Wait, R: Trust + Drop, A: Admission>(
+    rt: &W,
+    board: &Board<R, A>,
+    pass: &mut Pass<A>,
+    roster: &Roster,
+    hosts: u16,
+) -> Result<(), NoMemory>
+    requires board { pass.old.board ≡ board.now.id }
+    requires left { 3 * 2 ^ 32 ≤ pass.old.left }
+    requires hosts { hosts ≤ 16 }
+    ensures entered { (start : BoardState) → IsOpening start → HasEntered start [] pass.old → IfOk result (λ _. HasEntered start (with_hosts roster.now hosts) pass.new) }
+    ensures left { pass.old.left ≤ pass.new.left + 3 * 2 ^ 32 }
+    ensures board { pass.new.board ≡ pass.old.board }
+    ensures spare { pass.new.spare ≡ pass.old.spare }
 {
-    enter_problems(farm, roster)?;
-    enter_submissions(farm, roster)?;
-    Ok(())
+    enter_problems(rt, board, pass, roster)?;
+    enter_submissions(rt, board, pass, roster)?;
+    enter_hosts(rt, board, pass, hosts)
 }
 
-fn enter_problems(farm: &mut Farm, roster: &Roster) -> Result<(), NoMemory>
-    ensures { IfOk result (λ _. farm.new ≡ state_after farm.old (map problem_event (map named_problem roster.now.problems))) }
+fn enter_problems<W: Wait, R: Trust + Drop, A: Admission>(
+    rt: &W,
+    board: &Board<R, A>,
+    pass: &mut Pass<A>,
+    roster: &Roster,
+) -> Result<(), NoMemory>
+    requires board { pass.old.board ≡ board.now.id }
+    requires left { 2 ^ 32 ≤ pass.old.left }
+    ensures entered { (start : BoardState) (before : List EventValue) → IsOpening start → HasEntered start before pass.old
+        → IfOk result (λ _. HasEntered start (before ++ map problem_event (map named_problem roster.now.problems)) pass.new) }
+    ensures left { pass.old.left ≤ pass.new.left + 2 ^ 32 }
+    ensures board { pass.new.board ≡ pass.old.board }
+    ensures spare { pass.new.spare ≡ pass.old.spare }
 {
     for i in 0..roster.problems() {
         let RosterProblem { name, tests } = roster.problem(i + 1);
         enter(
-            farm,
+            rt,
+            board,
+            pass,
             &Event::Problem {
                 who: Name::jury(),
                 name,
@@ -34,8 +65,19 @@ fn enter_problems(farm: &mut Farm, roster: &Roster) -> Result<(), NoMemory>
     Ok(())
 }
 
-fn enter_submissions(farm: &mut Farm, roster: &Roster) -> Result<(), NoMemory>
-    ensures { IfOk result (λ _. farm.new ≡ state_after farm.old (map submission_event (map named_submission roster.now.submissions))) }
+fn enter_submissions<W: Wait, R: Trust + Drop, A: Admission>(
+    rt: &W,
+    board: &Board<R, A>,
+    pass: &mut Pass<A>,
+    roster: &Roster,
+) -> Result<(), NoMemory>
+    requires board { pass.old.board ≡ board.now.id }
+    requires left { 2 ^ 32 ≤ pass.old.left }
+    ensures entered { (start : BoardState) (before : List EventValue) → IsOpening start → HasEntered start before pass.old
+        → IfOk result (λ _. HasEntered start (before ++ map submission_event (map named_submission roster.now.submissions)) pass.new) }
+    ensures left { pass.old.left ≤ pass.new.left + 2 ^ 32 }
+    ensures board { pass.new.board ≡ pass.old.board }
+    ensures spare { pass.new.spare ≡ pass.old.spare }
 {
     for i in 0..roster.submissions() {
         let RosterSubmission {
@@ -44,7 +86,9 @@ fn enter_submissions(farm: &mut Farm, roster: &Roster) -> Result<(), NoMemory>
             ..
         } = roster.submission(i + 1);
         enter(
-            farm,
+            rt,
+            board,
+            pass,
             &Event::Submit {
                 problem,
                 class: Class::Normal,
@@ -55,12 +99,53 @@ fn enter_submissions(farm: &mut Farm, roster: &Roster) -> Result<(), NoMemory>
     Ok(())
 }
 
-/// Enters an event whose reply tells nothing that is not known.
-pub(crate) fn enter(farm: &mut Farm, event: &Event) -> Result<(), NoMemory>
-    ensures { IfOk result (λ _. farm.new ≡ (farm_step farm.old event.now).0) }
+fn enter_hosts<W: Wait, R: Trust + Drop, A: Admission>(
+    rt: &W,
+    board: &Board<R, A>,
+    pass: &mut Pass<A>,
+    hosts: u16,
+) -> Result<(), NoMemory>
+    requires board { pass.old.board ≡ board.now.id }
+    requires left { 2 ^ 32 ≤ pass.old.left }
+    requires hosts { hosts ≤ 16 }
+    ensures entered { (start : BoardState) (before : List EventValue) → IsOpening start → HasEntered start before pass.old
+        → IfOk result (λ _. HasEntered start (before ++ map events.Host (host_names hosts)) pass.new) }
+    ensures left { pass.old.left ≤ pass.new.left + 2 ^ 32 }
+    ensures board { pass.new.board ≡ pass.old.board }
+    ensures spare { pass.new.spare ≡ pass.old.spare }
 {
-    match farm.step(event) {
-        Reply::NoMemory => Err(NoMemory),
-        _ => Ok(()),
+    for host in 0..hosts {
+        enter(
+            rt,
+            board,
+            pass,
+            &Event::Host {
+                name: host_name(host + 1),
+            },
+        )?;
     }
+    Ok(())
+}
+
+/// Enters an event that gives no result, and whose reply tells nothing that is not known.
+fn enter<W: Wait, R: Trust + Drop, A: Admission>(
+    rt: &W,
+    board: &Board<R, A>,
+    pass: &mut Pass<A>,
+    event: &Event,
+) -> Result<(), NoMemory>
+    requires board { pass.old.board ≡ board.now.id }
+    requires left { 1 ≤ pass.old.left }
+    requires no_result { given_by event.now ≡ None }
+    ensures entered { (start : BoardState) (before : List EventValue) → IsOpening start → HasEntered start before pass.old
+        → IfOk result (λ _. HasEntered start (before ++ event.now ∷ []) pass.new) }
+    ensures left { pass.new.left + 1 ≡ pass.old.left }
+    ensures board { pass.new.board ≡ pass.old.board }
+    ensures spare { pass.new.spare ≡ pass.old.spare }
+{
+    let reply = board.step(rt, pass, event);
+    if matches!(reply, Reply::NoMemory) {
+        return Err(NoMemory);
+    }
+    Ok(())
 }

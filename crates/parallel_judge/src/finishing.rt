@@ -1,45 +1,52 @@
-ghost use Rattle.std.specs.Prelude.{◌≡◌, [], IfOk, IfSome, IfNone, IsSome, None, true, false};
+ghost use Rattle.std.specs.Prelude.{◌≡◌, [], Option, IfOk, IfSome, IfNone, IsSome, None, true, false, is_some};
+ghost use Rattle.farm_kinds.specs.declared.outcomes.Task.{Task as TaskValue};
 ghost use Rattle.farm_model.specs.Judge.{first_open};
 ghost use Rattle.farm_model.specs.State.{SettingsValue, up_number};
+ghost use Rattle.case_run.specs.Cases.{TestCase};
+ghost use Rattle.parallel_judge.specs.Noting.{StillKeeps};
 ghost use Rattle.parallel_judge.specs.Working.{IsReady, IsHonestRun, IsTurned, with_task, row_lengths};
 
+use crate::noted::NotedFarm;
 use crate::progress::Progress;
 use case_run::{Cases, run_case};
-use farm_core::Farm;
 use farm_kinds::{Event, Name, NoMemory, Reply, Task};
 use std::alloc::Global;
 
 /// Works off the open tasks as one host: claims a task, runs it and enters its result, until none is open.
 pub(crate) fn finish<C: Cases, P: Progress>(
     alloc: Global,
-    farm: &mut Farm,
+    noted: &mut NotedFarm,
     cases: &C,
     host: Name,
     progress: &mut P,
 ) -> Result<(), NoMemory>
-    requires { IsReady (C.case_at cases.now) host farm.old }
-    ensures ready { IfOk result (λ _. IsReady (C.case_at cases.now) host farm.new) }
-    ensures ended { IfOk result (λ _. first_open farm.new.judge ≡ None) }
-    ensures honest { (settings : SettingsValue) → IsHonestRun settings (C.case_at cases.now) farm.old → IfOk result (λ _. IsHonestRun settings (C.case_at cases.now) farm.new) }
-    ensures lengths { IfOk result (λ _. row_lengths farm.new ≡ row_lengths farm.old) }
+    requires { IsReady (C.case_at cases.now) host noted.old.farm }
+    ensures ready { IfOk result (λ _. IsReady (C.case_at cases.now) host noted.new.farm) }
+    ensures ended { IfOk result (λ _. first_open noted.new.farm.judge ≡ None) }
+    ensures honest { (settings : SettingsValue) → IsHonestRun settings (C.case_at cases.now) noted.old.farm → IfOk result (λ _. IsHonestRun settings (C.case_at cases.now) noted.new.farm) }
+    ensures lengths { IfOk result (λ _. row_lengths noted.new.farm ≡ row_lengths noted.old.farm) }
+    ensures journal { StillKeeps (C.case_at cases.now) noted.old noted.new }
+    ensures kept { is_some noted.new.history ≡ is_some noted.old.history }
 {
-    while judge_next(alloc, farm, cases, host, progress)? {}
+    while judge_next(alloc, noted, cases, host, progress)? {}
     Ok(())
 }
 
 /// Claims one task, runs it and enters its result. False where no task is open.
 fn judge_next<C: Cases, P: Progress>(
     alloc: Global,
-    farm: &mut Farm,
+    noted: &mut NotedFarm,
     cases: &C,
     host: Name,
     progress: &mut P,
 ) -> Result<bool, NoMemory>
-    requires { IsReady (C.case_at cases.now) host farm.old }
-    ensures turned { IfOk result (λ more. more ≡ true → IsTurned (C.case_at cases.now) host farm.old farm.new) }
-    ensures ended { IfOk result (λ more. more ≡ false → (farm.new ≡ farm.old) × (first_open farm.old.judge ≡ None)) }
+    requires { IsReady (C.case_at cases.now) host noted.old.farm }
+    ensures turned { IfOk result (λ more. more ≡ true → IsTurned (C.case_at cases.now) host noted.old.farm noted.new.farm) }
+    ensures ended { IfOk result (λ more. more ≡ false → (noted.new.farm ≡ noted.old.farm) × (first_open noted.old.farm.judge ≡ None)) }
+    ensures journal { StillKeeps (C.case_at cases.now) noted.old noted.new }
+    ensures kept { is_some noted.new.history ≡ is_some noted.old.history }
 {
-    let Some(task) = claim(farm, host) else {
+    let Some(task) = claim(noted, host)? else {
         return Ok(false);
     };
     // Each task of a farm that is ready has a case.
@@ -48,25 +55,28 @@ fn judge_next<C: Cases, P: Progress>(
     };
     progress.runs(task);
     let kind = run_case(alloc, &case)?;
-    let _counted = farm.step(&Event::Result {
+    noted.enter(&Event::Result {
         host,
         judging: task.judging,
         test: task.test as u32,
         kind,
-    });
+    })?;
     Ok(true)
 }
 
 /// Claims the first open task. None where none is open.
-fn claim(farm: &mut Farm, host: Name) -> Option<Task>
-    requires up { IsSome (up_number farm.old.hosts host) }
-    requires free { farm.old.judge.leases ≡ [] }
-    ensures first { result ≡ first_open farm.old.judge }
-    ensures none { IfNone result (farm.new ≡ farm.old) }
-    ensures some { IfSome result (λ task. farm.new ≡ with_task farm.old host task) }
+fn claim(noted: &mut NotedFarm, host: Name) -> Result<Option<Task>, NoMemory>
+    requires up { IsSome (up_number noted.old.farm.hosts host) }
+    requires free { noted.old.farm.judge.leases ≡ [] }
+    ensures first { IfOk result (λ task. task ≡ first_open noted.old.farm.judge) }
+    ensures none { IfOk result (λ task. IfNone task (noted.new.farm ≡ noted.old.farm)) }
+    ensures some { IfOk result (λ task. IfSome task (λ task. noted.new.farm ≡ with_task noted.old.farm host task)) }
+    ensures journal { (case_at : TaskValue → Option TestCase) → StillKeeps case_at noted.old noted.new }
+    ensures kept { is_some noted.new.history ≡ is_some noted.old.history }
 {
-    match farm.step(&Event::Claim { host }) {
-        Reply::Handed { task, .. } => Some(task),
-        _ => None,
+    match noted.step(&Event::Claim { host }) {
+        Reply::NoMemory => Err(NoMemory),
+        Reply::Handed { task, .. } => Ok(Some(task)),
+        _ => Ok(None),
     }
 }

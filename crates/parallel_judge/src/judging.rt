@@ -1,46 +1,119 @@
-ghost use Rattle.std.specs.Prelude.{◌≡◌, IfOk, map, codes};
+ghost use Rattle.std.specs.Prelude.{◌≡◌, ◌≤◌, ℕ, List, [], Option, Some, IfOk, map, is_some};
+ghost use Rattle.farm_kinds.specs.declared.outcomes.Task.{Task};
+ghost use Rattle.farm_model.specs.State.{SettingsValue};
+ghost use Rattle.case_run.specs.Cases.{TestCase};
 ghost use Rattle.contest_folder.specs.JudgingCases.{case_at};
+ghost use Rattle.farm_board.specs.declared.entries.Call.{Call};
+ghost use Rattle.parallel_judge.specs.Hosts.{host_names, admits_of};
+ghost use Rattle.parallel_judge.specs.Journal.{IsJournal, KeepsJournal};
+ghost use Rattle.parallel_judge.specs.Noting.{StillKeeps};
 ghost use Rattle.parallel_judge.specs.Table.{table_rows, tests_for};
-ghost use Rattle.parallel_judge.specs.Working.{IsEntered};
+ghost use Rattle.parallel_judge.specs.UnderWay.{IsUnderWay};
 
-use crate::entering::{enter, enter_contest};
 use crate::finishing::finish;
+use crate::hosts::run_hosts;
+use crate::names::{caller, host_name};
+use crate::noted::NotedFarm;
 use crate::progress::Progress;
 use crate::verdicts::read_table;
 use contest_folder::Roster;
-use farm_core::Farm;
-use farm_kinds::{Event, Name, NoMemory, TableRows};
+use farm_board::{Admission, History};
+use farm_kinds::{Event, NoMemory, TableRows};
+use judgehost::Gate;
 use std::alloc::Global;
+use std::marker::Brand;
+use std::sync::Wait;
+use std::thread::Threads;
 
-/// Judges a contest, and gives its table.
-pub fn judge_all<P: Progress>(
+/// What the judging of a contest gives.
+#[derive(Debug, Drop)]
+pub struct Outcome {
+    /// The verdict of each submission.
+    pub table: TableRows,
+    /// The calls of the judging in their order, where a journal was asked for. Those of host `h1` and so on have the
+    /// number of its pass, and those of the caller have 0.
+    pub history: Option<History>,
+}
+
+/// Judges a contest by so many host threads, at most 16, and gives its table. The hosts `h1` and so on work at the same
+/// time, each until no task is open or its gate lets it die; then all are brought down, and what they left is done by
+/// the caller as host `h0`. `progress` is told of the caller's tests alone.
+pub fn judge_all<R: Threads + Wait + Sync, G: Gate + Sync, P: Progress>(
+    rt: &R,
     alloc: Global,
     roster: &Roster,
+    hosts: u16,
+    gate: &G,
+    journal: bool,
     progress: &mut P,
-) -> Result<TableRows, NoMemory>
-    ensures { IfOk result (λ rows. rows ≡ table_rows roster.now) }
+) -> Result<Outcome, NoMemory>
+    requires hosts { hosts ≤ 16 }
+    ensures table { IfOk result (λ outcome. outcome.table ≡ table_rows roster.now) }
+    ensures kept { IfOk result (λ outcome. is_some outcome.history ≡ journal) }
+    ensures journal { IfOk result (λ outcome. (calls : List Call) → outcome.history ≡ Some calls → IsJournal roster.now hosts calls) }
 {
+    judge_named::<Brand, R, G, P>(rt, alloc, roster, hosts, gate, journal, progress)
+}
+
+/// The same, where the type `A` says which results are admitted.
+fn judge_named<A: Admission + Send + Sync, R: Threads + Wait + Sync, G: Gate + Sync, P: Progress>(
+    rt: &R,
+    alloc: Global,
+    roster: &Roster,
+    hosts: u16,
+    gate: &G,
+    journal: bool,
+    progress: &mut P,
+) -> Result<Outcome, NoMemory>
+    requires named { A.admits ≡ admits_of (case_at roster.now) }
+    requires hosts { hosts ≤ 16 }
+    ensures table { IfOk result (λ outcome. outcome.table ≡ table_rows roster.now) }
+    ensures kept { IfOk result (λ outcome. is_some outcome.history ≡ journal) }
+    ensures journal { IfOk result (λ outcome. (calls : List Call) → outcome.history ≡ Some calls → IsJournal roster.now hosts calls) }
+{
+    let noted = run_hosts::<A, R, G>(rt, alloc, roster, hosts, gate, journal)?;
+    judge_rest(alloc, noted, roster, hosts, progress)
+}
+
+/// Brings the hosts down, does what they left, and reads the table.
+fn judge_rest<P: Progress>(
+    alloc: Global,
+    mut noted: NotedFarm,
+    roster: &Roster,
+    hosts: u16,
+    progress: &mut P,
+) -> Result<Outcome, NoMemory>
+    requires hosts { hosts ≤ 16 }
+    requires under_way { IsUnderWay roster.now.settings (case_at roster.now) (map (tests_for roster.now) roster.now.submissions) [] (host_names hosts) noted.farm }
+    requires journal { KeepsJournal roster.now.settings (case_at roster.now) hosts noted.farm noted.history }
+    ensures table { IfOk result (λ outcome. outcome.table ≡ table_rows roster.now) }
+    ensures kept { IfOk result (λ outcome. is_some outcome.history ≡ is_some noted.history) }
+    ensures journal { IfOk result (λ outcome. (calls : List Call) → outcome.history ≡ Some calls → IsJournal roster.now hosts calls) }
+{
+    bring_down(&mut noted, hosts)?;
     let host = caller();
-    let mut farm = entered_farm(alloc, roster, host)?;
-    let finished = finish(alloc, &mut farm, roster, host, progress);
+    noted.enter(&Event::Host { name: host })?;
+    let finished = finish(alloc, &mut noted, roster, host, progress);
     progress.ends();
     finished?;
-    read_table(alloc, &mut farm, roster)
+    let table = read_table(alloc, &mut noted, roster)?;
+    let NotedFarm { history, .. } = noted;
+    Ok(Outcome { table, history })
 }
 
-/// A farm that the contest and the host have entered.
-fn entered_farm(alloc: Global, roster: &Roster, host: Name) -> Result<Farm, NoMemory>
-    ensures { IfOk result (λ farm. IsEntered roster.now.settings (case_at roster.now) (map (tests_for roster.now) roster.now.submissions) host farm) }
+/// Brings the hosts down, one after the other, so that they hold nothing.
+fn bring_down(noted: &mut NotedFarm, hosts: u16) -> Result<(), NoMemory>
+    requires hosts { hosts ≤ 16 }
+    ensures down { (settings : SettingsValue) (case_at : Task → Option TestCase) (cells : List ℕ)
+        → IsUnderWay settings case_at cells [] (host_names hosts) noted.old.farm
+        → IfOk result (λ _. IsUnderWay settings case_at cells (host_names hosts) [] noted.new.farm) }
+    ensures journal { (case_at : Task → Option TestCase) → StillKeeps case_at noted.old noted.new }
+    ensures kept { is_some noted.new.history ≡ is_some noted.old.history }
 {
-    let mut farm = Farm::new(alloc, roster.settings().copy()?);
-    enter_contest(&mut farm, roster)?;
-    enter(&mut farm, &Event::Host { name: host })?;
-    Ok(farm)
-}
-
-/// Who claims what no other host has done.
-fn caller() -> Name
-    ensures { result ≡ codes "h0" }
-{
-    Name::read(b"h0").unwrap_or(Name::jury())
+    for host in 0..hosts {
+        noted.enter(&Event::Down {
+            host: host_name(host + 1),
+        })?;
+    }
+    Ok(())
 }

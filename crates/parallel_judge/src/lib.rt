@@ -4,9 +4,12 @@
 
 mod entering;
 mod finishing;
+mod hosts;
 mod judging;
+mod names;
+mod noted;
 mod progress;
 mod verdicts;
 
-pub use judging::judge_all;
+pub use judging::{Outcome, judge_all};
 pub use progress::{Progress, Silent};

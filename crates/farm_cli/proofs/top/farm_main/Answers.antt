@@ -7,5 +7,5 @@ use Rattle.farm_cli.proofs.top.farm_main.Goals as goal
 -- src/top.rt:29:1
 pub returns-in-Judge-clause-complete : goal.returns-in-Judge-clause-complete
 returns-in-Judge-clause-complete g c =
-    judge_complete (g.T.Tree.files c.args.tree.now) c.in-Judge.folder.now _ (g.S.Source.left c.args.input.now) _ _ _ c.judge.result
+    judge_complete (g.T.Tree.files c.args.tree.now) c.in-Judge.folder.now c.in-Judge.hosts.count c.in-Judge.journal _ (g.S.Source.left c.args.input.now) _ _ _ c.judge.result
     (sym (ap (option_map command_value) (c.in-Some.is ∙ ap Some c.in-Judge.is)) ∙ c.read_command.ensures) c.judge.ensures.complete

@@ -1,7 +1,25 @@
-use Rattle.parallel_judge.proofs.Rosters.{problem_next}
+use Rattle.std.proofs.Common.{◌≡◌, ◌+◌, ◌++◌, ◌∷◌, [], List, map, take, sym, ap, ◌∙◌, subst, arith, append_assoc}
+use Rattle.farm_kinds.specs.declared.events.Event.{Event}
+use Rattle.farm_kinds.specs.declared.events.Event.TheVariants as event
+use Rattle.parallel_judge.specs.Entering.{problem_event}
+use Rattle.parallel_judge.specs.Hosts.{HasEntered}
+use Rattle.parallel_judge.specs.Table.{named_problem}
+use Rattle.parallel_judge.proofs.Rosters.{problem_events}
 use Rattle.parallel_judge.proofs.entering.enter_problems.Goals as goal
 
--- src/entering.rt:22:5
 pub loop-i-preserved : goal.loop-i-preserved
-loop-i-preserved c =
-    problem_next c.args.farm.now c.loop-i.farm c.enter.new.farm c.args.roster.now.problems c.loop-i.i c.jury.result c.problem-name.result c.jury.ensures c.problem-name.ensures c.loop-i.invariant c.in_ok-enter.ensures
+loop-i-preserved g c =
+    let problems = c.args.roster.now.problems in
+    let more = problem_events problems c.loop-i.i c.jury.result c.problem-name.result c.jury.ensures c.problem-name.ensures in
+    let one = c.enter.ensures.left in
+    let before_left = c.loop-i.invariant.left in
+    record {
+      entered = λ start before o h.
+          subst (λ (es : List Event). HasEntered start es c.enter.new.pass)
+          (append_assoc before (map problem_event (map named_problem (take c.loop-i.i problems))) (event.Problem c.jury.result c.problem-name.result.name c.problem-name.result.tests ∷ [])
+          ∙ ap (λ (es : List Event). before ++ es) (sym more))
+          (c.in_ok-enter.ensures.entered start (before ++ map problem_event (map named_problem (take c.loop-i.i problems))) o (c.loop-i.invariant.entered start before o h));
+      left = omega (arith, one, before_left);
+      board = c.enter.ensures.board ∙ c.loop-i.invariant.board;
+      spare = c.enter.ensures.spare ∙ c.loop-i.invariant.spare;
+    }
