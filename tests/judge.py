@@ -74,8 +74,8 @@ def write(folder, files):
                 file.write(data if isinstance(data, bytes) else data.encode())
 
 
-def judged(program, folder):
-    return ended(program, ["judge", folder, "--hosts", "0"])
+def judged(program, folder, hosts="0"):
+    return ended(program, ["judge", folder, "--hosts", hosts])
 
 
 def ended(program, words, **more):
@@ -183,7 +183,8 @@ BAD_LINES = [
 
 # Words that are no command line.
 USAGES = [
-    ["judge"], ["judge", "c"], ["judge", "--hosts", "0"], ["judge", "c", "--hosts"], ["judge", "c", "--hosts", "1"], ["judge", "c", "--hosts", "17"],
+    ["judge"], ["judge", "c"], ["judge", "--hosts", "0"], ["judge", "c", "--hosts"], ["judge", "c", "--journal"], ["judge", "c", "--hosts", "17"],
+    ["judge", "c", "--hosts", "1", "--journal", "--journal"], ["judge", "c", "--hosts", "1", "--journal=1"], ["judge", "c", "--hosts", "--journal"],
     ["judge", "c", "--hosts", "00"], ["judge", "c", "--hosts", "-1"], ["judge", "c", "--hosts", "x"], ["judge", "c", "--hosts="],
     ["judge", "c", "--hosts", ""], ["judge", "c", "--hosts", "0", "--hosts", "0"], ["judge", "c", "--hosts=0", "--hosts", "0"],
     ["judge", "c", "d", "--hosts", "0"], ["judge", "", "--hosts", "0"], ["judge", "-", "--hosts", "0"], ["judge", "--", "c", "--hosts", "0"],
@@ -207,11 +208,12 @@ class Looks:
         folder = self.contest(changes)
         return fault_of(judged(self.program, folder), 3, b"bad contest: " + text.encode() + b"\n", os.fsencode(folder))
 
-    def table(self, changes, table):
-        return fault_of(judged(self.program, self.contest(changes)), 0, table)
+    def table(self, changes, table, hosts="0"):
+        return fault_of(judged(self.program, self.contest(changes), hosts), 0, table)
 
     def all(self):
-        yield "0: the realistic contest", self.table({}, TABLE)
+        for hosts in range(17):
+            yield f"0: the realistic contest with {hosts} hosts", self.table({}, TABLE, str(hosts))
         yield from self.good()
         for changes, text in faults():
             yield f"3: {text[:60]}", self.refused(changes, text)
@@ -230,6 +232,7 @@ class Looks:
 
     def good(self):
         yield "0: no problems and no submissions", self.table(NOTHING | {"submissions.txt": ""}, b"")
+        yield "0: hosts with nothing to do", self.table(NOTHING | {"submissions.txt": ""}, b"", "16")
         yield "0: a folder of problems that is empty", self.table(NOTHING | {"submissions.txt": "# none\n\n", "problems/notes.txt": "no problem"}, b"")
         yield "0: problems without submissions", self.table({"submissions.txt": ""}, b"")
         yield "3: submissions without problems", self.refused(NOTHING | {"submissions.txt": "1 a echo x\n"}, "line 1: no problem")
@@ -255,7 +258,7 @@ class Looks:
 
     def words(self):
         folder = self.contest({})
-        for words in [["--hosts=0", folder], ["--hosts", "0", folder], [folder, "--hosts=0"], [folder + "/", "--hosts", "0"]]:
+        for words in [["--hosts=0", folder], ["--hosts", "2", folder], [folder, "--hosts=3"], [folder + "/", "--hosts", "0"]]:
             yield f"0: {[word.replace(folder, 'c') for word in words]}", fault_of(ended(self.program, ["judge", *words]), 0, TABLE)
         yield "0: a path from here", fault_of(ended(self.program, ["judge", ".", "--hosts", "0"], cwd=folder), 0, TABLE)
         for words in USAGES:

@@ -5,8 +5,8 @@
 
 PROGRAM is the built program, `crates/farm/out/farm` of this repository if none is given. A contest has a few problems
 with flags and limits as drawn, or with a validator of its own, settings, and small programs: known ones, and known ones
-with a bit changed, some of them as executables. Some files are spoiled, so that the contest may be refused. The status is 1 where a table is not the model's; the contest
-is left in a folder then.
+with a bit changed, some of them as executables. Some files are spoiled, so that the contest may be refused. It is judged
+by 0 to 16 hosts. The status is 1 where a table is not the model's; the contest is left in a folder then.
 """
 
 import json
@@ -135,11 +135,12 @@ def fault_of(program, seed, counts):
     drawn = Drawn(seed)
     folder = tempfile.mkdtemp(prefix="contest-")
     drawn.write(folder)
-    done = subprocess.run([program, "judge", folder, "--hosts", "0"], capture_output=True, check=False)
+    hosts = str(drawn.random.randrange(17))
+    done = subprocess.run([program, "judge", folder, "--hosts", hosts], capture_output=True, check=False)
     status, wanted = model.judge(folder)
     if (done.returncode, done.stdout) != (status, wanted) or done.stderr.count(b"\n") != (1 if status else 0):
         differ = [(w, g) for w, g in zip(wanted.split(b"\n"), done.stdout.split(b"\n")) if w != g]
-        return f"contest {seed} in {folder}: status {done.returncode}, wanted {status}, said {done.stderr!r}, (wanted, written): {differ[:5]}"
+        return f"contest {seed} in {folder} with {hosts} hosts: status {done.returncode}, wanted {status}, said {done.stderr!r}, (wanted, written): {differ[:5]}"
     shutil.rmtree(folder)
     for word in ["refused"] if status else [line.split()[3] for line in wanted.decode().splitlines()]:
         counts[word] = counts.get(word, 0) + 1

@@ -26,9 +26,16 @@ __attribute__((destructor)) static void end(void) {
   }
 }
 
+/* A program with threads ends so, and no destructor is called. */
+__attribute__((noreturn)) void _exit(int status) {
+  void (*next)(int) = (void (*)(int))dlsym(RTLD_NEXT, "_exit");
+  end();
+  next(status);
+  __builtin_unreachable();
+}
+
 static int is_refused(void) {
-  asked += 1;
-  if (asked != refused)
+  if (__atomic_add_fetch(&asked, 1, __ATOMIC_SEQ_CST) != refused)
     return 0;
   errno = ENOMEM;
   return 1;
