@@ -1,10 +1,9 @@
 #!/usr/bin/env python3
 """Runs the merge gate and prints what each crate costs it, in minutes of one processor.
 
-    bench/gate/costs.py [--anew] [CRATE ..]
+    bench/gate/costs.py
 
-The words are those of `rt ci`: without any, what earlier runs passed on this machine is not proved again; with
-`--anew` everything is. Printed are, for each crate, the processor time of its own proofs, of its tests and of its
+Every run of `rt ci` proves everything from nothing. Printed are, for each crate, the processor time of its own proofs, of its tests and of its
 must-fail edits, and their sums, and how long the run took. The times are read from /proc twice a second, so that of a
 process that lives for less than half a second is missing.
 """
@@ -68,7 +67,7 @@ def watch(child):
 
 def main():
     start = time.time()
-    child = subprocess.Popen(["rt", "ci", *sys.argv[1:]], cwd=TOP)
+    child = subprocess.Popen(["rt", "ci"], cwd=TOP)
     costs = watch(child)
     crates = sorted({crate for crate, _ in costs}, key=lambda crate: -sum(costs[crate, part] for part in PARTS))
     print(f"\n{'minutes of a processor':24}" + "".join(f"{part:>9}" for part in PARTS) + f"{'all':>9}")

@@ -9,7 +9,8 @@ The C interpreters are those of `bench/machine` that decode pages whole. They ru
 submission, and stop a submission where `farm` does; they check no output and run no validators. Printed are submissions
 and tests a second, the ratio to the faster interpreter (over 1: `farm judge` is faster), the most memory beside the
 contest's bytes, and how long reading and the table take at most: that is the whole time of the same contest where each
-run is given one instruction. Rates are by the time of the processor, whose worst round is printed too.
+run is given one instruction. Last comes the most memory with a problem of 50 MiB more. Rates are by the time of the
+processor, whose worst round is printed too.
 """
 
 import os
@@ -46,7 +47,7 @@ def timed(command, stdin=subprocess.DEVNULL):
     wrote = subprocess.run([os.path.join(OUT, "peak"), peak, *command], stdin=stdin, stdout=subprocess.PIPE, check=True).stdout
     seconds, after = time.monotonic() - start, resource.getrusage(resource.RUSAGE_CHILDREN)
     with open(peak) as file:
-        memory = 1024 * int(file.read())
+        memory = 1024 * int(file.read().split()[0])
     return wrote, seconds, after.ru_utime + after.ru_stime - before.ru_utime - before.ru_stime, memory
 
 
@@ -89,6 +90,18 @@ def make_ending(folder, ending):
     make.write(os.path.join(ending, "submissions.txt"), "".join(" ".join([str(n), *words[1:]]) + "\n" for n, words in enumerate(kept, 1)))
 
 
+def make_large(folder, large):
+    """The same contest with a problem of 50 tests of 1 MiB, to which nothing is submitted."""
+    shutil.copytree(folder, large)
+    problem = os.path.join(large, "problems", "large")
+    make.write(os.path.join(problem, "problem.yaml"), "name: Large\n")
+    make.write(os.path.join(problem, "domjudge-problem.ini"), "timelimit = 2\n")
+    for test in range(50):
+        path = os.path.join(problem, "data", "secret" if test else "sample", f"{test:02}")
+        make.write(path + ".in", "1234567\n" * 2**17)
+        make.write(path + ".ans", "7\n")
+
+
 def best_of(*commands, jobs=None, rounds=3):
     """For each command what it wrote, the least of its times and memory, and the most time of the processor."""
     rows = [[] for _ in commands]
@@ -112,6 +125,10 @@ def measure(program, name, folder):
               f"{runs / processor:6.0f} tests/s, {cost / processor / 1e6:4.0f} M/s")
     _, clock, processor, memory, _ = results[0]
     print(f"  over the faster one: {min(peer[2] for peer in results[1:]) / processor:.2f} by the processor, {min(peer[1] for peer in results[1:]) / clock:.2f} by the clock")
+    print_memory(memory, folder)
+
+
+def print_memory(memory, folder):
     contest, machine = bytes_of(folder), 4096 * PAGES
     print(f"  most memory {memory / 2**20:.1f} MiB; the contest's bytes {contest / 2**20:.1f} MiB and one machine's pages {machine / 2**20:.1f} MiB: "
           f"{memory / (contest + machine):.2f} of their sum")
@@ -125,17 +142,20 @@ def main():
         print(f"skipped: {program} is not there; build it by 'rt run' in crates/farm, or name another one")
         return 0
     os.makedirs(OUT, exist_ok=True)
-    folder, ending, short = (os.path.join(OUT, name) for name in ["contest", "ending", "short"])
-    for old in (folder, ending, short):
+    folder, ending, short, large = (os.path.join(OUT, name) for name in ["contest", "ending", "short", "large"])
+    for old in (folder, ending, short, large):
         shutil.rmtree(old, ignore_errors=True)
     build()
     make.make(folder, submissions, seed)
     make_ending(folder, ending)
     make_short(folder, short)
+    make_large(ending, large)
     measure(program, "all submissions", folder)
     measure(program, "without those that loop", ending)
     [(_, _, processor, memory, _)] = best_of([program, "judge", short, "--hosts", "0"])
     print(f"reading, the table and one instruction for each submission: {processor:.3f} s of the processor, {memory / 2**20:.1f} MiB")
+    print("without those that loop, and a problem of 50 MiB more:")
+    print_memory(timed([program, "judge", large, "--hosts", "0"])[3], large)
     return 0
 
 

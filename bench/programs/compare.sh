@@ -14,7 +14,7 @@ cat "$here"/*.c "$here"/*.h >"$out/source.txt"
 : >"$out/empty.txt"
 printf '\023\005\165\002\147\200\000\000' >"$out/code.txt" # addi a0, a0, 39; ret
 failed=0
-for name in sorting division bytes memory echo patching arithmetic walk calls hashing backtracking matrices; do
+for name in sorting division bytes memory echo patching arithmetic walk calls hashing backtracking matrices pages; do
     for input in empty source long code; do
         case $name-$input in
             patching-code | patching-empty) ;;
@@ -22,7 +22,7 @@ for name in sorting division bytes memory echo patching arithmetic walk calls ha
             sorting-long | division-source | division-long | memory-source | memory-long) continue ;;
             arithmetic-source | arithmetic-long | walk-source | walk-long | calls-source | calls-long) continue ;;
             hashing-source | hashing-long | backtracking-source | backtracking-long) continue ;;
-            matrices-source | matrices-long) continue ;;
+            matrices-source | matrices-long | pages-source | pages-long) continue ;;
         esac
         status=0
         qemu-riscv32 "$out/$name.elf" <"$out/$input.txt" >"$out/want" || status=$?
