@@ -1,4 +1,5 @@
 ghost use Rattle.std.specs.Prelude.{◌≡◌, ◌≤◌};
+ghost use Rattle.farm_io.specs.Beside.{one_sided};
 
 use crate::streams::{PutEnd, Sink, Source, Taken};
 use std::io::{Read, Write};
@@ -27,6 +28,8 @@ impl<R: Read> Source for ReadSource<R> {
     ghost left = { λ s. R.remaining s.reader };
 
     ghost faults = { λ s. s.faults };
+
+    ghost beside = { λ _. one_sided };
 
     fn take(&mut self, room: &mut [u8]) -> Taken {
         match self.reader.read(room) {
@@ -65,6 +68,8 @@ impl<W: Write> Sink for WriteSink<W> {
     ghost held = { λ s. W.contents s.writer };
 
     ghost faults = { λ s. s.faults };
+
+    ghost beside = { λ _. one_sided };
 
     fn put(&mut self, piece: &[u8]) -> PutEnd {
         let mut from = 0;

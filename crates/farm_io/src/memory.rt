@@ -2,6 +2,7 @@ ghost use Rattle.std.specs.Prelude.{◌≡◌, ◌≢◌, ◌+◌, ◌<◌, ◌�
 ghost use Rattle.std.specs.Bool.{OnTrue, OnFalse};
 ghost use Rattle.farm_io.specs.Streams.{Takes, Puts, HasCauseTaken, HasCausePut};
 ghost use Rattle.farm_io.specs.MemoryValue.{raised, Fits};
+ghost use Rattle.farm_io.specs.Beside.{one_sided};
 
 use crate::streams::{PutEnd, Sink, Source, Taken};
 use std::marker::Model;
@@ -47,6 +48,8 @@ impl Source for MemorySource {
     ghost left = { λ s. Some s.left };
 
     ghost faults = { λ s. s.faults };
+
+    ghost beside = { λ _. one_sided };
 
     fn take(&mut self, room: &mut [u8]) -> Taken
         requires { 0 < length room.old }
@@ -96,6 +99,8 @@ impl Source for ReliableSource {
     ghost left = { λ s. Some s };
 
     ghost faults = { λ _. 0 };
+
+    ghost beside = { λ _. one_sided };
 
     fn take(&mut self, room: &mut [u8]) -> Taken {
         take_from(&self.bytes, &mut self.at, room)
@@ -181,6 +186,8 @@ impl Sink for MemorySink {
 
     ghost faults = { λ s. s.faults };
 
+    ghost beside = { λ _. one_sided };
+
     fn put(&mut self, piece: &[u8]) -> PutEnd
         ensures bytes { Puts (Some self.old.held) (Some self.new.held) result piece.now }
         ensures cause { HasCausePut self.old.faults self.new.faults result }
@@ -245,6 +252,8 @@ impl Sink for ReliableSink {
     ghost held = { λ s. Some s.held };
 
     ghost faults = { λ s. s.faults };
+
+    ghost beside = { λ _. one_sided };
 
     fn put(&mut self, piece: &[u8]) -> PutEnd
         ensures bytes { Puts (Some self.old.held) (Some self.new.held) result piece.now }

@@ -1,5 +1,6 @@
 ghost use Rattle.std.specs.Prelude.{◌≡◌, List, [], ◌∷◌, Some, codes};
 ghost use Rattle.farm_io.specs.Lines.{Whole, Long, lines_of, through_last_feed};
+ghost use Rattle.farm_io.specs.Beside.{one_sided};
 
 use crate::{
     Line, LineReader, MemorySink, MemorySource, PutEnd, ReadSource, ReliableSink, ReliableSource,
@@ -32,6 +33,8 @@ impl Source for Slow {
     ghost left = { λ s. Some s.inner };
 
     ghost faults = { λ _. 0 };
+
+    ghost beside = { λ _. one_sided };
 
     fn take(&mut self, room: &mut [u8]) -> Taken {
         self.inner.take(&mut room[..1])

@@ -1,4 +1,5 @@
 ghost use Rattle.std.specs.Prelude.{Some};
+ghost use Rattle.farm_io.specs.Beside.{one_sided};
 
 use crate::{HttpReader, Next, Refusal, ResponseFault, write_response};
 use farm_io::{MemorySink, MemorySource, ReliableSink, ReliableSource, Source, Taken};
@@ -27,6 +28,8 @@ impl Source for Slow {
     ghost left = { λ s. Some s.inner };
 
     ghost faults = { λ _. 0 };
+
+    ghost beside = { λ _. one_sided };
 
     fn take(&mut self, room: &mut [u8]) -> Taken {
         self.calls = self.calls.saturating_add(1);
