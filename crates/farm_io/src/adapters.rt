@@ -1,4 +1,5 @@
 ghost use Rattle.std.specs.Prelude.{◌≡◌, ◌≤◌};
+ghost use Rattle.farm_io.specs.Streams.{Puts};
 ghost use Rattle.farm_io.specs.Beside.{one_sided};
 
 use crate::streams::{PutEnd, Sink, Source, Taken};
@@ -72,16 +73,24 @@ impl<W: Write> Sink for WriteSink<W> {
     ghost beside = { λ _. one_sided };
 
     fn put(&mut self, piece: &[u8]) -> PutEnd {
-        let mut from = 0;
-        while from < piece.len() {
-            match self.writer.write(&piece[from..]) {
-                Ok(count) if count > 0 => from += count,
-                _ => {
-                    self.faults = self.faults.saturating_add(1);
-                    return PutEnd::Failed;
-                }
-            }
+        let end = write_whole(&mut self.writer, piece);
+        if end == PutEnd::Failed {
+            self.faults = self.faults.saturating_add(1);
         }
-        PutEnd::Done
+        end
     }
+}
+
+/// Puts the whole piece, or a front of it up to the first error. That no byte is taken is an error too.
+pub fn write_whole<W: Write>(writer: &mut W, piece: &[u8]) -> PutEnd
+    ensures { Puts (W.contents writer.old) (W.contents writer.new) result piece.now }
+{
+    let mut from = 0;
+    while from < piece.len() {
+        match writer.write(&piece[from..]) {
+            Ok(count) if count > 0 => from += count,
+            _ => return PutEnd::Failed,
+        }
+    }
+    PutEnd::Done
 }
