@@ -110,6 +110,7 @@ fn seek<S: Source>(window: &mut Window, source: &mut S) -> Result<Seen, Ending>
     ensures size { window.new.size ≡ window.old.size }
     ensures few { window.new.taken ≤ input_limit }
     ensures later { S.faults source.old ≤ S.faults source.new }
+    ensures beside { S.beside source.new ≡ S.beside source.old }
 {
     loop {
         let seen = window.ahead().len();
@@ -132,6 +133,7 @@ fn find_head<S: Source>(window: &mut Window, source: &mut S) -> Result<Seen, End
     ensures size { window.new.size ≡ window.old.size }
     ensures few { window.new.taken ≤ input_limit }
     ensures later { S.faults source.old ≤ S.faults source.new }
+    ensures beside { S.beside source.new ≡ S.beside source.old }
 
     // The head of a request that is held whole is found without asking the source.
     ensures held { HoldsRequest window.old.ahead → (source.new ≡ source.old) × (window.new ≡ window.old) × IsOk result }
@@ -154,6 +156,7 @@ fn wait_for<S: Source>(window: &mut Window, source: &mut S, need: usize) -> Opti
     ensures end { IsEnded result (S.left source.new) }
     ensures limit { result ≡ Some Stop.InputLimit → window.new.taken ≡ input_limit }
     ensures cause { HasCauseStop (S.faults source.old) (S.faults source.new) result }
+    ensures beside { S.beside source.new ≡ S.beside source.old }
 {
     loop {
         if window.ahead().len() >= need {
@@ -193,6 +196,7 @@ fn take_body<S: Source>(
     ensures few { window.new.taken ≤ input_limit }
     ensures small { window.old.size ≤ room_limit → window.new.size ≤ room_limit }
     ensures later { S.faults source.old ≤ S.faults source.new }
+    ensures beside { S.beside source.new ≡ S.beside source.old }
     ensures held { seen.len + len ≤ length window.old.ahead → (source.new ≡ source.old) × IsOk result }
 {
     let need = seen.len + len;
@@ -218,6 +222,7 @@ pub fn take_request<S: Source>(window: &mut Window, source: &mut S) -> Result<Wh
     ensures few { window.new.taken ≤ input_limit }
     ensures small { window.old.size ≤ room_limit → window.new.size ≤ room_limit }
     ensures later { S.faults source.old ≤ S.faults source.new }
+    ensures beside { S.beside source.new ≡ S.beside source.old }
     ensures held { HoldsRequest window.old.ahead → (source.new ≡ source.old) × IsOk result }
 {
     match find_head(window, source) {

@@ -129,6 +129,7 @@ impl HttpReader {
         ensures falls { IsRequestGiven result → budget self.new < budget self.old }
         ensures limit { result ≡ Next.InputLimit → self.old.ended ≡ None → self.new.taken ≡ input_limit }
         ensures cause { HasCauseNext self.old.ended (S.faults source.old) (S.faults source.new) result }
+        ensures beside { S.beside source.new ≡ S.beside source.old }
     {
         if let Some(ending) = self.ended {
             return next_of(ending);
@@ -196,6 +197,7 @@ fn give_next<S: Source>(alloc: Global, window: &mut Window, source: &mut S) -> G
     ensures few { window.new.taken ≤ input_limit }
     ensures small { window.old.size ≤ room_limit → window.new.size ≤ room_limit }
     ensures later { S.faults source.old ≤ S.faults source.new }
+    ensures beside { S.beside source.new ≡ S.beside source.old }
     ensures cause { IfEnded result
         (HasCauseGiven (S.left source.new) (S.faults source.old) (S.faults source.new) window.new) }
     ensures held { HoldsRequest window.old.ahead

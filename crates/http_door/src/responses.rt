@@ -53,6 +53,7 @@ pub fn write_response<K: Sink>(
 ) -> Result<(), ResponseFault>
     ensures writes { Writes (K.held sink.old) (K.held sink.new) (response_text status body.now) result }
     ensures cause { HasCauseWritten (K.faults sink.old) (K.faults sink.new) result }
+    ensures beside { K.beside sink.new ≡ K.beside sink.old }
 {
     match write_head(alloc, &status, body.len()) {
         Err(_) => Err(ResponseFault::NoMemory),
@@ -64,6 +65,7 @@ pub fn write_response<K: Sink>(
 fn put_two<K: Sink>(sink: &mut K, first: &[u8], second: &[u8]) -> Result<(), ResponseFault>
     ensures writes { Writes (K.held sink.old) (K.held sink.new) (first.now ++ second.now) result }
     ensures cause { HasCauseWritten (K.faults sink.old) (K.faults sink.new) result }
+    ensures beside { K.beside sink.new ≡ K.beside sink.old }
 {
     match sink.put(first) {
         PutEnd::Failed => Err(ResponseFault::WriteFault),

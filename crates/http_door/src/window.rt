@@ -85,6 +85,7 @@ impl Window {
         ensures end { IsEnded result (S.left source.new) }
         ensures limit { result ≡ Some Stop.InputLimit → self.new.taken ≡ input_limit }
         ensures cause { HasCauseStop (S.faults source.old) (S.faults source.new) result }
+        ensures beside { S.beside source.new ≡ S.beside source.old }
     {
         if self.taken >= INPUT_LIMIT {
             return Some(Stop::InputLimit);
@@ -115,6 +116,7 @@ fn refill<S: Source>(bytes: &mut [u8], from: usize, to: usize, most: u64, source
         Refills (S.left source.old) (S.left source.new) ahead result (to - from) bytes.new }
     ensures within { CountWithin result (length bytes.old - (to - from)) most }
     ensures cause { HasCauseTaken (S.faults source.old) (S.faults source.new) result }
+    ensures beside { S.beside source.new ≡ S.beside source.old }
 {
     move_to_front(bytes, from, to);
     let held = to - from;
@@ -129,6 +131,7 @@ fn take_behind<S: Source>(bytes: &mut [u8], at: usize, room: usize, source: &mut
     ensures front { take at bytes.new ≡ take at bytes.old }
     ensures bytes { Takes (S.left source.old) (S.left source.new) result (slice_range bytes.new at (at + room)) }
     ensures cause { HasCauseTaken (S.faults source.old) (S.faults source.new) result }
+    ensures beside { S.beside source.new ≡ S.beside source.old }
 {
     source.take(&mut bytes[at..at + room])
 }

@@ -14,6 +14,7 @@ invariant-loop-stop g l =
       room : head_limit < l.window.size;
       short : length l.window.ahead < head_limit;
       later : g.S.Source.faults l.fn.source ≤ g.S.Source.faults l.source;
+      beside : g.S.Source.beside l.source ≡ g.S.Source.beside l.fn.source;
     }
 
 abbrev pub decreases-loop-stop : goal.decreases-loop-stop

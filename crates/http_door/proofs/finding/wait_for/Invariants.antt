@@ -11,6 +11,7 @@ invariant-loop-need g l =
       size : l.window.size ≡ l.fn.window.size;
       few : l.window.taken ≤ input_limit;
       later : g.S.Source.faults l.fn.source ≤ g.S.Source.faults l.source;
+      beside : g.S.Source.beside l.source ≡ g.S.Source.beside l.fn.source;
     }
 
 abbrev pub decreases-loop-need : goal.decreases-loop-need
