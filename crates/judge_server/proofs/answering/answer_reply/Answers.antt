@@ -1,0 +1,5 @@
+use Rattle.judge_server.proofs.answering.answer_reply.Goals as goal
+
+pub returns-in-Ok-clause-writes : goal.returns-in-Ok-clause-writes
+returns-in-Ok-clause-writes g c =
+    rw (c.status_of.ensures, c.as_slice.ensures, c.in-Ok.ensures.text) at c.write_response.ensures.writes

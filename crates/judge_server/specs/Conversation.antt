@@ -1,0 +1,183 @@
+-- What a request asks of the farm, and what it is answered.
+use Rattle.std.specs.Prelude.{ℕ, List, [], ◌∷◌, ◌++◌, Bool, true, false, Option, Some, None, Result, Ok, Err, codes}
+use Rattle.serde_json.specs.Written.{compact_text}
+use Rattle.farm_kinds.specs.declared.kinds.Kind.{Kind}
+use Rattle.farm_kinds.specs.declared.events.Event.{Event}
+use Rattle.farm_kinds.specs.declared.events.Event.TheVariants as event
+use Rattle.farm_kinds.specs.declared.events.Reply.{Reply}
+use Rattle.farm_kinds.specs.declared.events.Reply.TheVariants as reply
+use Rattle.wire_json.specs.declared.bodies.Body.{Body}
+use Rattle.wire_json.specs.declared.bodies.Body.TheVariants as body
+use Rattle.wire_json.specs.declared.faults.BodyFault.{BodyFault}
+use Rattle.wire_json.specs.declared.routes.Route.{Route}
+use Rattle.wire_json.specs.declared.routes.Route.TheVariants as route
+use Rattle.wire_json.specs.Bodies.{body_of}
+use Rattle.wire_json.specs.FaultTexts.{json_of_fault}
+use Rattle.wire_json.specs.Replies.{json_of}
+use Rattle.http_door.specs.Requests.{Request}
+use Rattle.http_door.specs.Responses.{response_text}
+use Rattle.judge_server.specs.declared.asking.Asked.{Asked}
+use Rattle.judge_server.specs.declared.asking.Asked.TheVariants as asked
+use Rattle.judge_server.specs.declared.asking.RequestFault.{RequestFault}
+use Rattle.judge_server.specs.declared.asking.RequestFault.TheVariants as fault
+use Rattle.judge_server.specs.declared.routes.Routed.{Routed}
+use Rattle.judge_server.specs.declared.routes.Routed.TheVariants as routed
+use Rattle.judge_server.specs.Routes.{routed_of}
+
+-- Events
+
+-- a host comes up, or goes down
+abbrev pub host_event : Route → List ℕ → Option Event
+host_event route.Hosts hostname = Some (event.Host hostname)
+host_event route.Down hostname = Some (event.Down hostname)
+host_event r hostname = None
+
+-- a host asks for a task
+abbrev pub fetch_event : Route → List ℕ → Option Event
+fetch_event route.FetchWork hostname = Some (event.Claim hostname)
+fetch_event r hostname = None
+
+-- a host gives a result
+abbrev pub run_event : Route → List ℕ → ℕ → ℕ → Kind → Option Event
+run_event route.AddRun hostname judging test kind = Some (event.Result hostname judging test kind)
+run_event r hostname judging test kind = None
+
+-- a host asks to hold a task for longer
+abbrev pub held_event : Route → List ℕ → ℕ → ℕ → Option Event
+held_event route.Renew hostname judging test = Some (event.Renew hostname judging test)
+held_event r hostname judging test = None
+
+-- the jury acts on what the path names
+abbrev pub actor_event : Route → List ℕ → Option Event
+actor_event (route.Verify judging) who = Some (event.Verify who judging)
+actor_event (route.Apply rejudging) who = Some (event.Apply who rejudging)
+actor_event (route.Cancel rejudging) who = Some (event.Cancel who rejudging)
+actor_event r who = None
+
+-- the jury has submissions judged anew
+abbrev pub rejudge_event : Route → List ℕ → List ℕ → Option Event
+rejudge_event route.Rejudgings submissions who = Some (event.Rejudge who submissions)
+rejudge_event r submissions who = None
+
+-- a question whose body says nothing
+abbrev pub bare_event : Route → Option Event
+bare_event (route.Judgement judging) = Some (event.Show judging)
+bare_event (route.Rejudging rejudging) = Some (event.Matrix rejudging)
+bare_event route.Board = Some event.Board
+bare_event route.Audit = Some event.Audit
+bare_event r = None
+
+-- the event of a route with the fields of its body; a route has none with other fields than its own
+abbrev pub event_of : Route → Body → Option Event
+event_of r body.Empty = bare_event r
+event_of r (body.Host hostname) = host_event r hostname
+event_of r (body.Fetch hostname max) = fetch_event r hostname
+event_of r (body.Run hostname judging test kind) = run_event r hostname judging test kind
+event_of r (body.Held hostname judging test) = held_event r hostname judging test
+event_of r (body.Actor who) = actor_event r who
+event_of r (body.Rejudge submissions who) = rejudge_event r submissions who
+
+-- time goes on before the event of this route
+abbrev pub ticks_first : Route → Bool
+ticks_first route.FetchWork = true
+ticks_first route.Renew = true
+ticks_first r = false
+
+-- a route without an event is none
+abbrev pub asked_with : Bool → Option Event → Asked
+asked_with ticks None = asked.Refused fault.NoRoute
+asked_with ticks (Some e) = asked.Event ticks e
+
+abbrev pub asked_by : Route → Result Body BodyFault → Asked
+asked_by r (Ok b) = asked_with (ticks_first r) (event_of r b)
+asked_by r (Err why) = asked.Refused (fault.BadBody why)
+
+abbrev pub asked_at : Routed → List ℕ → Asked
+asked_at (routed.Route r) bytes = asked_by r (body_of r bytes)
+asked_at routed.NoRoute bytes = asked.Refused fault.NoRoute
+asked_at routed.NoMethod bytes = asked.Refused fault.NoMethod
+
+-- what a request asks of the farm
+abbrev pub asked_of : Request → Asked
+asked_of r = asked_at (routed_of r.method r.target) r.body
+
+-- time goes on to the clock's number
+abbrev pub tick : Bool → ℕ → List Event
+tick true m = event.Tick m ∷ []
+tick false m = []
+
+abbrev pub events_in : Asked → ℕ → List Event
+events_in (asked.Event ticks e) m = tick ticks m ++ e ∷ []
+events_in (asked.Refused why) m = []
+
+-- the events of a request, where the clock shows m
+abbrev pub events_of : Request → ℕ → List Event
+events_of r m = events_in (asked_of r) m
+
+-- a host whose result differs from the one that is kept is put down
+abbrev pub down_after : Event → Reply → List Event
+down_after (event.Result host judging test kind) (reply.Differs kept given) = event.Down host ∷ []
+down_after e r = []
+
+abbrev pub calls_in : Asked → ℕ → Reply → List Event
+calls_in (asked.Event ticks e) m r = tick ticks m ++ e ∷ down_after e r
+calls_in (asked.Refused why) m r = []
+
+-- the events that are entered for a request whose last event has this reply
+abbrev pub calls_of : Request → ℕ → Reply → List Event
+calls_of request m r = calls_in (asked_of request) m r
+
+-- Responses
+
+-- the status of a reply: Not Found for what is not there, Conflict for the other refusals, OK for all else (RFC 9110,
+-- section 15)
+abbrev pub status_of : Reply → ℕ
+status_of (reply.NoProblem name) = 404
+status_of (reply.NoHost name) = 404
+status_of (reply.NoJudging judging) = 404
+status_of (reply.NoTest test) = 404
+status_of (reply.NoSubmission submission) = 404
+status_of (reply.NoRejudging rejudging) = 404
+status_of (reply.Differs kept given) = 409
+status_of reply.Dropped = 409
+status_of (reply.BadTests tests) = 409
+status_of (reply.Known name) = 409
+status_of (reply.Full limit) = 409
+status_of (reply.Holding limit) = 409
+status_of reply.NotHanded = 409
+status_of reply.NoLease = 409
+status_of reply.EmptySet = 409
+status_of (reply.Twice submission) = 409
+status_of (reply.NotFinal number) = 409
+status_of (reply.Busy submission rejudging) = 409
+status_of (reply.Closed how) = 409
+status_of (reply.Unfinished judging) = 409
+status_of (reply.Already judging) = 409
+status_of r = 200
+
+-- the response to a reply
+abbrev pub reply_response : Reply → List ℕ
+reply_response r = response_text (status_of r) (compact_text (json_of r))
+
+-- Not Found, Method Not Allowed, Bad Request
+abbrev pub fault_status : RequestFault → ℕ
+fault_status fault.NoRoute = 404
+fault_status fault.NoMethod = 405
+fault_status (fault.BadBody why) = 400
+
+abbrev pub fault_body : RequestFault → List ℕ
+fault_body fault.NoRoute = codes "{\"reply\":\"no-route\"}"
+fault_body fault.NoMethod = codes "{\"reply\":\"no-method\"}"
+fault_body (fault.BadBody why) = compact_text (json_of_fault why)
+
+-- the response to a request without an event
+abbrev pub fault_response : RequestFault → List ℕ
+fault_response why = response_text (fault_status why) (fault_body why)
+
+abbrev pub response_in : Asked → Reply → List ℕ
+response_in (asked.Event ticks e) r = reply_response r
+response_in (asked.Refused why) r = fault_response why
+
+-- the response to a request whose last event has this reply; without an event no reply counts
+abbrev pub response_of : Request → Reply → List ℕ
+response_of request r = response_in (asked_of request) r

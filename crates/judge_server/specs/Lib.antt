@@ -1,0 +1,3 @@
+pub mod Table
+pub mod Routes
+pub mod Conversation

@@ -1,0 +1,14 @@
+//! The judge server: what the requests of a connection ask of the farm, and what they are answered.
+#![tactic(auto)]
+
+mod answering;
+mod asking;
+mod paths;
+mod routes;
+mod worked;
+
+pub use answering::{answer_fault, answer_reply, status_of};
+pub use asking::{Asked, RequestFault, read_request};
+pub use paths::{Paths, Place};
+pub use routes::{Routed, find_route};
+pub use worked::{worked_events, worked_responses, worked_routes, worked_targets};
