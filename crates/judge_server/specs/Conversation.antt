@@ -156,7 +156,7 @@ status_of (reply.Already judging) = 409
 status_of r = 200
 
 -- the response to a reply
-abbrev pub reply_response : Reply → List ℕ
+unfoldable pub reply_response : Reply → List ℕ
 reply_response r = response_text (status_of r) (compact_text (json_of r))
 
 -- Not Found, Method Not Allowed, Bad Request
@@ -171,7 +171,7 @@ fault_body fault.NoMethod = codes "{\"reply\":\"no-method\"}"
 fault_body (fault.BadBody why) = compact_text (json_of_fault why)
 
 -- the response to a request without an event
-abbrev pub fault_response : RequestFault → List ℕ
+unfoldable pub fault_response : RequestFault → List ℕ
 fault_response why = response_text (fault_status why) (fault_body why)
 
 abbrev pub response_in : Asked → Reply → List ℕ

@@ -1,3 +1,5 @@
 pub mod Table
 pub mod Routes
 pub mod Conversation
+pub mod Entering
+pub mod Serving

@@ -29,7 +29,7 @@ table =
     ∷ (codes "/rejudgings/{id}/cancel", place.Cancel) ∷ []
 
 -- the rows of a router of the whole table
-abbrev pub rows : RowsOf (RouteOf Place)
+unfoldable pub rows : RowsOf (RouteOf Place)
 rows = fold with_path [] table
 
 -- the place that a path names by the rows

@@ -3,12 +3,22 @@
 
 mod answering;
 mod asking;
+mod ends;
 mod paths;
+mod replier;
 mod routes;
+mod serving;
+#[cfg(test)]
+mod serving_tests;
+#[cfg(test)]
+mod tests;
 mod worked;
 
 pub use answering::{answer_fault, answer_reply, status_of};
 pub use asking::{Asked, RequestFault, read_request};
+pub use ends::{ConnEnd, ConnHow};
 pub use paths::{Paths, Place};
+pub use replier::Replier;
 pub use routes::{Routed, find_route};
+pub use serving::serve_on;
 pub use worked::{worked_events, worked_responses, worked_routes, worked_targets};

@@ -1,5 +1,7 @@
+use Rattle.judge_server.specs.Conversation.{fault_response}
 use Rattle.judge_server.proofs.answering.answer_fault.Goals as goal
 
 pub returns-in-Ok-clause-writes : goal.returns-in-Ok-clause-writes
+unfolding fault_response
 returns-in-Ok-clause-writes g c =
     rw (c.fault_status.ensures, c.as_slice.ensures, c.in-Ok.ensures) at c.write_response.ensures.writes

@@ -1,5 +1,7 @@
+use Rattle.judge_server.specs.Conversation.{reply_response}
 use Rattle.judge_server.proofs.answering.answer_reply.Goals as goal
 
 pub returns-in-Ok-clause-writes : goal.returns-in-Ok-clause-writes
+unfolding reply_response
 returns-in-Ok-clause-writes g c =
     rw (c.status_of.ensures, c.as_slice.ensures, c.in-Ok.ensures.text) at c.write_response.ensures.writes

@@ -2,20 +2,21 @@ use Rattle.std.proofs.Common.{refl}
 use Rattle.std.specs.Str.{is_utf8, chars}
 use Rattle.matchit.proofs.OnLiterals.{matchit_on_literals}
 use Rattle.serde_json.proofs.OnLiterals.{serde_json_on_literals}
+use Rattle.judge_server.specs.Table.{rows}
 use Rattle.judge_server.proofs.worked.worked_events.Goals as goal
 
 pub returns-clause-claim : goal.returns-clause-claim
-unfolding is_utf8 chars serde_json_on_literals matchit_on_literals
+unfolding rows is_utf8 chars serde_json_on_literals matchit_on_literals
 returns-clause-claim c = refl
 
 pub returns-clause-verify : goal.returns-clause-verify
-unfolding is_utf8 chars serde_json_on_literals matchit_on_literals
+unfolding rows is_utf8 chars serde_json_on_literals matchit_on_literals
 returns-clause-verify c = refl
 
 pub returns-clause-no_event : goal.returns-clause-no_event
-unfolding is_utf8 chars serde_json_on_literals matchit_on_literals
+unfolding rows is_utf8 chars serde_json_on_literals matchit_on_literals
 returns-clause-no_event c = refl
 
 pub returns-clause-differs : goal.returns-clause-differs
-unfolding is_utf8 chars serde_json_on_literals matchit_on_literals
+unfolding rows is_utf8 chars serde_json_on_literals matchit_on_literals
 returns-clause-differs c = refl

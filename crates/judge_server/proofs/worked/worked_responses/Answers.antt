@@ -3,28 +3,30 @@ use Rattle.std.specs.Fmt.{digits}
 use Rattle.std.specs.Str.{is_utf8, chars}
 use Rattle.matchit.proofs.OnLiterals.{matchit_on_literals}
 use Rattle.serde_json.proofs.OnLiterals.{serde_json_on_literals}
+use Rattle.judge_server.specs.Table.{rows}
+use Rattle.judge_server.specs.Conversation.{reply_response, fault_response}
 use Rattle.judge_server.proofs.worked.worked_responses.Goals as goal
 
 pub returns-clause-nothing : goal.returns-clause-nothing
-unfolding is_utf8 chars serde_json_on_literals matchit_on_literals digits
+unfolding rows reply_response fault_response is_utf8 chars serde_json_on_literals matchit_on_literals digits
 returns-clause-nothing c = refl
 
 pub returns-clause-no_host : goal.returns-clause-no_host
-unfolding is_utf8 chars serde_json_on_literals matchit_on_literals digits
+unfolding rows reply_response fault_response is_utf8 chars serde_json_on_literals matchit_on_literals digits
 returns-clause-no_host c = refl
 
 pub returns-clause-no_lease : goal.returns-clause-no_lease
-unfolding is_utf8 chars serde_json_on_literals matchit_on_literals digits
+unfolding rows reply_response fault_response is_utf8 chars serde_json_on_literals matchit_on_literals digits
 returns-clause-no_lease c = refl
 
 pub returns-clause-no_route : goal.returns-clause-no_route
-unfolding is_utf8 chars serde_json_on_literals matchit_on_literals digits
+unfolding rows reply_response fault_response is_utf8 chars serde_json_on_literals matchit_on_literals digits
 returns-clause-no_route c = refl
 
 pub returns-clause-no_method : goal.returns-clause-no_method
-unfolding is_utf8 chars serde_json_on_literals matchit_on_literals digits
+unfolding rows reply_response fault_response is_utf8 chars serde_json_on_literals matchit_on_literals digits
 returns-clause-no_method c = refl
 
 pub returns-clause-bad_body : goal.returns-clause-bad_body
-unfolding is_utf8 chars serde_json_on_literals matchit_on_literals digits
+unfolding rows reply_response fault_response is_utf8 chars serde_json_on_literals matchit_on_literals digits
 returns-clause-bad_body c = refl

@@ -1,31 +1,32 @@
 use Rattle.std.proofs.Common.{refl}
 use Rattle.matchit.proofs.OnLiterals.{matchit_on_literals}
+use Rattle.judge_server.specs.Table.{rows}
 use Rattle.judge_server.proofs.worked.worked_routes.Goals as goal
 
 pub returns-clause-host : goal.returns-clause-host
-unfolding matchit_on_literals
+unfolding rows matchit_on_literals
 returns-clause-host c = refl
 
 pub returns-clause-verify : goal.returns-clause-verify
-unfolding matchit_on_literals
+unfolding rows matchit_on_literals
 returns-clause-verify c = refl
 
 pub returns-clause-largest : goal.returns-clause-largest
-unfolding matchit_on_literals
+unfolding rows matchit_on_literals
 returns-clause-largest c = refl
 
 pub returns-clause-too_large : goal.returns-clause-too_large
-unfolding matchit_on_literals
+unfolding rows matchit_on_literals
 returns-clause-too_large c = refl
 
 pub returns-clause-zero : goal.returns-clause-zero
-unfolding matchit_on_literals
+unfolding rows matchit_on_literals
 returns-clause-zero c = refl
 
 pub returns-clause-empty : goal.returns-clause-empty
-unfolding matchit_on_literals
+unfolding rows matchit_on_literals
 returns-clause-empty c = refl
 
 pub returns-clause-slash : goal.returns-clause-slash
-unfolding matchit_on_literals
+unfolding rows matchit_on_literals
 returns-clause-slash c = refl

@@ -1,0 +1,6 @@
+use Rattle.judge_server.specs.Serving.{refusal_response}
+use Rattle.judge_server.proofs.serving.put_refusal.Goals as goal
+
+pub returns-clause-writes : goal.returns-clause-writes
+unfolding refusal_response
+returns-clause-writes g c = rw (c.status.ensures, c.body.ensures) at c.write_response.ensures.writes

@@ -1,0 +1,10 @@
+use Rattle.judge_server.proofs.Turning.{served_none, served_with}
+use Rattle.judge_server.proofs.serving.serve_on.Goals as goal
+
+pub returns-in-Err-clause-served : goal.returns-in-Err-clause-served
+returns-in-Err-clause-served g c = served_none g.A.Replier.steps _ c.args.replier.now _ _
+
+pub returns-in-Some-clause-served : goal.returns-in-Some-clause-served
+returns-in-Some-clause-served g c =
+    let s = c.in-Some.ensures.turned _ c.loop-how.requests c.loop-how.invariant.under_way in
+    rw c.end_after.ensures (served_with g.A.Replier.steps _ _ _ _ _ c.turn.new.reader.ahead c.turn.new.reader.taken _ _ s)

@@ -1,0 +1,23 @@
+use Rattle.std.proofs.Common.{◌≡◌, ◌+◌, ◌*◌, ◌≤◌, [], None}
+use Rattle.farm_io.specs.Lines.{input_limit}
+use Rattle.http_door.specs.ReaderValue.{budget}
+use Rattle.judge_server.specs.Serving.{IsUnderWay}
+use Rattle.judge_server.proofs.serving.serve_on.Given as goal
+
+abbrev pub invariant-loop-how : goal.invariant-loop-how
+invariant-loop-how g l =
+    let left = g.N.Source.left in
+    let held = g.N.Sink.held in
+    record {
+      under_way : IsUnderWay g.A.Replier.steps (g.C.Clock.shows l.clock)
+          (record { replier = l.fn.replier; left = left l.fn.conn; held = held l.fn.conn; ahead = []; taken = 0 })
+          (record { replier = l.replier; left = left l.conn; held = held l.conn; ahead = l.reader.ahead; taken = l.reader.taken }) l.requests;
+      read_later : g.N.Source.faults l.fn.conn ≤ g.N.Source.faults l.conn;
+      write_later : g.N.Sink.faults l.fn.conn ≤ g.N.Sink.faults l.conn;
+      going : l.reader.ended ≡ None;
+      calls : 3 * budget l.reader ≤ g.A.Replier.left l.replier;
+      count : l.requests + budget l.reader ≤ input_limit;
+    }
+
+abbrev pub decreases-loop-how : goal.decreases-loop-how
+decreases-loop-how g l = budget l.reader

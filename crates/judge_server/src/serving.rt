@@ -1,0 +1,227 @@
+ghost use Rattle.std.specs.Prelude.{◌≡◌, ◌≢◌, ◌+◌, ◌*◌, ◌<◌, ◌≤◌, ◌^◌, [], IfOk, IsNone, None, Some, IsUtf8};
+ghost use Rattle.farm_io.specs.Lines.{input_limit};
+ghost use Rattle.farm_io.specs.Streams.{Rose};
+ghost use Rattle.farm_io.specs.Beside.{side};
+ghost use Rattle.http_door.specs.Responses.{Writes, HasCauseWritten};
+ghost use Rattle.http_door.specs.Reading.{request_with};
+ghost use Rattle.http_door.specs.ReaderValue.{budget};
+ghost use Rattle.judge_server.specs.Serving.{PutsAnswer, how_after, OneAnswered, refusal_response, given_as, Refuses, PutsEnd, Turned, IsServed, counted, HasCauseServed};
+
+use crate::answering::{answer_fault, answer_reply};
+use crate::asking::{Asked, RequestFault, read_request};
+use crate::ends::{ConnEnd, ConnHow};
+use crate::paths::Paths;
+use crate::replier::{Replier, enter};
+use farm_io::{Clock, Sink, Source};
+use http_door::{Ending, Head, HttpReader, Next, Refusal, ResponseFault, write_response};
+use std::alloc::Global;
+use wire_json::BodyFault;
+
+/// Does what is asked, and puts the response.
+fn answer_asked<A: Replier, K: Sink>(
+    alloc: Global,
+    replier: &mut A,
+    moment: u64,
+    asked: &Asked,
+    sink: &mut K,
+) -> Result<(), ResponseFault>
+    requires calls { 3 ≤ A.left replier.old }
+    requires told { asked.now ≢ Asked.Refused (RequestFault.BadBody BodyFault.NoMemory) }
+    ensures puts { PutsAnswer A.steps moment asked.now replier.old replier.new (K.held sink.old) (K.held sink.new) result }
+    ensures cause { HasCauseWritten (K.faults sink.old) (K.faults sink.new) result }
+    ensures beside { K.beside sink.new ≡ K.beside sink.old }
+    ensures left { A.left replier.old ≤ A.left replier.new + 3 }
+{
+    match asked {
+        Asked::Refused(fault) => answer_fault(alloc, sink, fault),
+        Asked::Event { ticks, event } => match enter(replier, *ticks, moment, event) {
+            Err(_) => Err(ResponseFault::NoMemory),
+            Ok(reply) => answer_reply(alloc, sink, &reply),
+        },
+    }
+}
+
+/// Whether the connection ends behind an answer.
+fn how_after(written: Result<(), ResponseFault>, close: bool) -> Option<ConnHow>
+    ensures { result ≡ how_after written close }
+{
+    match written {
+        Ok(()) => {
+            if close {
+                return Some(ConnHow::Closed);
+            }
+            None
+        }
+        Err(ResponseFault::WriteFault) => Some(ConnHow::WriteFault),
+        Err(ResponseFault::NoMemory) => Some(ConnHow::NoMemory),
+    }
+}
+
+/// Answers one request.
+fn answer_one<A: Replier, C: Clock, K: Sink>(
+    alloc: Global,
+    paths: &Paths,
+    replier: &mut A,
+    clock: &C,
+    head: &Head,
+    body: &[u8],
+    sink: &mut K,
+) -> Option<ConnHow>
+    requires calls { 3 ≤ A.left replier.old }
+    requires text { IsUtf8 head.now.target }
+    ensures puts { OneAnswered A.steps (C.shows clock.now) replier.old replier.new (request_with head.now body.now)
+        (K.held sink.old) (K.held sink.new) result }
+    ensures later { K.faults sink.old ≤ K.faults sink.new }
+    ensures write { result ≡ Some ConnHow.WriteFault → Rose (K.faults sink.old) (K.faults sink.new) }
+    ensures beside { K.beside sink.new ≡ K.beside sink.old }
+    ensures left { A.left replier.old ≤ A.left replier.new + 3 }
+{
+    let moment = clock.now();
+    match read_request(alloc, paths, head, body) {
+        Err(_) => Some(ConnHow::NoMemory),
+        Ok(asked) => {
+            let written = answer_asked(alloc, replier, moment, &asked, sink);
+            how_after(written, head.close)
+        }
+    }
+}
+
+/// The fixed response of a refusal.
+fn put_refusal<K: Sink>(alloc: Global, sink: &mut K, refusal: Refusal) -> Result<(), ResponseFault>
+    ensures writes { Writes (K.held sink.old) (K.held sink.new) (refusal_response refusal) result }
+    ensures cause { HasCauseWritten (K.faults sink.old) (K.faults sink.new) result }
+    ensures beside { K.beside sink.new ≡ K.beside sink.old }
+{
+    write_response(alloc, sink, refusal.status(), refusal.body())
+}
+
+/// Puts the fixed response of a refusal, and says how the connection ends.
+fn refuse<K: Sink>(alloc: Global, sink: &mut K, refusal: Refusal) -> ConnHow
+    ensures puts { Refuses (K.held sink.old) (K.held sink.new) (refusal_response refusal) result }
+    ensures later { K.faults sink.old ≤ K.faults sink.new }
+    ensures write { result ≡ ConnHow.WriteFault → Rose (K.faults sink.old) (K.faults sink.new) }
+    ensures beside { K.beside sink.new ≡ K.beside sink.old }
+{
+    match put_refusal(alloc, sink, refusal) {
+        Ok(()) => ConnHow::BadRequest,
+        Err(ResponseFault::WriteFault) => ConnHow::WriteFault,
+        Err(ResponseFault::NoMemory) => ConnHow::NoMemory,
+    }
+}
+
+/// Puts what belongs to the end of the requests, and says how the connection ends.
+fn end_with<K: Sink>(alloc: Global, sink: &mut K, ending: Ending) -> ConnHow
+    ensures puts { PutsEnd (K.held sink.old) (K.held sink.new) ending result }
+    ensures later { K.faults sink.old ≤ K.faults sink.new }
+    ensures write { result ≡ ConnHow.WriteFault → Rose (K.faults sink.old) (K.faults sink.new) }
+    ensures beside { K.beside sink.new ≡ K.beside sink.old }
+{
+    match ending {
+        Ending::End => ConnHow::End,
+        Ending::Cut => ConnHow::Cut,
+        Ending::ReadFault => ConnHow::ReadFault,
+        Ending::InputLimit => ConnHow::InputLimit,
+        Ending::NoMemory => ConnHow::NoMemory,
+        Ending::BadHead => refuse(alloc, sink, Refusal::BadHead),
+        Ending::HeadTooLong { len: _ } => refuse(alloc, sink, Refusal::HeadTooLong),
+        Ending::BodyTooLong { len: _ } => refuse(alloc, sink, Refusal::BodyTooLong),
+        Ending::NoLength => refuse(alloc, sink, Refusal::NoLength),
+    }
+}
+
+/// The head of the next request, or why there is none.
+fn head_of(next: Next) -> Result<Head, Ending>
+    ensures { next ≡ given_as result }
+{
+    match next {
+        Next::Request(head) => Ok(head),
+        Next::End => Err(Ending::End),
+        Next::Cut => Err(Ending::Cut),
+        Next::BadHead => Err(Ending::BadHead),
+        Next::HeadTooLong { len } => Err(Ending::HeadTooLong { len }),
+        Next::BodyTooLong { len } => Err(Ending::BodyTooLong { len }),
+        Next::NoLength => Err(Ending::NoLength),
+        Next::ReadFault => Err(Ending::ReadFault),
+        Next::InputLimit => Err(Ending::InputLimit),
+        Next::NoMemory => Err(Ending::NoMemory),
+    }
+}
+
+/// Reads one request and answers it, or says how the connection ends.
+fn turn<A: Replier, C: Clock, N: Source + Sink>(
+    alloc: Global,
+    paths: &Paths,
+    replier: &mut A,
+    clock: &C,
+    reader: &mut HttpReader,
+    conn: &mut N,
+) -> Option<ConnHow>
+    requires going { reader.old.ended ≡ None }
+    requires calls { 3 * budget reader.old ≤ A.left replier.old }
+    requires source { (n : N) → N.Source.beside n ≡ side (N.held n) (N.Sink.faults n) }
+    requires sink { (n : N) → N.Sink.beside n ≡ side (N.left n) (N.Source.faults n) }
+    ensures turned { Turned A.steps (C.shows clock.now)
+        (record { replier = replier.old; left = N.left conn.old; held = N.held conn.old; ahead = reader.old.ahead; taken = reader.old.taken })
+        (record { replier = replier.new; left = N.left conn.new; held = N.held conn.new; ahead = reader.new.ahead; taken = reader.new.taken })
+        result }
+    ensures going { IsNone result → reader.new.ended ≡ None }
+    ensures calls { IsNone result → 3 * budget reader.new ≤ A.left replier.new }
+    ensures falls { IsNone result → budget reader.new < budget reader.old }
+    ensures cause { HasCauseServed (N.Source.faults conn.old) (N.Source.faults conn.new)
+        (N.Sink.faults conn.old) (N.Sink.faults conn.new) result }
+{
+    match head_of(reader.next_request(conn)) {
+        Ok(head) => answer_one(alloc, paths, replier, clock, &head, reader.body(), conn),
+        Err(ending) => Some(end_with(alloc, conn, ending)),
+    }
+}
+
+/// The end of a connection behind so many answered requests, of which the last may have asked to close.
+fn end_after(requests: u64, how: ConnHow) -> ConnEnd
+    requires { requests < 2 ^ 63 }
+    ensures { result ≡ record { requests = counted requests how; how = how } }
+{
+    match how {
+        ConnHow::Closed => ConnEnd {
+            requests: requests + 1,
+            how,
+        },
+        _ => ConnEnd { requests, how },
+    }
+}
+
+/// Answers the requests of a connection until it ends, one after the other, each by at most three events.
+pub fn serve_on<A: Replier, C: Clock, N: Source + Sink>(
+    alloc: Global,
+    paths: &Paths,
+    replier: &mut A,
+    clock: &C,
+    conn: &mut N,
+) -> ConnEnd
+    requires calls { 2 ^ 42 ≤ A.left replier.old }
+    requires source { (n : N) → N.Source.beside n ≡ side (N.held n) (N.Sink.faults n) }
+    requires sink { (n : N) → N.Sink.beside n ≡ side (N.left n) (N.Source.faults n) }
+    ensures served { IsServed A.steps (C.shows clock.now)
+        (record { replier = replier.old; left = N.left conn.old; held = N.held conn.old; ahead = []; taken = 0 })
+        (record { replier = replier.new; left = N.left conn.new; held = N.held conn.new; ahead = []; taken = 0 })
+        result.requests result.how }
+    ensures cause { HasCauseServed (N.Source.faults conn.old) (N.Source.faults conn.new)
+        (N.Sink.faults conn.old) (N.Sink.faults conn.new) (Some result.how) }
+{
+    let mut reader = match HttpReader::new(alloc) {
+        Ok(reader) => reader,
+        Err(_) => {
+            return ConnEnd {
+                requests: 0,
+                how: ConnHow::NoMemory,
+            };
+        }
+    };
+    let mut requests: u64 = 0;
+    loop {
+        if let Some(how) = turn(alloc, paths, replier, clock, &mut reader, conn) {
+            return end_after(requests, how);
+        }
+        requests += 1;
+    }
+}
