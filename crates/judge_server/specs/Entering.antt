@@ -1,5 +1,5 @@
 -- Events that are entered one after the other.
-use Rattle.std.specs.Prelude.{◌≡◌, ℕ, List, [], ◌∷◌, ◌++◌, Bool, true, false, Result, Ok, Err}
+use Rattle.std.specs.Prelude.{◌≡◌, ◌≢◌, ℕ, List, [], ◌∷◌, ◌++◌, Bool, true, false, Result, Ok, Err}
 use Rattle.farm_kinds.specs.declared.outcomes.NoMemory.{NoMemory}
 use Rattle.farm_kinds.specs.declared.events.Event.{Event}
 use Rattle.farm_kinds.specs.declared.events.Reply.{Reply}
@@ -16,13 +16,17 @@ abbrev pub AreEntered : {A : Type 0} → (A → Event → Reply → A → Type 0
 AreEntered {A} step a [] b = b ≡ a
 AreEntered {A} step a (e ∷ es) b = (r : Reply) × (m : A) × step a e r m × AreEntered step m es b
 
+-- the step, where its reply does not say that memory ran out
+abbrev pub known : {A : Type 0} → (A → Event → Reply → A → Type 0) → A → Event → Reply → A → Type 0
+known {A} step a e r b = step a e r b × (r ≢ reply.NoMemory)
+
 -- an event was entered with this reply, behind the moment where time goes on first, and before what follows from it
 pub record IsEntered {A : Type 0} (step : A → Event → Reply → A → Type 0) (ticks : Bool) (moment : ℕ) (e : Event) (a b : A) (answer : Reply) : Type 0 where
   pub before : A
   pub behind : A
-  pub ticked : AreEntered step a (tick ticks moment) before
-  pub entered : step before e answer behind
-  pub downed : AreEntered step behind (down_after e answer) b
+  pub ticked : AreEntered (known step) a (tick ticks moment) before
+  pub entered : known step before e answer behind
+  pub downed : AreEntered (known step) behind (down_after e answer) b
 
 -- a front of these events was entered
 pub record IsBegun {A : Type 0} (step : A → Event → Reply → A → Type 0) (events : Reply → List Event) (a b : A) : Type 0 where

@@ -1,8 +1,8 @@
-ghost use Rattle.std.specs.Prelude.{◌≡◌, ◌≢◌, ◌+◌, ◌<◌, ◌≤◌, ◌∷◌, [], ℕ, IfOk};
+ghost use Rattle.std.specs.Prelude.{◌≡◌, ◌≢◌, ◌+◌, ◌<◌, ◌≤◌, ◌∷◌, [], ℕ, IfOk, OnOk};
 ghost use Rattle.farm_kinds.specs.declared.events.Event.{Event as Asking};
 ghost use Rattle.farm_kinds.specs.declared.events.Reply.{Reply as Answer};
 ghost use Rattle.judge_server.specs.Conversation.{tick, down_after};
-ghost use Rattle.judge_server.specs.Entering.{AreEntered, is_no_memory, Enters};
+ghost use Rattle.judge_server.specs.Entering.{AreEntered, known, is_no_memory, Enters};
 
 use farm_kinds::{Event, NoMemory, Reply};
 
@@ -31,6 +31,7 @@ fn is_no_memory(reply: &Reply) -> bool
 fn enter_aside<A: Replier>(replier: &mut A, event: &Event) -> Result<(), NoMemory>
     requires { 0 < A.left replier.old }
     ensures entered { AreEntered A.steps replier.old (event.now ∷ []) replier.new }
+    ensures ok { OnOk result (AreEntered (known A.steps) replier.old (event.now ∷ []) replier.new) }
     ensures left { A.left replier.old ≤ A.left replier.new + 1 }
 {
     let reply = replier.step(event);
@@ -44,6 +45,7 @@ fn enter_aside<A: Replier>(replier: &mut A, event: &Event) -> Result<(), NoMemor
 fn enter_tick<A: Replier>(replier: &mut A, ticks: bool, moment: u64) -> Result<(), NoMemory>
     requires { 0 < A.left replier.old }
     ensures entered { AreEntered A.steps replier.old (tick ticks moment) replier.new }
+    ensures ok { OnOk result (AreEntered (known A.steps) replier.old (tick ticks moment) replier.new) }
     ensures left { A.left replier.old ≤ A.left replier.new + 1 }
 {
     if ticks {
@@ -56,6 +58,7 @@ fn enter_tick<A: Replier>(replier: &mut A, ticks: bool, moment: u64) -> Result<(
 fn enter_down<A: Replier>(replier: &mut A, event: &Event, reply: &Reply) -> Result<(), NoMemory>
     requires { 0 < A.left replier.old }
     ensures entered { AreEntered A.steps replier.old (down_after event.now reply.now) replier.new }
+    ensures ok { OnOk result (AreEntered (known A.steps) replier.old (down_after event.now reply.now) replier.new) }
     ensures left { A.left replier.old ≤ A.left replier.new + 1 }
 {
     match event {
