@@ -80,7 +80,6 @@ kept m n c k w =
     record {
       count = w.count;
       whole = w.whole;
-      behind = w.behind;
       touched = λ i l. k.pages (get_or c.numbers.items i 0) (w.touched i l);
       found = λ i l. ap (λ (x : ℕ). get_or c.marks.items x 0) (k.places (get_or c.numbers.items i 0) (w.touched i l)) ∙ w.found i l;
       fresh = λ i j l g. subst (λ (x : ℕ). IsFresh x (step_of c i j)) (sym (k.words (4096 * get_or c.numbers.items i 0 + 4 * j))) (w.fresh i j l g);
@@ -132,7 +131,6 @@ no_code m c e f =
     record {
       count = ap length f ∙ sym none;
       whole = λ k l. absurd (omega arith);
-      behind = λ k l. absurd (omega arith);
       touched = λ k l. absurd (omega arith);
       found = λ k l. absurd (omega arith);
       fresh = λ k j l g. absurd (omega arith);
@@ -149,7 +147,6 @@ forgotten m n c d place at w differs at_place numbers marks count whole others t
     record {
       count = count ∙ w.count ∙ sym (ap length same_items);
       whole = λ k l. let l' : k < length c.numbers.items = rw same_items at l in whole k ∙ w.whole k l';
-      behind = λ k l. let l' : k < length c.numbers.items = rw same_items at l in elim (others k 1024) [ inl stays ↦ stays ∙ w.behind k l' | inr gone ↦ gone ];
       touched = λ k l. let l' : k < length c.numbers.items = rw same_items at l in rw same_items (differs.pages (get_or c.numbers.items k 0) (w.touched k l'));
       found = λ k l. let l' : k < length c.numbers.items = rw same_items at l in rw (same_items, marks) (ap (λ (x : ℕ). get_or c.marks.items x 0) (differs.places (get_or c.numbers.items k 0) (w.touched k l')) ∙ w.found k l');
       fresh = λ k j l g.
@@ -209,13 +206,6 @@ stepped m c d here pc s w page aligned fresh numbers marks steps =
             | inl same ↦ ap length same ∙ w.whole k l'
             | inr changed ↦ ap length changed.1 ∙ grind (arith, common_steps) ∙ ap (λ (x : ℕ). length (get_or c.steps.items x [])) (sym changed.0) ∙ w.whole k l'
           ];
-      behind = λ k l.
-          let l' : k < length c.numbers.items = rw same_items at l in
-          ap (λ (xs : List (List Instr)). get_or (get_or xs k []) 1024 undecoded) steps
-          ∙ elim (set_step c.steps.items here (pc / 4 % 1024) k 1024 s) [
-            | inl same ↦ same ∙ w.behind k l'
-            | inr new ↦ absurd (let o : 1024 ≡ pc / 4 % 1024 = new.1 in omega arith)
-          ];
       touched = λ k l. let l' : k < length c.numbers.items = rw same_items at l in rw same_items (w.touched k l');
       found = λ k l. let l' : k < length c.numbers.items = rw same_items at l in rw (same_items, marks) (w.found k l');
       fresh = λ k j l g.
@@ -235,20 +225,20 @@ stepped m c d here pc s w page aligned fresh numbers marks steps =
 
 -- ---- reading and adding
 
-pub read_step : (steps : List (List Instr)) (page : List Instr) (here o : ℕ) (d : Instr) → page ≡ get_or steps here page → here < length steps → length (get_or steps here []) ≡ 1025 → o < 1025 →
+pub read_step : (steps : List (List Instr)) (page : List Instr) (here o : ℕ) (d : Instr) → page ≡ get_or steps here page → here < length steps → length (get_or steps here []) ≡ 1024 → o < 1024 →
     get_or page o d ≡ get_or (get_or steps here []) o undecoded
 read_step steps page here o d e l whole small =
     ap (λ (xs : List Instr). get_or xs o d) (e ∙ get_or_default steps here page [] l) ∙ get_or_default (get_or steps here []) o d undecoded (omega arith)
 
 -- a step that was kept
-pub kept_step : (steps : List (List Instr)) (page : List Instr) (here o : ℕ) (s : Instr) → page ≡ get_or steps here page → here < length steps → length (get_or steps here []) ≡ 1025 → o < 1025 →
+pub kept_step : (steps : List (List Instr)) (page : List Instr) (here o : ℕ) (s : Instr) → page ≡ get_or steps here page → here < length steps → length (get_or steps here []) ≡ 1024 → o < 1024 →
     get_or (get_or (set steps here (set page o s)) here []) o undecoded ≡ s
 kept_step steps page here o s e l whole small =
     let same : page ≡ get_or steps here [] = e ∙ get_or_default steps here page [] l in
     ap (λ (xs : List Instr). get_or xs o undecoded) (get_or-set_same steps here (set page o s) [] l) ∙ get_or-set_same page o s undecoded (rw (same, whole) small)
 
 -- a step that is read field by field
-pub read_fields : (page : List Instr) (o : ℕ) (d : Instr) → length page ≡ 1025 → o < 1025 → IsStep (get_or page o undecoded) →
+pub read_fields : (page : List Instr) (o : ℕ) (d : Instr) → length page ≡ 1024 → o < 1024 → IsStep (get_or page o undecoded) →
     record { op = (get_or page o d).op; rd = (get_or page o d).rd; rs1 = (get_or page o d).rs1; rs2 = (get_or page o d).rs2; imm = cast_signed w32 (cast_unsigned w32 (get_or page o d).imm) } ≡ get_or page o undecoded
 read_fields page o d whole small step =
     rw (get_or_default page o d undecoded (rw whole small)) (let s : Instr = get_or page o undecoded in ap (λ (z : ℤ). record { op = s.op; rd = s.rd; rs1 = s.rs1; rs2 = s.rs2; imm = z }) step.imm)
@@ -264,7 +254,6 @@ marked m c d w numbers steps marks =
     record {
       count = ap length steps ∙ w.count ∙ sym (ap length numbers);
       whole = λ k l. rw steps (w.whole k (rw numbers at l));
-      behind = λ k l. rw steps (w.behind k (rw numbers at l));
       touched = λ k l. rw numbers (w.touched k (rw numbers at l));
       found = λ k l. marks (memory.place m.pages (get_or d.numbers.items k 0)) ∙ rw numbers (w.found k (rw numbers at l));
       fresh = λ k j l g. rw (numbers, steps) (w.fresh k j (rw numbers at l) g);
@@ -286,13 +275,13 @@ undecoded_fill zero k = refl
 undecoded_fill (suc n) zero = refl
 undecoded_fill (suc n) (suc k) = undecoded_fill n k
 
-length_blank : length blank ≡ 1025
+length_blank : length blank ≡ 1024
 unfolding blank
-length_blank = length_fill 1025
+length_blank = length_fill 1024
 
 undecoded_blank : (k : ℕ) → get_or blank k undecoded ≡ undecoded
 unfolding blank
-undecoded_blank k = undecoded_fill 1025 k
+undecoded_blank k = undecoded_fill 1024 k
 
 -- a page of which no word is decoded is added, with its mark
 pub added : (m : memory.State) (c d : Code) (marks : List ℕ) (place number : ℕ) → IsCode m c → memory.is_touched m number ≡ true → place ≡ memory.place m.pages number →
@@ -304,10 +293,6 @@ added m c d marks place number w touched at_place fresh numbers steps new_marks 
       whole = λ k l. elim (pages k l) [
         | inl old ↦ ap length (old_steps k old.0) ∙ w.whole k old.0
         | inr new ↦ ap length (new_steps k new.0) ∙ length_blank
-      ];
-      behind = λ k l. elim (pages k l) [
-        | inl old ↦ ap (λ (xs : List Instr). get_or xs 1024 undecoded) (old_steps k old.0) ∙ w.behind k old.0
-        | inr new ↦ ap (λ (xs : List Instr). get_or xs 1024 undecoded) (new_steps k new.0) ∙ undecoded_blank 1024
       ];
       touched = λ k l. elim (pages k l) [
         | inl old ↦ rw old.1 (w.touched k old.0)
@@ -354,24 +339,10 @@ fresh_at m c here pc w some page aligned =
 
 -- ---- the step at a place in a decoded page
 
--- the step at a place is small, also the one behind the words
-pub small_at : (m : memory.State) (c : Code) (page : List Instr) (here word : ℕ) → IsCode m c → here < length c.numbers.items → word ≤ 1024 → page ≡ get_or c.steps.items here page →
+-- the step at a place is small
+pub small_at : (m : memory.State) (c : Code) (page : List Instr) (here word : ℕ) → IsCode m c → here < length c.numbers.items → word < 1024 → page ≡ get_or c.steps.items here page →
     IsStep (get_or page word undecoded)
-small_at m c page here word w some within e =
-    rw (page_is c.steps.items page here e (rw w.count some))
-    (elim (cases_eq word 1024) [
-      | inl last ↦ rw (last, w.behind here some) small_undecoded
-      | inr other ↦ (w.fresh here word some (omega arith)).small
-    ])
-
--- a step that is decoded stands before the end of the page
-inside_at : (m : memory.State) (c : Code) (here word : ℕ) → IsCode m c → here < length c.numbers.items → word ≤ 1024 → is_decoded (step_of c here word).op ≡ true → word < 1024
-inside_at m c here word w some within ready = elim (cases_eq word 1024) [
-  | inl last ↦
-      let not : is_decoded (step_of c here word).op ≡ false = rw (last, w.behind here some) refl in
-      absurd (let f : true ≡ false = sym ready ∙ not in cc)
-  | inr other ↦ omega arith
-]
+small_at m c page here word w some within e = rw (page_is c.steps.items page here e (rw w.count some)) (w.fresh here word some within).small
 
 -- the step that is read at a place
 pub read_kept : (m : memory.State) (c : Code) (page : List Instr) (here word : ℕ) (i : Instr) → IsCode m c → here < length c.numbers.items → page ≡ get_or c.steps.items here page → i ≡ get_or page word undecoded → i ≡ step_of c here word
@@ -379,21 +350,18 @@ read_kept m c page here word i w some e read = read ∙ ap (λ (xs : List Instr)
 
 -- a decoded step is the instruction at its address, whose page is touched
 pub record IsReadyStep (m : memory.State) (page word pc : ℕ) (i : Instr) : Type 0 where
-  pub inside : word < 1024
   pub there : memory.is_touched m (pc / 4096) ≡ true
   pub same : instruction_of (memory.word_at m pc) ≡ Some (instr_of i)
 
 pub ready_step : (m : memory.State) (c : Code) (steps : List Instr) (here page word pc : ℕ) (i : Instr) → IsCode m c → here < length c.numbers.items → page ≡ 4096 * get_or c.numbers.items here 0 → page < 2 ^ 32 →
-    word ≤ 1024 → pc ≡ (page + 4 * word) % 2 ^ 32 → steps ≡ get_or c.steps.items here steps → i ≡ get_or steps word undecoded → is_decoded i.op ≡ true → IsReadyStep m page word pc i
+    word < 1024 → pc ≡ (page + 4 * word) % 2 ^ 32 → steps ≡ get_or c.steps.items here steps → i ≡ get_or steps word undecoded → is_decoded i.op ≡ true → IsReadyStep m page word pc i
 ready_step m c steps here page word pc i w some at small within address e step ready =
     let kept : i ≡ step_of c here word = read_kept m c steps here word i w some e step in
-    let inside : word < 1024 = inside_at m c here word w some within (ap (λ (s : Instr). is_decoded s.op) (sym kept) ∙ ready) in
     let number : get_or c.numbers.items here 0 ≡ pc / 4096 = omega arith in
     let aligned : pc % 4 ≡ 0 = omega arith in
     let there : pc / 4 % 1024 ≡ word = omega arith in
     let fresh : IsFresh (memory.word_at m pc) (step_of c here word) = rw there at (fresh_at m c here pc w some number aligned) in
     record {
-      inside = inside;
       there = touched_at m c here pc w some number;
       same = (fresh_same (memory.word_at m pc) i (step_of c here word) kept fresh).same ready;
     }

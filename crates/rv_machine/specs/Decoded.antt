@@ -30,9 +30,9 @@ is_decoded o = true
 abbrev pub undecoded : Instr
 undecoded = record { op = Ebreak; rd = 32; rs1 = 0; rs2 = 0; imm = pos 0 }
 
--- the steps of a page of which no word is decoded, and the one behind them
+-- the steps of a page of which no word is decoded
 unfoldable pub blank : List Instr
-blank = replicate 1025 undecoded
+blank = replicate 1024 undecoded
 
 -- ---- decoded pages beside a memory
 
@@ -44,12 +44,10 @@ pub record IsFresh (word : ℕ) (s : Instr) : Type 0 where
   pub small : IsStep s
   pub same : is_decoded s.op ≡ true → instruction_of word ≡ Some (instr_of s)
 
--- each decoded page is a touched page, is found by the place of that page, each of its steps is fresh, and the one behind
--- its words is not decoded
+-- each decoded page is a touched page, is found by the place of that page, and each of its steps is fresh
 pub record IsCode (m : memory.State) (c : Code) : Type 0 where
   pub count : length c.steps.items ≡ length c.numbers.items
-  pub whole : (k : ℕ) → k < length c.numbers.items → length (get_or c.steps.items k []) ≡ 1025
-  pub behind : (k : ℕ) → k < length c.numbers.items → step_of c k 1024 ≡ undecoded
+  pub whole : (k : ℕ) → k < length c.numbers.items → length (get_or c.steps.items k []) ≡ 1024
   pub touched : (k : ℕ) → k < length c.numbers.items → memory.is_touched m (get_or c.numbers.items k 0) ≡ true
   pub found : (k : ℕ) → k < length c.numbers.items
       → get_or c.marks.items (memory.place m.pages (get_or c.numbers.items k 0)) 0 ≡ k + 1

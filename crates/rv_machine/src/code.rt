@@ -20,16 +20,15 @@ const UNDECODED: Instr = Instr {
 };
 
 // A page of which no word is decoded. It is copied as it stands; one that is made on the spot is filled and then copied.
-// Behind its words stands one more step, which is never decoded: what runs past the last word stops there.
-static BLANK: [Instr; 1025] = [UNDECODED; 1025];
+static BLANK: [Instr; 1024] = [UNDECODED; 1024];
 
 /// The decoded pages: those to which control came, word by word as it comes to them.
 #[derive(Drop)]
 pub struct Code {
     /// The number of each decoded page.
     pub numbers: Vec<u32>,
-    /// The steps of each decoded page, one for each word, and one behind them that is never decoded.
-    pub steps: Vec<[Instr; 1025]>,
+    /// The steps of each decoded page, one for each word.
+    pub steps: Vec<[Instr; 1024]>,
     /// For the place of a page in memory 1 plus its place here, or 0 where it is not decoded.
     pub marks: Vec<usize>,
 }
@@ -80,7 +79,7 @@ pub fn is_decoded(op: Op) -> bool
 #[inline(always)]
 pub fn operation_at(code: &Code, here: usize, pc: u32) -> Op
     requires here { here < length code.now.steps.items }
-    requires whole { length (get_or code.now.steps.items here []) ≡ 1025 }
+    requires whole { length (get_or code.now.steps.items here []) ≡ 1024 }
     ensures { result ≡ (decoded.step_of code.now here (pc / 4 % 1024)).op }
 {
     code.steps[here][(pc / 4 % 1024) as usize].op
@@ -88,9 +87,9 @@ pub fn operation_at(code: &Code, here: usize, pc: u32) -> Op
 
 /// The step at a place in a page.
 #[inline(always)]
-pub fn step_at(page: &[Instr; 1025], word: usize) -> Instr
-    requires whole { length page.now ≡ 1025 }
-    requires within { word < 1025 }
+pub fn step_at(page: &[Instr; 1024], word: usize) -> Instr
+    requires whole { length page.now ≡ 1024 }
+    requires within { word < 1024 }
     requires step { decoded.IsStep (get_or page.now word decoded.undecoded) }
     ensures { result ≡ get_or page.now word decoded.undecoded }
 {
@@ -118,7 +117,7 @@ pub fn is_stale(code: &Code, place: usize, at: u32) -> bool
 }
 
 // Whether the word that has the address is decoded in a page, where there is such a page.
-fn has_step(steps: &Vec<[Instr; 1025]>, k: usize, at: u32) -> bool
+fn has_step(steps: &Vec<[Instr; 1024]>, k: usize, at: u32) -> bool
     ensures { result ≡ false → decoded.is_decoded (get_or (get_or steps.now.items k []) (at / 4 % 1024) decoded.undecoded).op ≡ false }
 {
     if k < steps.len() {
@@ -132,7 +131,7 @@ fn has_step(steps: &Vec<[Instr; 1025]>, k: usize, at: u32) -> bool
 pub fn keep(code: &mut Code, here: usize, pc: u32, step: Instr)
     requires here { here < length code.old.steps.items }
     requires aligned { pc % 4 ≡ 0 }
-    ensures kept { length (get_or code.old.steps.items here []) ≡ 1025 → decoded.step_of code.new here (pc / 4 % 1024) ≡ step }
+    ensures kept { length (get_or code.old.steps.items here []) ≡ 1024 → decoded.step_of code.new here (pc / 4 % 1024) ≡ step }
     ensures fresh { (m : paged.State) → decoded.IsCode m code.old → get_or code.old.numbers.items here 0 ≡ pc / 4096 → decoded.IsFresh (paged.word_at m pc) step → decoded.IsCode m code.new }
     ensures numbers { code.new.numbers ≡ code.old.numbers }
 {
@@ -183,7 +182,7 @@ fn mark_of(marks: &Vec<usize>, place: usize) -> usize
 }
 
 // Forgets the step of the word that has the address, where there is such a page.
-fn clear(steps: &mut Vec<[Instr; 1025]>, k: usize, at: u32)
+fn clear(steps: &mut Vec<[Instr; 1024]>, k: usize, at: u32)
     ensures count { length steps.new.items ≡ length steps.old.items }
     ensures whole { (i : ℕ) → length (get_or steps.new.items i []) ≡ length (get_or steps.old.items i []) }
     ensures there { get_or (get_or steps.new.items k []) (at / 4 % 1024) decoded.undecoded ≡ decoded.undecoded }
@@ -246,7 +245,7 @@ fn extend_with_zeros(marks: &mut Vec<usize>, place: usize) -> Result<(), AllocEr
 }
 
 #[tactic(auto, unfolding(crate::specs::Decoded::blank))]
-fn blank() -> &'static [Instr; 1025]
+fn blank() -> &'static [Instr; 1024]
     ensures { result.now ≡ decoded.blank }
 {
     &BLANK

@@ -88,6 +88,7 @@ fn decode_word(processor: &mut Processor, code: &mut Code, here: usize, pc: u32)
 }
 
 /// Runs in the page of pc, which is decoded, while the words are decoded and stay so.
+#[inline(never)]
 pub fn run_in_page(
     processor: &mut Processor,
     code: &Code,
@@ -109,15 +110,12 @@ pub fn run_in_page(
     let page = pc / 4096 * 4096;
     let mut word = (pc / 4 % 1024) as usize;
     let mut left = limit - cost;
-    loop {
+    while left > 0 {
+        if word == 1024 {
+            return paused(page.wrapping_add(4096), left, None, None);
+        }
         let now = ProgramCounter { page, word };
-        if left == 0 {
-            return paused(now.address(), left, Some(Stop::Ended(Ending::Time)), None);
-        }
         let i = step_at(steps, word);
-        if !is_decoded(i.op) {
-            return paused(now.address(), left, None, None);
-        }
         let next = match processor.operate(now, i) {
             Flow::Next => word + 1,
             Flow::Stored(stored) => {
@@ -128,11 +126,19 @@ pub fn run_in_page(
             }
             Flow::Within(to) => to,
             Flow::Jump(to) => return paused(to, left - 1, None, None),
-            Flow::Stopped(stop) => return paused(now.address(), left, Some(stop), None),
+            Flow::Stopped(stop) => {
+                // EBREAK stands for a word that is not decoded.
+                if !is_decoded(i.op) {
+                    return paused(now.address(), left, None, None);
+                }
+                return paused(now.address(), left, Some(stop), None);
+            }
         };
         word = next;
         left -= 1;
     }
+    let now = ProgramCounter { page, word };
+    paused(now.address(), left, Some(Stop::Ended(Ending::Time)), None)
 }
 
 #[cold]
