@@ -1,37 +1,119 @@
-ghost use Rattle.farm_model.specs.Limits.{max_tests};
 ghost use Rattle.std.specs.Prelude.{◌≡◌, ◌∷◌, [], ◌≤◌, ◌<◌, length, true, IfOk, OnOk, OnErr};
 
 use crate::Judge;
 use farm_kinds::{
     Answer, Claim, Class, Count, Kind, Mode, NoMemory, Numbers, Renewed, Rule, Task, Verdict,
 };
+use std::alloc::Global;
+use std::process::Abort;
 use std::test::Fail;
+
+/// What a judge is asked, and in the last place what it should answer.
+#[derive(Clone, Copy)]
+enum Step {
+    /// A judging of so many tests and two hosts are added.
+    SetUp(u16),
+    /// The number of a host that is added.
+    AddHost(u32),
+    /// The number of a judging of the class normal that is added, with so many tests.
+    Add(u16, u32),
+    /// Room is made ahead for judgings of these numbers of tests.
+    Reserve([u16; 3]),
+    /// Room is made ahead for judgings of these numbers of tests, and they are added: the first of the class low, the
+    /// second of the class high, and the third of the class normal.
+    AddReserved([u16; 3]),
+    /// A host claims a task.
+    Claim(u32, Claim),
+    /// A host claims a task, and is handed a test of a judging until a moment.
+    Handed(u32, u32, u16, u64),
+    /// A host claims once for each of these tests, and is handed them in turn.
+    ClaimEach(u32, u16, u16),
+    /// A host's result of a test of a judging.
+    Result(u32, u32, Kind, Count),
+    /// A result from outside, of a test of a judging.
+    Enter(u32, u32, Kind, Count),
+    /// A host renews its lease on a test of a judging.
+    Renew(u32, u32, u32, Renewed),
+    /// Time goes on to a moment, and so many leases end.
+    Tick(u64, u32),
+    /// A host goes down, and so many leases end.
+    Down(u32, u32),
+    /// A judging is dropped.
+    Drop(u32),
+    /// Whether a judging was dropped.
+    Dropped(u32, bool),
+    /// What is reported of a judging.
+    Answer(u32, Option<Answer>),
+    /// How many judgings there are.
+    Judgings(usize),
+}
+
+const PENDING: Option<Answer> = Some(Answer::Pending);
+
+const FINAL_CORRECT: Option<Answer> = Some(Answer::Final(Verdict::Tests(Kind::Correct)));
 
 const FINAL_RUN_ERROR: Option<Answer> = Some(Answer::Final(Verdict::Tests(Kind::RunError)));
 
-/// A judge of leases of a minute, with one judging and two hosts.
-fn judge_by(rt: &HostRuntime, rule: Rule, mode: Mode, tests: u16) -> Result<Judge, NoMemory>
-    requires { tests ≤ max_tests }
-    ensures { IfOk result (λ judge. judge.hosts ≡ 2) }
-{
-    let mut judge = Judge::new(rt.alloc(), rule, mode, 60);
-    judge.add_judging(Class::Normal, tests)?;
-    judge.add_host()?;
-    judge.add_host()?;
-    Ok(judge)
+const FINAL_COMPILER_ERROR: Option<Answer> = Some(Answer::Final(Verdict::CompilerError));
+
+/// What a host is answered that is given a test of a judging until that moment.
+fn handed(judging: u32, test: u16, until: u64) -> Claim {
+    Claim::Handed {
+        task: Task { judging, test },
+        until,
+    }
 }
 
-/// The same by the standard rule.
-fn judge_of(rt: &HostRuntime, mode: Mode, tests: u16) -> Result<Judge, NoMemory>
-    requires { tests ≤ max_tests }
-    ensures { IfOk result (λ judge. judge.hosts ≡ 2) }
+/// What a host is answered that is one of these.
+fn claim(judge: &mut Judge, hosts: u32, host: u32) -> Option<Claim>
+    requires { judge.old.hosts ≡ hosts }
+    ensures { judge.new.hosts ≡ hosts }
 {
-    judge_by(rt, Rule::standard(), mode, tests)
+    if host == 0 || host > hosts {
+        return None;
+    }
+    Some(judge.claim(host))
+}
+
+/// Whether a host that claims once for each of these tests is handed them in turn.
+fn claims_each(judge: &mut Judge, hosts: u32, host: u32, first: u16, last: u16) -> bool
+    requires { judge.old.hosts ≡ hosts }
+    ensures { judge.new.hosts ≡ hosts }
+{
+    for test in first..=last {
+        if claim(judge, hosts, host) != Some(handed(1, test, 60)) {
+            return false;
+        }
+    }
+    true
+}
+
+/// Adds a host where there are not too many, and counts it.
+fn add_host(judge: &mut Judge, hosts: &mut u32) -> Result<u32, NoMemory>
+    requires { judge.old.hosts ≡ hosts.old }
+    ensures { judge.new.hosts ≡ hosts.new }
+{
+    if *hosts >= 1000 {
+        return Err(NoMemory);
+    }
+    let host = judge.add_host()?;
+    *hosts += 1;
+    Ok(host)
+}
+
+/// Adds a judging where there are not too many.
+fn add(judge: &mut Judge, tests: u16) -> Result<u32, NoMemory>
+    ensures { judge.new.hosts ≡ judge.old.hosts }
+{
+    if judge.judgings() >= 1000 || tests > 1000 {
+        return Err(NoMemory);
+    }
+    judge.add_judging(Class::Normal, tests)
 }
 
 /// Makes room ahead for judgings of these three numbers of tests.
 fn reserve(
-    rt: &HostRuntime,
+    alloc: Global,
     judge: &mut Judge,
     first: u16,
     second: u16,
@@ -43,7 +125,7 @@ fn reserve(
     ensures ok { OnOk result (judge.new ≡ record judge.old { reserved = first ∷ second ∷ third ∷ [] }) }
     ensures err { OnErr result (judge.new ≡ judge.old) }
 {
-    let mut tests = Numbers::new(rt.alloc());
+    let mut tests = Numbers::new(alloc);
     tests.push(u32::from(first))?;
     tests.push(u32::from(second))?;
     tests.push(u32::from(third))?;
@@ -53,7 +135,7 @@ fn reserve(
 /// Makes room ahead for three judgings, and adds them. It answers whether none of the three wanted memory,
 /// and is proved to answer true.
 fn add_reserved(
-    rt: &HostRuntime,
+    alloc: Global,
     judge: &mut Judge,
     first: u16,
     second: u16,
@@ -66,7 +148,7 @@ fn add_reserved(
     ensures added { IfOk result (λ added. added ≡ true) }
     ensures hosts { judge.new.hosts ≡ judge.old.hosts }
 {
-    reserve(rt, judge, first, second, third)?;
+    reserve(alloc, judge, first, second, third)?;
     if judge.add_judging(Class::Low, first).is_err() {
         return Ok(false);
     }
@@ -76,311 +158,450 @@ fn add_reserved(
     Ok(judge.add_judging(Class::Normal, third).is_ok())
 }
 
-/// Adds a judging where there are not too many.
-fn add(judge: &mut Judge, class: Class, tests: u16) -> Result<u32, NoMemory>
-    requires { tests ≤ max_tests }
+/// Makes room ahead, where the numbers are not too large.
+fn reserve_few(alloc: Global, judge: &mut Judge, tests: [u16; 3]) -> bool
+    ensures { judge.new.hosts ≡ judge.old.hosts }
 {
-    if judge.judgings() >= 1000 {
-        return Err(NoMemory);
+    let [first, second, third] = tests;
+    if first > 1000 || second > 1000 || third > 1000 {
+        return false;
     }
-    judge.add_judging(class, tests)
+    reserve(alloc, judge, first, second, third).is_ok()
 }
 
-/// What a host is answered that is given a test of the first judging until that moment.
-fn handed(test: u16, until: u64) -> Claim {
-    Claim::Handed {
-        task: Task { judging: 1, test },
-        until,
+/// Makes room ahead and adds, where there are not too many and the numbers are not too large.
+fn add_few_reserved(alloc: Global, judge: &mut Judge, tests: [u16; 3]) -> bool
+    ensures { judge.new.hosts ≡ judge.old.hosts }
+{
+    let [first, second, third] = tests;
+    if judge.judgings() >= 1000 || first > 1000 || second > 1000 || third > 1000 {
+        return false;
+    }
+    add_reserved(alloc, judge, first, second, third) == Ok(true)
+}
+
+/// Adds a judging of so many tests and two hosts.
+fn set_up(judge: &mut Judge, hosts: &mut u32, tests: u16) -> bool
+    requires { judge.old.hosts ≡ hosts.old }
+    ensures { judge.new.hosts ≡ hosts.new }
+{
+    add(judge, tests).is_ok() && add_host(judge, hosts).is_ok() && add_host(judge, hosts).is_ok()
+}
+
+/// Drops a judging, if it is there.
+fn drop_judging(judge: &mut Judge, judging: u32) -> bool
+    ensures { judge.new.hosts ≡ judge.old.hosts }
+{
+    if judging == 0 || judging as usize > judge.judgings() {
+        return false;
+    }
+    judge.drop_judging(judging);
+    true
+}
+
+/// Whether a judging was dropped that is there.
+fn dropped(judge: &Judge, judging: u32) -> Option<bool> {
+    if judging == 0 || judging as usize > judge.judgings() {
+        return None;
+    }
+    Some(judge.dropped(judging))
+}
+
+/// Whether the judge, which has so many hosts, answers the step as it should.
+fn is_answered(alloc: Global, judge: &mut Judge, hosts: &mut u32, step: Step) -> bool
+    requires { judge.old.hosts ≡ hosts.old }
+    ensures { judge.new.hosts ≡ hosts.new }
+{
+    match step {
+        Step::SetUp(tests) => set_up(judge, hosts, tests),
+        Step::AddHost(wanted) => add_host(judge, hosts) == Ok(wanted),
+        Step::Add(tests, wanted) => add(judge, tests) == Ok(wanted),
+        Step::Reserve(tests) => reserve_few(alloc, judge, tests),
+        Step::AddReserved(tests) => add_few_reserved(alloc, judge, tests),
+        Step::Claim(host, wanted) => claim(judge, *hosts, host) == Some(wanted),
+        Step::Handed(host, judging, test, until) => {
+            claim(judge, *hosts, host) == Some(handed(judging, test, until))
+        }
+        Step::ClaimEach(host, first, last) => claims_each(judge, *hosts, host, first, last),
+        Step::Result(judging, test, kind, wanted) => judge.result(judging, test, kind) == wanted,
+        Step::Enter(judging, test, kind, wanted) => judge.enter(judging, test, kind) == wanted,
+        Step::Renew(host, judging, test, wanted) => judge.renew(host, judging, test) == wanted,
+        Step::Tick(moment, wanted) => judge.tick(moment) == wanted,
+        Step::Down(host, wanted) => judge.down(host) == wanted,
+        Step::Drop(judging) => drop_judging(judge, judging),
+        Step::Dropped(judging, wanted) => dropped(judge, judging) == Some(wanted),
+        Step::Answer(judging, wanted) => judge.answer(judging) == wanted,
+        Step::Judgings(wanted) => judge.judgings() == wanted,
     }
 }
 
-/// What a host is answered that is given a task until a lease from moment 0 ends.
-fn handed_in(judging: u32, test: u16) -> Claim {
-    Claim::Handed {
-        task: Task { judging, test },
-        until: 60,
+/// Has a judge without hosts take the steps, each of which it should answer as is said there.
+fn play(rt: &impl Abort, alloc: Global, judge: &mut Judge, steps: &[Step])
+    requires { judge.old.hosts ≡ 0 }
+{
+    let mut hosts = 0;
+    for (at, step) in steps.iter().enumerate() {
+        assert!(rt; is_answered(alloc, judge, &mut hosts, *step), "step {at}");
     }
 }
 
-#[test]
-fn final_once_every_cell_is_filled(rt: HostRuntime) -> Result<(), Fail> {
-    for mode in [Mode::Lazy, Mode::Full] {
-        let mut judge = judge_of(&rt, mode, 2)?;
-        assert_eq!(rt; judge.enter(1, 2, Kind::RunError), Count::Counted);
-        assert_eq!(rt; judge.answer(1), Some(Answer::Pending));
-        assert_eq!(rt; judge.enter(1, 1, Kind::Correct), Count::Counted);
-        assert_eq!(rt; judge.answer(1), FINAL_RUN_ERROR);
-        assert_eq!(rt; (judge.judgings(), judge.answer(2)), (1, None));
-    }
+/// Has an empty judge of leases of a minute take the steps. No other function here owns a judge: each way out of one
+/// that does has to be proved to drop it, and so all that it holds.
+fn play_by(rt: &impl Abort, alloc: Global, rule: Rule, mode: Mode, steps: &[Step]) {
+    let mut judge = Judge::new(alloc, rule, mode, 60);
+    play(rt, alloc, &mut judge, steps);
+}
+
+/// The same by the standard rule, lazily.
+fn play_lazily(rt: &impl Abort, alloc: Global, steps: &[Step]) {
+    play_by(rt, alloc, Rule::standard(), Mode::Lazy, steps);
+}
+
+/// The same by the standard rule, in full.
+fn play_in_full(rt: &impl Abort, alloc: Global, steps: &[Step]) {
+    play_by(rt, alloc, Rule::standard(), Mode::Full, steps);
+}
+
+/// The same by the standard rule, in each mode.
+fn play_in_each_mode(rt: &impl Abort, alloc: Global, steps: &[Step]) {
+    play_lazily(rt, alloc, steps);
+    play_in_full(rt, alloc, steps);
+}
+
+/// The same by a rule of these priorities and replacements, lazily.
+fn play_by_rule(
+    rt: &impl Abort,
+    alloc: Global,
+    prio: [u16; 8],
+    remap: [Kind; 8],
+    steps: &[Step],
+) -> Result<(), Fail> {
+    let Ok(rule) = Rule::new(prio, remap) else {
+        return Err(Fail::from("no rule"));
+    };
+    play_by(rt, alloc, rule, Mode::Lazy, steps);
     Ok(())
 }
 
-#[test]
-fn only_full_judging_goes_on_once_the_verdict_is_known(rt: HostRuntime) -> Result<(), Fail> {
-    let mut lazy = judge_of(&rt, Mode::Lazy, 2)?;
-    assert_eq!(rt; lazy.enter(1, 1, Kind::RunError), Count::Counted);
-    assert_eq!(rt; lazy.answer(1), FINAL_RUN_ERROR);
-    assert_eq!(rt; lazy.claim(1), Claim::Nothing);
-    let mut full = judge_of(&rt, Mode::Full, 2)?;
-    assert_eq!(rt; full.enter(1, 1, Kind::RunError), Count::Counted);
-    assert_eq!(rt; full.answer(1), Some(Answer::Pending));
-    assert_eq!(rt; full.claim(1), handed(2, 60));
-    assert_eq!(rt; full.result(1, 2, Kind::Correct), Count::Counted);
-    assert_eq!(rt; full.answer(1), FINAL_RUN_ERROR);
-    Ok(())
-}
+const FINAL_ONCE_FILLED: [Step; 7] = [
+    Step::SetUp(2),
+    Step::Enter(1, 2, Kind::RunError, Count::Counted),
+    Step::Answer(1, PENDING),
+    Step::Enter(1, 1, Kind::Correct, Count::Counted),
+    Step::Answer(1, FINAL_RUN_ERROR),
+    Step::Judgings(1),
+    Step::Answer(2, None),
+];
 
 #[test]
-fn a_tie_waits_for_an_earlier_rank(rt: HostRuntime) -> Result<(), Fail> {
-    let mut judge = judge_of(&rt, Mode::Lazy, 3)?;
-    assert_eq!(rt; judge.enter(1, 2, Kind::RunError), Count::Counted);
-    assert_eq!(rt; judge.answer(1), Some(Answer::Pending));
-    assert_eq!(rt; judge.claim(1), handed(1, 60));
-    assert_eq!(rt; judge.claim(2), Claim::Nothing);
-    assert_eq!(rt; judge.result(1, 1, Kind::Correct), Count::Counted);
-    assert_eq!(rt; judge.answer(1), FINAL_RUN_ERROR);
-    assert_eq!(rt; judge.claim(1), Claim::Nothing);
+fn final_once_every_cell_is_filled(rt: HostRuntime) {
+    play_in_each_mode(&rt, rt.alloc(), FINAL_ONCE_FILLED.as_slice());
+}
+
+const LAZILY_STOPPED: [Step; 4] = [
+    Step::SetUp(2),
+    Step::Enter(1, 1, Kind::RunError, Count::Counted),
+    Step::Answer(1, FINAL_RUN_ERROR),
+    Step::Claim(1, Claim::Nothing),
+];
+
+const NOT_STOPPED_IN_FULL: [Step; 6] = [
+    Step::SetUp(2),
+    Step::Enter(1, 1, Kind::RunError, Count::Counted),
+    Step::Answer(1, PENDING),
+    Step::Handed(1, 1, 2, 60),
+    Step::Result(1, 2, Kind::Correct, Count::Counted),
+    Step::Answer(1, FINAL_RUN_ERROR),
+];
+
+#[test]
+fn only_full_judging_goes_on_once_the_verdict_is_known(rt: HostRuntime) {
+    play_lazily(&rt, rt.alloc(), LAZILY_STOPPED.as_slice());
+    play_in_full(&rt, rt.alloc(), NOT_STOPPED_IN_FULL.as_slice());
+}
+
+const TIED: [Step; 10] = [
+    Step::SetUp(3),
+    Step::Enter(1, 2, Kind::RunError, Count::Counted),
+    Step::Answer(1, PENDING),
+    Step::Handed(1, 1, 1, 60),
+    Step::Claim(2, Claim::Nothing),
+    Step::Result(1, 1, Kind::Correct, Count::Counted),
+    Step::Answer(1, FINAL_RUN_ERROR),
+    Step::Claim(1, Claim::Nothing),
     // a result that comes all the same is kept, and the verdict stays
-    assert_eq!(rt; judge.enter(1, 3, Kind::TimeLimit), Count::Counted);
-    assert_eq!(rt; judge.answer(1), FINAL_RUN_ERROR);
-    Ok(())
-}
+    Step::Enter(1, 3, Kind::TimeLimit, Count::Counted),
+    Step::Answer(1, FINAL_RUN_ERROR),
+];
 
 #[test]
-fn a_middle_priority_does_not_stop(rt: HostRuntime) -> Result<(), Fail> {
-    let mut judge = judge_of(&rt, Mode::Lazy, 2)?;
-    assert_eq!(rt; judge.enter(1, 1, Kind::WrongAnswer), Count::Counted);
-    assert_eq!(rt; judge.answer(1), Some(Answer::Pending));
-    assert_eq!(rt; judge.claim(1), handed(2, 60));
-    Ok(())
+fn a_tie_waits_for_an_earlier_rank(rt: HostRuntime) {
+    play_lazily(&rt, rt.alloc(), TIED.as_slice());
 }
+
+const OF_MIDDLE_PRIORITY: [Step; 4] = [
+    Step::SetUp(2),
+    Step::Enter(1, 1, Kind::WrongAnswer, Count::Counted),
+    Step::Answer(1, PENDING),
+    Step::Handed(1, 1, 2, 60),
+];
+
+#[test]
+fn a_middle_priority_does_not_stop(rt: HostRuntime) {
+    play_lazily(&rt, rt.alloc(), OF_MIDDLE_PRIORITY.as_slice());
+}
+
+const OF_GREATEST_PRIORITY: [Step; 4] = [
+    Step::SetUp(3),
+    Step::Enter(1, 3, Kind::RunError, Count::Counted),
+    Step::Answer(1, FINAL_RUN_ERROR),
+    Step::Claim(1, Claim::Nothing),
+];
 
 #[test]
 fn a_unique_greatest_priority_stops(rt: HostRuntime) -> Result<(), Fail> {
-    let Ok(rule) = Rule::new([1, 30, 100, 99, 10, 99, 99, 99], Kind::ALL) else {
-        panic!(rt; "no rule");
-    };
-    let mut judge = judge_by(&rt, rule, Mode::Lazy, 3)?;
-    assert_eq!(rt; judge.enter(1, 3, Kind::RunError), Count::Counted);
-    assert_eq!(rt; judge.answer(1), FINAL_RUN_ERROR);
-    assert_eq!(rt; judge.claim(1), Claim::Nothing);
-    Ok(())
+    let prio = [1, 30, 100, 99, 10, 99, 99, 99];
+    play_by_rule(
+        &rt,
+        rt.alloc(),
+        prio,
+        Kind::ALL,
+        OF_GREATEST_PRIORITY.as_slice(),
+    )
 }
+
+const FINAL_UNTESTED: [Step; 3] = [
+    Step::SetUp(2),
+    Step::Answer(1, FINAL_RUN_ERROR),
+    Step::Claim(1, Claim::Nothing),
+];
 
 #[test]
 fn one_possible_kind_needs_no_test(rt: HostRuntime) -> Result<(), Fail> {
-    let Ok(rule) = Rule::new([1, 30, 99, 99, 10, 99, 99, 99], [Kind::RunError; 8]) else {
-        panic!(rt; "no rule");
-    };
-    let mut judge = judge_by(&rt, rule, Mode::Lazy, 2)?;
-    assert_eq!(rt; judge.answer(1), FINAL_RUN_ERROR);
-    assert_eq!(rt; judge.claim(1), Claim::Nothing);
-    Ok(())
+    let prio = [1, 30, 99, 99, 10, 99, 99, 99];
+    let remap = [Kind::RunError; 8];
+    play_by_rule(&rt, rt.alloc(), prio, remap, FINAL_UNTESTED.as_slice())
 }
+
+const OF_EQUAL_PRIORITY: [Step; 7] = [
+    Step::SetUp(3),
+    Step::Enter(1, 2, Kind::Correct, Count::Counted),
+    Step::Answer(1, PENDING),
+    Step::Handed(1, 1, 1, 60),
+    Step::Claim(2, Claim::Nothing),
+    Step::Result(1, 1, Kind::RunError, Count::Counted),
+    Step::Answer(1, FINAL_RUN_ERROR),
+];
 
 #[test]
 fn with_equal_priorities_the_first_test_decides(rt: HostRuntime) -> Result<(), Fail> {
-    let Ok(rule) = Rule::new([7; 8], Kind::ALL) else {
-        panic!(rt; "no rule");
-    };
-    let mut judge = judge_by(&rt, rule, Mode::Lazy, 3)?;
-    assert_eq!(rt; judge.enter(1, 2, Kind::Correct), Count::Counted);
-    assert_eq!(rt; judge.answer(1), Some(Answer::Pending));
-    assert_eq!(rt; judge.claim(1), handed(1, 60));
-    assert_eq!(rt; judge.claim(2), Claim::Nothing);
-    assert_eq!(rt; judge.result(1, 1, Kind::RunError), Count::Counted);
-    assert_eq!(rt; judge.answer(1), FINAL_RUN_ERROR);
-    Ok(())
+    play_by_rule(
+        &rt,
+        rt.alloc(),
+        [7; 8],
+        Kind::ALL,
+        OF_EQUAL_PRIORITY.as_slice(),
+    )
 }
 
-#[test]
-fn broken_submission_is_final_at_once(rt: HostRuntime) -> Result<(), Fail> {
-    for mode in [Mode::Lazy, Mode::Full] {
-        let mut judge = judge_of(&rt, mode, 0)?;
-        assert_eq!(rt;
-            judge.answer(1),
-            Some(Answer::Final(Verdict::CompilerError))
-        );
-        assert_eq!(rt; judge.claim(1), Claim::Nothing);
-    }
-    Ok(())
-}
+const BROKEN: [Step; 3] = [
+    Step::SetUp(0),
+    Step::Answer(1, FINAL_COMPILER_ERROR),
+    Step::Claim(1, Claim::Nothing),
+];
 
 #[test]
-fn late_result_counts(rt: HostRuntime) -> Result<(), Fail> {
-    for mode in [Mode::Lazy, Mode::Full] {
-        let mut judge = judge_of(&rt, mode, 2)?;
-        assert_eq!(rt; judge.claim(1), handed(1, 60));
-        assert_eq!(rt; judge.tick(60), 1);
-        assert_eq!(rt; judge.renew(1, 1, 1), Renewed::NoLease);
-        assert_eq!(rt; judge.result(1, 1, Kind::Correct), Count::Counted);
-        assert_eq!(rt; judge.claim(2), handed(2, 120));
-    }
-    Ok(())
+fn broken_submission_is_final_at_once(rt: HostRuntime) {
+    play_in_each_mode(&rt, rt.alloc(), BROKEN.as_slice());
 }
 
-#[test]
-fn first_result_stays(rt: HostRuntime) -> Result<(), Fail> {
-    for mode in [Mode::Lazy, Mode::Full] {
-        let mut judge = judge_of(&rt, mode, 2)?;
-        assert_eq!(rt; judge.result(1, 1, Kind::Correct), Count::NotHanded);
-        assert_eq!(rt; judge.claim(1), handed(1, 60));
-        assert_eq!(rt; judge.result(1, 1, Kind::Correct), Count::Counted);
-        let kept = Kind::Correct;
-        assert_eq!(rt; judge.result(1, 1, kept), Count::Repeat { kept });
-        let given = Kind::RunError;
-        assert_eq!(rt; judge.result(1, 1, given), Count::Differs { kept, given });
-        assert_eq!(rt; judge.enter(1, 1, given), Count::Differs { kept, given });
-        assert_eq!(rt; judge.enter(1, 3, given), Count::NoTest);
-        assert_eq!(rt; judge.result(2, 1, given), Count::NoJudging);
-    }
-    Ok(())
-}
+const LATE: [Step; 6] = [
+    Step::SetUp(2),
+    Step::Handed(1, 1, 1, 60),
+    Step::Tick(60, 1),
+    Step::Renew(1, 1, 1, Renewed::NoLease),
+    Step::Result(1, 1, Kind::Correct, Count::Counted),
+    Step::Handed(2, 1, 2, 120),
+];
 
 #[test]
-fn one_before_the_end(rt: HostRuntime) -> Result<(), Fail> {
-    let mut judge = judge_of(&rt, Mode::Lazy, 3)?;
-    assert_eq!(rt; judge.claim(1), handed(1, 60));
-    assert_eq!(rt; judge.tick(59), 0);
-    assert_eq!(rt; judge.claim(2), handed(2, 119));
-    assert_eq!(rt; judge.tick(60), 1);
-    assert_eq!(rt; judge.claim(2), handed(1, 120));
-    assert_eq!(rt; judge.renew(2, 1, 2), Renewed::Until { until: 120 });
-    assert_eq!(rt; judge.renew(1, 1, 2), Renewed::NoLease);
-    assert_eq!(rt; judge.tick(119), 0);
-    assert_eq!(rt; judge.tick(120), 2);
-    Ok(())
+fn late_result_counts(rt: HostRuntime) {
+    play_in_each_mode(&rt, rt.alloc(), LATE.as_slice());
 }
 
-#[test]
-fn host_dies_and_returns(rt: HostRuntime) -> Result<(), Fail> {
-    let mut judge = judge_of(&rt, Mode::Lazy, 2)?;
-    assert_eq!(rt; judge.claim(1), handed(1, 60));
-    assert_eq!(rt; (judge.down(2), judge.down(1), judge.down(1)), (0, 1, 0));
-    assert_eq!(rt; judge.claim(2), handed(1, 60));
-    assert_eq!(rt; judge.claim(1), handed(2, 60));
-    assert_eq!(rt; judge.claim(1), Claim::Nothing);
-    assert_eq!(rt; judge.down(2), 1);
-    assert_eq!(rt; judge.add_host(), Ok(3));
-    assert_eq!(rt; judge.claim(3), handed(1, 60));
-    Ok(())
-}
+const REPEATED: Count = Count::Repeat {
+    kept: Kind::Correct,
+};
+
+const DIFFERING: Count = Count::Differs {
+    kept: Kind::Correct,
+    given: Kind::RunError,
+};
+
+const GIVEN_AGAIN: [Step; 9] = [
+    Step::SetUp(2),
+    Step::Result(1, 1, Kind::Correct, Count::NotHanded),
+    Step::Handed(1, 1, 1, 60),
+    Step::Result(1, 1, Kind::Correct, Count::Counted),
+    Step::Result(1, 1, Kind::Correct, REPEATED),
+    Step::Result(1, 1, Kind::RunError, DIFFERING),
+    Step::Enter(1, 1, Kind::RunError, DIFFERING),
+    Step::Enter(1, 3, Kind::RunError, Count::NoTest),
+    Step::Result(2, 1, Kind::RunError, Count::NoJudging),
+];
 
 #[test]
-fn holds_at_most_64(rt: HostRuntime) -> Result<(), Fail> {
-    let mut judge = judge_of(&rt, Mode::Lazy, 66)?;
-    for test in 1..=64 {
-        assert_eq!(rt; judge.claim(1), handed(test, 60));
-    }
-    assert_eq!(rt; judge.claim(1), Claim::Holding);
-    assert_eq!(rt; judge.claim(2), handed(65, 60));
-    assert_eq!(rt; judge.result(1, 7, Kind::Correct), Count::Counted);
-    assert_eq!(rt; judge.claim(1), handed(66, 60));
-    assert_eq!(rt; judge.claim(2), Claim::Nothing);
-    Ok(())
+fn first_result_stays(rt: HostRuntime) {
+    play_in_each_mode(&rt, rt.alloc(), GIVEN_AGAIN.as_slice());
 }
 
+const BEFORE_THE_END: [Step; 10] = [
+    Step::SetUp(3),
+    Step::Handed(1, 1, 1, 60),
+    Step::Tick(59, 0),
+    Step::Handed(2, 1, 2, 119),
+    Step::Tick(60, 1),
+    Step::Handed(2, 1, 1, 120),
+    Step::Renew(2, 1, 2, Renewed::Until { until: 120 }),
+    Step::Renew(1, 1, 2, Renewed::NoLease),
+    Step::Tick(119, 0),
+    Step::Tick(120, 2),
+];
+
 #[test]
-fn time_stops_at_its_last_moment(rt: HostRuntime) -> Result<(), Fail> {
-    let mut judge = judge_of(&rt, Mode::Lazy, 2)?;
-    let until = 1_000_000_000_000_000_059;
-    assert_eq!(rt; judge.claim(1), handed(1, 60));
-    assert_eq!(rt; judge.tick(1_000_000_000_000_000_000), 1);
-    assert_eq!(rt; judge.claim(1), handed(1, until));
-    assert_eq!(rt; judge.tick(u64::MAX), 0);
-    assert_eq!(rt; judge.tick(0), 0);
-    assert_eq!(rt; judge.renew(1, 1, 1), Renewed::Until { until });
-    assert_eq!(rt; judge.claim(2), handed(2, until));
-    Ok(())
+fn one_before_the_end(rt: HostRuntime) {
+    play_lazily(&rt, rt.alloc(), BEFORE_THE_END.as_slice());
 }
+
+const DEAD_AND_BACK: [Step; 11] = [
+    Step::SetUp(2),
+    Step::Handed(1, 1, 1, 60),
+    Step::Down(2, 0),
+    Step::Down(1, 1),
+    Step::Down(1, 0),
+    Step::Handed(2, 1, 1, 60),
+    Step::Handed(1, 1, 2, 60),
+    Step::Claim(1, Claim::Nothing),
+    Step::Down(2, 1),
+    Step::AddHost(3),
+    Step::Handed(3, 1, 1, 60),
+];
+
+#[test]
+fn host_dies_and_returns(rt: HostRuntime) {
+    play_lazily(&rt, rt.alloc(), DEAD_AND_BACK.as_slice());
+}
+
+const HOLDING_MANY: [Step; 7] = [
+    Step::SetUp(66),
+    Step::ClaimEach(1, 1, 64),
+    Step::Claim(1, Claim::Holding),
+    Step::Handed(2, 1, 65, 60),
+    Step::Result(1, 7, Kind::Correct, Count::Counted),
+    Step::Handed(1, 1, 66, 60),
+    Step::Claim(2, Claim::Nothing),
+];
+
+#[test]
+fn holds_at_most_64(rt: HostRuntime) {
+    play_lazily(&rt, rt.alloc(), HOLDING_MANY.as_slice());
+}
+
+/// When a lease from the last moment ends.
+const LAST_END: u64 = 1_000_000_000_000_000_059;
+
+const AT_THE_LAST_MOMENT: [Step; 8] = [
+    Step::SetUp(2),
+    Step::Handed(1, 1, 1, 60),
+    Step::Tick(1_000_000_000_000_000_000, 1),
+    Step::Handed(1, 1, 1, LAST_END),
+    Step::Tick(u64::MAX, 0),
+    Step::Tick(0, 0),
+    Step::Renew(1, 1, 1, Renewed::Until { until: LAST_END }),
+    Step::Handed(2, 1, 2, LAST_END),
+];
+
+#[test]
+fn time_stops_at_its_last_moment(rt: HostRuntime) {
+    play_lazily(&rt, rt.alloc(), AT_THE_LAST_MOMENT.as_slice());
+}
+
+const DROPPED: [Step; 13] = [
+    Step::SetUp(2),
+    Step::Handed(1, 1, 1, 60),
+    Step::Handed(2, 1, 2, 60),
+    Step::Result(1, 2, Kind::Correct, Count::Counted),
+    Step::Dropped(1, false),
+    Step::Drop(1),
+    Step::Dropped(1, true),
+    Step::Result(1, 1, Kind::Correct, Count::Dropped),
+    Step::Enter(1, 1, Kind::Correct, Count::Dropped),
+    Step::Enter(1, 2, Kind::Correct, REPEATED),
+    Step::Claim(1, Claim::Nothing),
+    Step::Tick(60, 0),
+    Step::Answer(1, PENDING),
+];
 
 /// A judging that is dropped takes no more results, keeps its cells, and holds no lease.
 #[test]
-fn dropped_judging(rt: HostRuntime) -> Result<(), Fail> {
-    let mut judge = judge_of(&rt, Mode::Lazy, 2)?;
-    assert_eq!(rt; judge.claim(1), handed(1, 60));
-    assert_eq!(rt; judge.claim(2), handed(2, 60));
-    assert_eq!(rt; judge.result(1, 2, Kind::Correct), Count::Counted);
-    if judge.judgings() == 0 {
-        return Ok(());
-    }
-    assert!(rt; !judge.dropped(1));
-    judge.drop_judging(1);
-    assert!(rt; judge.dropped(1));
-    assert_eq!(rt; judge.result(1, 1, Kind::Correct), Count::Dropped);
-    assert_eq!(rt; judge.enter(1, 1, Kind::Correct), Count::Dropped);
-    assert_eq!(rt;
-        judge.enter(1, 2, Kind::Correct),
-        Count::Repeat {
-            kept: Kind::Correct
-        }
-    );
-    assert_eq!(rt; judge.claim(1), Claim::Nothing);
-    assert_eq!(rt; judge.tick(60), 0);
-    assert_eq!(rt; judge.answer(1), Some(Answer::Pending));
-    Ok(())
+fn dropped_judging(rt: HostRuntime) {
+    play_lazily(&rt, rt.alloc(), DROPPED.as_slice());
 }
+
+const RESERVED: [Step; 14] = [
+    Step::AddHost(1),
+    Step::AddReserved([2, 0, 3]),
+    Step::Judgings(3),
+    Step::Answer(1, PENDING),
+    Step::Answer(2, FINAL_COMPILER_ERROR),
+    // the third is of the class normal, and the first of the class low
+    Step::Handed(1, 3, 1, 60),
+    Step::Handed(1, 3, 2, 60),
+    Step::Handed(1, 3, 3, 60),
+    Step::Handed(1, 1, 1, 60),
+    Step::Handed(1, 1, 2, 60),
+    Step::Claim(1, Claim::Nothing),
+    Step::Result(3, 3, Kind::RunError, Count::Counted),
+    Step::Result(3, 4, Kind::RunError, Count::NoTest),
+    Step::Enter(1, 3, Kind::RunError, Count::NoTest),
+];
 
 /// Room that is made ahead is taken in order, and a judging that is made ahead is like another.
 #[test]
-fn reserved_judgings_come_in_order(rt: HostRuntime) -> Result<(), Fail> {
-    let mut judge = Judge::new(rt.alloc(), Rule::standard(), Mode::Lazy, 60);
-    let host = judge.add_host()?;
-    assert_eq!(rt; add_reserved(&rt, &mut judge, 2, 0, 3), Ok(true));
-    assert_eq!(rt; (judge.judgings(), host), (3, 1));
-    assert_eq!(rt; judge.answer(1), Some(Answer::Pending));
-    assert_eq!(rt;
-        judge.answer(2),
-        Some(Answer::Final(Verdict::CompilerError))
-    );
-    // the third is of the class normal, and the first of the class low
-    assert_eq!(rt; judge.claim(1), handed_in(3, 1));
-    assert_eq!(rt; judge.claim(1), handed_in(3, 2));
-    assert_eq!(rt; judge.claim(1), handed_in(3, 3));
-    assert_eq!(rt; judge.claim(1), handed_in(1, 1));
-    assert_eq!(rt; judge.claim(1), handed_in(1, 2));
-    assert_eq!(rt; judge.claim(1), Claim::Nothing);
-    assert_eq!(rt; judge.result(3, 3, Kind::RunError), Count::Counted);
-    assert_eq!(rt; judge.result(3, 4, Kind::RunError), Count::NoTest);
-    assert_eq!(rt; judge.enter(1, 3, Kind::RunError), Count::NoTest);
-    Ok(())
+fn reserved_judgings_come_in_order(rt: HostRuntime) {
+    play_lazily(&rt, rt.alloc(), RESERVED.as_slice());
 }
+
+const ADDED_OTHERWISE: [Step; 7] = [
+    Step::Reserve([2, 0, 3]),
+    Step::Add(2, 1),
+    Step::Add(1, 2),
+    Step::Add(0, 3),
+    Step::Enter(2, 1, Kind::Correct, Count::Counted),
+    Step::Answer(2, FINAL_CORRECT),
+    Step::Answer(3, FINAL_COMPILER_ERROR),
+];
 
 /// A judging with another number of tests ends what was reserved, and is as it was asked for.
 #[test]
-fn another_number_ends_the_reservation(rt: HostRuntime) -> Result<(), Fail> {
-    let mut judge = Judge::new(rt.alloc(), Rule::standard(), Mode::Full, 60);
-    assert_eq!(rt; reserve(&rt, &mut judge, 2, 0, 3), Ok(()));
-    assert_eq!(rt; add(&mut judge, Class::Normal, 2), Ok(1));
-    assert_eq!(rt; add(&mut judge, Class::Normal, 1), Ok(2));
-    assert_eq!(rt; add(&mut judge, Class::Normal, 0), Ok(3));
-    assert_eq!(rt; judge.enter(2, 1, Kind::Correct), Count::Counted);
-    assert_eq!(rt;
-        judge.answer(2),
-        Some(Answer::Final(Verdict::Tests(Kind::Correct)))
-    );
-    assert_eq!(rt;
-        judge.answer(3),
-        Some(Answer::Final(Verdict::CompilerError))
-    );
-    Ok(())
+fn another_number_ends_the_reservation(rt: HostRuntime) {
+    play_in_full(&rt, rt.alloc(), ADDED_OTHERWISE.as_slice());
 }
+
+const RESERVED_AGAIN: [Step; 9] = [
+    Step::Reserve([2, 0, 3]),
+    Step::AddReserved([0, 1, 1]),
+    Step::Judgings(3),
+    Step::Answer(1, FINAL_COMPILER_ERROR),
+    Step::Answer(2, PENDING),
+    Step::Enter(2, 2, Kind::Correct, Count::NoTest),
+    Step::Enter(2, 1, Kind::Correct, Count::Counted),
+    Step::Enter(3, 1, Kind::RunError, Count::Counted),
+    Step::Add(2, 4),
+];
 
 /// What is reserved again replaces what was reserved before.
 #[test]
-fn reserving_again_replaces(rt: HostRuntime) -> Result<(), Fail> {
-    let mut judge = Judge::new(rt.alloc(), Rule::standard(), Mode::Lazy, 60);
-    assert_eq!(rt; reserve(&rt, &mut judge, 2, 0, 3), Ok(()));
-    assert_eq!(rt; add_reserved(&rt, &mut judge, 0, 1, 1), Ok(true));
-    assert_eq!(rt; judge.judgings(), 3);
-    assert_eq!(rt;
-        judge.answer(1),
-        Some(Answer::Final(Verdict::CompilerError))
-    );
-    assert_eq!(rt; judge.answer(2), Some(Answer::Pending));
-    assert_eq!(rt; judge.enter(2, 2, Kind::Correct), Count::NoTest);
-    assert_eq!(rt; judge.enter(2, 1, Kind::Correct), Count::Counted);
-    assert_eq!(rt; judge.enter(3, 1, Kind::RunError), Count::Counted);
-    assert_eq!(rt; add(&mut judge, Class::Normal, 2), Ok(4));
-    Ok(())
+fn reserving_again_replaces(rt: HostRuntime) {
+    play_lazily(&rt, rt.alloc(), RESERVED_AGAIN.as_slice());
 }
