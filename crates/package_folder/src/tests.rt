@@ -7,6 +7,7 @@ use farm_tree::{
     Entries, FILE_LIMIT, MemoryTree, ReliableTree, Tree, TreeErr, TreeFile, TreeFiles,
 };
 use std::alloc::{AllocError, Global};
+use std::process::Abort;
 use std::test::Fail;
 
 /// The files of a package with two tests and the default validator.
@@ -75,25 +76,37 @@ const ROWS: &str = concat!(
     "p/problem.yaml=validator_flags: x|p/data/testdata.yaml= => flags word 1\n",
 );
 
-/// The files with these changes.
+/// What is read of these files.
+const READ: &str = "Echo 100000 16384 8388608 default sample/1 secret/01";
+
+/// A tree of the files with these changes.
 fn changed(alloc: Global, changes: &str) -> Result<ReliableTree, Fail> {
+    Ok(ReliableTree::new(alloc, changed_files(alloc, changes)?))
+}
+
+/// The files with these changes.
+fn changed_files(alloc: Global, changes: &str) -> Result<TreeFiles, Fail> {
     let mut files = TreeFiles::new(alloc);
+    put_changed(alloc, &mut files, changes)?;
+    Ok(files)
+}
+
+/// Adds the files with these changes.
+fn put_changed(alloc: Global, files: &mut TreeFiles, changes: &str) -> Result<(), Fail> {
     for (path, text) in ECHO {
-        if !changes.split('|').any(|change| path_of(change) == path) {
-            put(alloc, &mut files, path, text)?;
+        if !is_changed(changes, path) {
+            put(alloc, files, path, text)?;
         }
     }
     for change in changes.split('|') {
-        if let Some((path, text)) = change.split_once('=') {
-            put(
-                alloc,
-                &mut files,
-                path,
-                text.replace(alloc, '~', "\n")?.as_str(),
-            )?;
-        }
+        put_change(alloc, files, change)?;
     }
-    Ok(ReliableTree::new(alloc, files))
+    Ok(())
+}
+
+/// Whether one of the changes is of this path.
+fn is_changed(changes: &str, path: &str) -> bool {
+    changes.split('|').any(|change| path_of(change) == path)
 }
 
 /// The path of a change.
@@ -104,10 +117,11 @@ fn path_of(change: &str) -> &str {
     }
 }
 
-/// Adds a file to a tree, where its path is one.
-fn add(tree: &mut ReliableTree, path: &str, bytes: &[u8]) -> Result<(), Fail> {
-    if path.len() <= 4096 {
-        tree.add(path, bytes)?;
+/// Adds the file of a change, if it is not one that is left out.
+fn put_change(alloc: Global, files: &mut TreeFiles, change: &str) -> Result<(), Fail> {
+    if let Some((path, text)) = change.split_once('=') {
+        let text = text.replace(alloc, '~', "\n")?;
+        put(alloc, files, path, text.as_str())?;
     }
     Ok(())
 }
@@ -120,44 +134,88 @@ fn put(alloc: Global, files: &mut TreeFiles, path: &str, text: &str) -> Result<(
     Ok(())
 }
 
+/// Adds a file to a tree, where its path is one.
+fn add(tree: &mut ReliableTree, path: &str, bytes: &[u8]) -> Result<(), Fail> {
+    if path.len() <= 4096 {
+        tree.add(path, bytes)?;
+    }
+    Ok(())
+}
+
+/// What is told of a package.
+#[derive(Clone, Copy)]
+enum Told {
+    Whole,
+    /// The number of its tests.
+    Tests,
+}
+
+/// What is read of the tree, in words.
+fn read_told<T: Tree>(alloc: Global, tree: &mut T, told: Told) -> Result<String, AllocError> {
+    let answer = read_package(alloc, tree, "p", 10_000_000);
+    answer_told(alloc, &answer, told)
+}
+
 /// The text of bytes that are one.
 fn text_of(text: &Text) -> &str {
     std::str::from_utf8(text.as_slice()).unwrap_or("?")
 }
 
 /// What was read, in words.
-fn told(alloc: Global, answer: &Result<Package, PackageFault>) -> Result<String, AllocError> {
-    match answer {
-        Ok(package) => package_told(alloc, package),
-        Err(fault) => fault_told(alloc, fault),
+fn answer_told(
+    alloc: Global,
+    answer: &Result<Package, PackageFault>,
+    told: Told,
+) -> Result<String, AllocError> {
+    match (answer, told) {
+        (Ok(package), Told::Whole) => package_told(alloc, package),
+        (Ok(package), Told::Tests) => format!(in alloc; "{} tests", package.tests.as_slice().len()),
+        (Err(fault), _) => fault_told(alloc, fault),
     }
 }
 
 fn package_told(alloc: Global, package: &Package) -> Result<String, AllocError> {
+    let mut shown = limits_told(alloc, package)?;
+    push_package(alloc, &mut shown, package)?;
+    Ok(shown)
+}
+
+/// The name of a package and its limits.
+fn limits_told(alloc: Global, package: &Package) -> Result<String, AllocError> {
     let limits = package.limits;
-    let mut shown = format!(in alloc;
+    format!(in alloc;
         "{} {} {} {}",
         text_of(&package.name),
         limits.instructions,
         limits.pages,
         limits.output
-    )?;
+    )
+}
+
+/// Appends what else there is of a package.
+fn push_package(alloc: Global, shown: &mut String, package: &Package) -> Result<(), AllocError> {
     match &package.check {
         Checker::Default(_) => shown.push_str(" default")?,
         Checker::Custom { image, flags } => {
-            let custom = format!(in alloc;
-                " custom {} {}",
-                image.as_slice().len(),
-                text_of(flags)
-            )?;
-            shown.push_str(custom.as_str())?;
+            push_custom(alloc, shown, image.as_slice().len(), text_of(flags))?;
         }
     }
     for test in package.tests.as_slice() {
         shown.push(' ')?;
         shown.push_str(text_of(&test.name))?;
     }
-    Ok(shown)
+    Ok(())
+}
+
+/// Appends a custom validator, whose image has so many bytes.
+fn push_custom(
+    alloc: Global,
+    shown: &mut String,
+    len: usize,
+    flags: &str,
+) -> Result<(), AllocError> {
+    let custom = format!(in alloc; " custom {len} {flags}")?;
+    shown.push_str(custom.as_str())
 }
 
 fn fault_told(alloc: Global, fault: &PackageFault) -> Result<String, AllocError> {
@@ -196,35 +254,107 @@ fn fault_told(alloc: Global, fault: &PackageFault) -> Result<String, AllocError>
     }
 }
 
+/// What is read of the files with these changes, in words.
+fn changed_told(alloc: Global, changes: &str) -> Result<String, Fail> {
+    let mut tree = changed(alloc, changes)?;
+    Ok(read_told(alloc, &mut tree, Told::Whole)?)
+}
+
+fn check_row(rt: &impl Abort, alloc: Global, row: &str) -> Result<(), Fail> {
+    if let Some((changes, expected)) = row.split_once(" => ") {
+        let shown = changed_told(alloc, changes)?;
+        assert_eq!(rt; shown.as_str(), expected, "{changes}");
+    }
+    Ok(())
+}
+
 #[test]
 fn each_fault_beside_a_near_miss(rt: HostRuntime) -> Result<(), Fail> {
-    let alloc = rt.alloc();
     for row in ROWS.lines() {
-        if let Some((changes, expected)) = row.split_once(" => ") {
-            let mut tree = changed(alloc, changes)?;
-            let answer = read_package(alloc, &mut tree, "p", 10_000_000);
-            assert_eq!(rt; told(alloc, &answer)?.as_str(), expected, "{changes}");
-        }
+        check_row(&rt, rt.alloc(), row)?;
     }
+    Ok(())
+}
+
+/// The files in a tree whose call of this number fails.
+fn failing_tree(alloc: Global, failing: u64) -> Result<MemoryTree, Fail> {
+    let failing = [failing].to_vec(alloc)?;
+    Ok(MemoryTree::new(alloc, changed_files(alloc, "")?, failing))
+}
+
+/// What is read where the call of this number fails, in words.
+fn failing_told(alloc: Global, failing: u64) -> Result<String, Fail> {
+    let mut tree = failing_tree(alloc, failing)?;
+    Ok(read_told(alloc, &mut tree, Told::Whole)?)
+}
+
+fn check_failing(rt: &impl Abort, alloc: Global, failing: u64) -> Result<(), Fail> {
+    let shown = failing_told(alloc, failing)?;
+    let expected = if failing < 9 { "tree" } else { READ };
+    assert_eq!(rt; shown.as_str(), expected, "{failing}");
     Ok(())
 }
 
 /// Each call of the package's tree fails in turn: that is the answer, and the count rises by one.
 #[test]
 fn each_call_of_the_tree_fails(rt: HostRuntime) -> Result<(), Fail> {
-    let alloc = rt.alloc();
     for failing in 0..10u64 {
-        let mut tree = MemoryTree::new(alloc, TreeFiles::new(alloc), [failing].to_vec(alloc)?);
-        for (path, text) in ECHO {
-            tree.add(path, text.as_bytes())?;
-        }
-        let answer = read_package(alloc, &mut tree, "p", 10_000_000);
-        let expected = if failing < 9 {
-            "tree"
-        } else {
-            "Echo 100000 16384 8388608 default sample/1 secret/01"
-        };
-        assert_eq!(rt; told(alloc, &answer)?.as_str(), expected, "{failing}");
+        check_failing(&rt, rt.alloc(), failing)?;
+    }
+    Ok(())
+}
+
+/// A file that is too large, and what is then read.
+const LARGE: &str = concat!(
+    "p/problem.yaml => too large problem.yaml 16777217\n",
+    "p/domjudge-problem.ini => too large domjudge-problem.ini 16777217\n",
+    "p/data/secret/01.in => too large data/secret/01.in 16777217\n",
+    "p/data/sample/1.ans => too large data/sample/1.ans 16777217\n",
+    "p/data/secret/01.desc => Echo 100000 16384 8388608 default sample/1 secret/01\n",
+);
+
+/// Compares what is read of the tree once it has this file.
+fn check_with(
+    rt: &impl Abort,
+    alloc: Global,
+    tree: &mut ReliableTree,
+    path: &str,
+    bytes: &[u8],
+    told: Told,
+    expected: &str,
+) -> Result<(), Fail> {
+    add(tree, path, bytes)?;
+    let shown = read_told(alloc, tree, told)?;
+    assert_eq!(rt; shown.as_str(), expected, "{path}");
+    Ok(())
+}
+
+/// Compares what is read of a file of the tree that is too large, and where it is just not.
+fn check_large(
+    rt: &impl Abort,
+    alloc: Global,
+    tree: &mut ReliableTree,
+    row: &str,
+    large: &[u8],
+) -> Result<(), Fail> {
+    let (path, expected) = row.split_once(" => ").unwrap_or((row, ""));
+    check_with(rt, alloc, tree, path, large, Told::Whole, expected)?;
+    if path.ends_with(".in") {
+        let just = large.get(1..).unwrap_or(b"");
+        check_with(rt, alloc, tree, path, just, Told::Tests, "2 tests")?;
+    }
+    Ok(())
+}
+
+/// The same of the files of a package.
+fn check_large_row(rt: &impl Abort, alloc: Global, row: &str, large: &[u8]) -> Result<(), Fail> {
+    let mut tree = changed(alloc, "")?;
+    check_large(rt, alloc, &mut tree, row, large)
+}
+
+fn check_large_rows(rt: &impl Abort, alloc: Global, large: &[u8]) -> Result<(), Fail> {
+    for row in LARGE.lines() {
+        check_large_row(rt, alloc, row, large)?;
     }
     Ok(())
 }
@@ -233,39 +363,8 @@ fn each_call_of_the_tree_fails(rt: HostRuntime) -> Result<(), Fail> {
 #[test]
 fn a_file_has_at_most_16_mebibytes(rt: HostRuntime) -> Result<(), Fail> {
     let alloc = rt.alloc();
-    let rows = [
-        ("p/problem.yaml", "too large problem.yaml 16777217"),
-        (
-            "p/domjudge-problem.ini",
-            "too large domjudge-problem.ini 16777217",
-        ),
-        (
-            "p/data/secret/01.in",
-            "too large data/secret/01.in 16777217",
-        ),
-        (
-            "p/data/sample/1.ans",
-            "too large data/sample/1.ans 16777217",
-        ),
-        (
-            "p/data/secret/01.desc",
-            "Echo 100000 16384 8388608 default sample/1 secret/01",
-        ),
-    ];
-    let just = vec![in alloc; b' '; FILE_LIMIT]?;
     let large = vec![in alloc; b' '; FILE_LIMIT + 1]?;
-    for (path, expected) in rows {
-        let mut tree = changed(alloc, "")?;
-        add(&mut tree, path, large.as_slice())?;
-        let answer = read_package(alloc, &mut tree, "p", 10_000_000);
-        assert_eq!(rt; told(alloc, &answer)?.as_str(), expected, "{path}");
-        add(&mut tree, path, just.as_slice())?;
-        if path.ends_with(".in") {
-            let answer = read_package(alloc, &mut tree, "p", 10_000_000);
-            assert!(rt; answer.is_ok(), "{path}");
-        }
-    }
-    Ok(())
+    check_large_rows(&rt, alloc, large.as_slice())
 }
 
 /// A tree in which each input and each answer has 16 MiB.
@@ -295,44 +394,61 @@ impl Tree for Heavy {
     }
 }
 
+/// Adds so many tests without bytes in a folder of the secret ones.
+fn add_tests(alloc: Global, tree: &mut ReliableTree, folder: &str, count: u32) -> Result<(), Fail> {
+    for test in 0..count {
+        add_empty(alloc, tree, folder, test, "in")?;
+        add_empty(alloc, tree, folder, test, "ans")?;
+    }
+    Ok(())
+}
+
+/// Adds one file of such a test.
+fn add_empty(
+    alloc: Global,
+    tree: &mut ReliableTree,
+    folder: &str,
+    test: u32,
+    ending: &str,
+) -> Result<(), Fail> {
+    let path = format!(in alloc; "p/data/secret/{folder}{test}.{ending}")?;
+    add(tree, path.as_str(), b"")
+}
+
+/// The files with these changes, and so many tests in a folder of the secret ones.
+fn with_tests(
+    alloc: Global,
+    changes: &str,
+    folder: &str,
+    count: u32,
+) -> Result<ReliableTree, Fail> {
+    let mut tree = changed(alloc, changes)?;
+    add_tests(alloc, &mut tree, folder, count)?;
+    Ok(tree)
+}
+
+fn check_heavy(rt: &impl Abort, alloc: Global, count: u32, expected: &str) -> Result<(), Fail> {
+    let tree = with_tests(alloc, "p/data/sample/1.in|p/data/secret/01.in", "", count)?;
+    let shown = read_told(alloc, &mut Heavy { alloc, tree }, Told::Tests)?;
+    assert_eq!(rt; shown.as_str(), expected);
+    Ok(())
+}
+
 #[test]
 fn the_tests_have_at_most_256_mebibytes(rt: HostRuntime) -> Result<(), Fail> {
-    let alloc = rt.alloc();
-    for (count, expected) in [(8u32, "8 tests"), (9, "too much 285212672")] {
-        let mut tree = changed(alloc, "p/data/sample/1.in|p/data/secret/01.in")?;
-        for test in 0..count {
-            let input = format!(in alloc; "p/data/secret/{test}.in")?;
-            let answer = format!(in alloc; "p/data/secret/{test}.ans")?;
-            add(&mut tree, input.as_str(), b"")?;
-            add(&mut tree, answer.as_str(), b"")?;
-        }
-        let answer = read_package(alloc, &mut Heavy { alloc, tree }, "p", 10_000_000);
-        let shown = match &answer {
-            Ok(package) => format!(in alloc; "{} tests", package.tests.as_slice().len())?,
-            Err(fault) => fault_told(alloc, fault)?,
-        };
-        assert_eq!(rt; shown.as_str(), expected);
-    }
+    check_heavy(&rt, rt.alloc(), 8, "8 tests")?;
+    check_heavy(&rt, rt.alloc(), 9, "too much 285212672")
+}
+
+fn check_many(rt: &impl Abort, alloc: Global, count: u32, expected: &str) -> Result<(), Fail> {
+    let mut tree = with_tests(alloc, "", "g/", count)?;
+    let shown = read_told(alloc, &mut tree, Told::Tests)?;
+    assert_eq!(rt; shown.as_str(), expected);
     Ok(())
 }
 
 #[test]
 fn a_package_has_at_most_1000_tests(rt: HostRuntime) -> Result<(), Fail> {
-    let alloc = rt.alloc();
-    for (count, expected) in [(998u32, "1000 tests"), (999, "too many tests 1001")] {
-        let mut tree = changed(alloc, "")?;
-        for test in 0..count {
-            let input = format!(in alloc; "p/data/secret/g/{test}.in")?;
-            let answer = format!(in alloc; "p/data/secret/g/{test}.ans")?;
-            add(&mut tree, input.as_str(), b"")?;
-            add(&mut tree, answer.as_str(), b"")?;
-        }
-        let answer = read_package(alloc, &mut tree, "p", 10_000_000);
-        let shown = match &answer {
-            Ok(package) => format!(in alloc; "{} tests", package.tests.as_slice().len())?,
-            Err(fault) => fault_told(alloc, fault)?,
-        };
-        assert_eq!(rt; shown.as_str(), expected);
-    }
-    Ok(())
+    check_many(&rt, rt.alloc(), 998, "1000 tests")?;
+    check_many(&rt, rt.alloc(), 999, "too many tests 1001")
 }
