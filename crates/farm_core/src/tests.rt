@@ -1,33 +1,111 @@
 use crate::Farm;
 use command_text::{push_reply, read_line};
-use farm_kinds::{Answer, Class, Event, Kind, Name, NoMemory, Numbers, Reply, Verdict};
+use farm_kinds::{Answer, Class, Event, How, Kind, Name, NoMemory, Numbers, Reply, Verdict};
 use farm_settings::{Settings, read_settings};
 use std::alloc::Global;
+use std::process::Abort;
 use std::test::Fail;
 
 const WRONG_ANSWER: Answer = Answer::Final(Verdict::Tests(Kind::WrongAnswer));
 
-/// The replies of an empty farm with the settings of the JSON text to the lines.
-fn played(alloc: Global, config: &str, lines: &str) -> Result<Vec<u8>, NoMemory> {
-    let mut farm = farm_by(alloc, config);
-    replies(alloc, &mut farm, lines)
+/// What a farm is given.
+#[derive(Clone, Copy)]
+enum Script<'a> {
+    /// Lines, each an event.
+    Lines(&'a str),
+    /// 10,000 submissions that are judged anew, and the event that closes that rejudging.
+    Closing(&'a Event),
+}
+
+/// What a farm shows then.
+#[derive(Drop)]
+struct Shown {
+    /// The replies to the lines.
+    replies: Vec<u8>,
+    /// The texts of the audit log, each with a line feed.
+    audit: Vec<u8>,
+    /// What the public sees of the submissions 0, 1 and 2.
+    public: [Option<Answer>; 3],
+    /// How the rejudging was closed, and how many members it had.
+    closed: Option<(How, u32)>,
+    /// How many submissions the public sees as wrong.
+    wrong: u32,
+}
+
+/// What a farm that was empty, with the settings of the JSON text, shows behind the script. No other function here
+/// owns a farm: each way out of one that does has to be proved to drop it, and so all that it holds.
+fn played(alloc: Global, config: &str, script: Script<'_>) -> Result<Shown, NoMemory> {
+    let mut farm = Farm::new(alloc, settings_of(alloc, config));
+    play(alloc, &mut farm, script)
+}
+
+/// The settings that the JSON text says, or the standard ones.
+fn settings_of(alloc: Global, config: &str) -> Settings {
+    let Ok(settings) = read_settings(alloc, config.as_bytes()) else {
+        return Settings::standard();
+    };
+    settings
+}
+
+/// What the farm shows behind the script.
+fn play(alloc: Global, farm: &mut Farm, script: Script<'_>) -> Result<Shown, NoMemory> {
+    match script {
+        Script::Lines(lines) => show(alloc, farm, lines, None),
+        Script::Closing(event) => {
+            let closed = rejudge_and_close(alloc, farm, event)?;
+            show(alloc, farm, "", closed)
+        }
+    }
+}
+
+/// What the farm shows behind the lines.
+fn show(
+    alloc: Global,
+    farm: &mut Farm,
+    lines: &str,
+    closed: Option<(How, u32)>,
+) -> Result<Shown, NoMemory> {
+    let replies = replies(alloc, farm, lines)?;
+    let audit = audited(alloc, farm)?;
+    Ok(Shown {
+        replies,
+        audit,
+        public: [farm.public(0), farm.public(1), farm.public(2)],
+        closed,
+        wrong: seen(farm, WRONG_ANSWER),
+    })
 }
 
 /// The replies of the farm to the lines.
 fn replies(alloc: Global, farm: &mut Farm, lines: &str) -> Result<Vec<u8>, NoMemory> {
     let mut out = Vec::new(alloc);
     for line in lines.lines() {
-        if let Ok(Some(event)) = read_line(alloc, line.as_bytes()) {
-            push_reply(&mut out, &farm.step(&event))?;
-        }
+        answer_line(alloc, farm, line, &mut out)?;
     }
     Ok(out)
 }
 
-/// The texts of the audit log behind the lines, each with a line feed.
-fn audited(alloc: Global, lines: &str) -> Result<Vec<u8>, NoMemory> {
-    let mut farm = Farm::new(alloc, Settings::standard());
-    let _ = replies(alloc, &mut farm, lines)?;
+/// Appends the farm's reply to a line, if the line is an event.
+fn answer_line(
+    alloc: Global,
+    farm: &mut Farm,
+    line: &str,
+    out: &mut Vec<u8>,
+) -> Result<(), NoMemory> {
+    match read_line(alloc, line.as_bytes()) {
+        Ok(Some(event)) => answer_event(farm, &event, out),
+        _ => Ok(()),
+    }
+}
+
+/// Appends the farm's reply to an event.
+fn answer_event(farm: &mut Farm, event: &Event, out: &mut Vec<u8>) -> Result<(), NoMemory> {
+    let reply = farm.step(event);
+    push_reply(out, &reply)
+}
+
+/// The texts of the audit log, each with a line feed.
+fn audited(alloc: Global, farm: &Farm) -> Result<Vec<u8>, NoMemory> {
     let mut texts = Vec::new(alloc);
     for entry in farm.audit().entries() {
         texts.extend_from_slice(entry.text.as_slice())?;
@@ -36,23 +114,17 @@ fn audited(alloc: Global, lines: &str) -> Result<Vec<u8>, NoMemory> {
     Ok(texts)
 }
 
-/// What the public sees of the submissions 0, 1 and 2 behind the lines.
-fn seen_of_three(
+/// Compares the replies of a farm that was empty with those that should come.
+fn check_replies(
+    rt: &impl Abort,
     alloc: Global,
     config: &str,
     lines: &str,
-) -> Result<[Option<Answer>; 3], NoMemory> {
-    let mut farm = farm_by(alloc, config);
-    let _ = replies(alloc, &mut farm, lines)?;
-    Ok([farm.public(0), farm.public(1), farm.public(2)])
-}
-
-/// An empty farm with the settings that the JSON text says, or with the standard ones.
-fn farm_by(alloc: Global, config: &str) -> Farm {
-    let Ok(settings) = read_settings(alloc, config.as_bytes()) else {
-        return Farm::new(alloc, Settings::standard());
-    };
-    Farm::new(alloc, settings)
+    expected: &str,
+) -> Result<(), NoMemory> {
+    let shown = played(alloc, config, Script::Lines(lines))?;
+    assert_eq!(rt; shown.replies.as_slice(), expected.as_bytes());
+    Ok(())
 }
 
 const REFUSALS: &str = concat!(
@@ -226,13 +298,16 @@ const VERIFIED_REPLIES: &str = concat!(
 #[test]
 fn lines_of_the_jury_are_answered_as_they_should_be(rt: HostRuntime) -> Result<(), Fail> {
     let alloc = rt.alloc();
-    let refusing = played(alloc, "{}", REFUSALS)?;
-    assert_eq!(rt; refusing.as_slice(), REFUSALS_REPLIES.as_bytes());
-    let audit = played(alloc, "{}", AUDITED)?;
-    assert_eq!(rt; audit.as_slice(), AUDITED_REPLIES.as_bytes());
-    assert_eq!(rt; audited(alloc, AUDITED)?.as_slice(), TEXTS.as_bytes());
-    let verified = played(alloc, VERIFYING, VERIFIED)?;
-    assert_eq!(rt; verified.as_slice(), VERIFIED_REPLIES.as_bytes());
+    check_replies(&rt, alloc, "{}", REFUSALS, REFUSALS_REPLIES)?;
+    check_replies(&rt, alloc, "{}", AUDITED, AUDITED_REPLIES)?;
+    check_replies(&rt, alloc, VERIFYING, VERIFIED, VERIFIED_REPLIES)?;
+    Ok(())
+}
+
+#[test]
+fn lines_of_the_jury_are_in_the_audit_log(rt: HostRuntime) -> Result<(), Fail> {
+    let shown = played(rt.alloc(), "{}", Script::Lines(AUDITED))?;
+    assert_eq!(rt; shown.audit.as_slice(), TEXTS.as_bytes());
     Ok(())
 }
 
@@ -278,52 +353,93 @@ const NAMES_REPLIES: &str = concat!(
 
 #[test]
 fn names_are_found_among_others(rt: HostRuntime) -> Result<(), Fail> {
-    let replies = played(rt.alloc(), "{}", NAMES)?;
-    assert_eq!(rt; replies.as_slice(), NAMES_REPLIES.as_bytes());
-    Ok(())
+    Ok(check_replies(&rt, rt.alloc(), "{}", NAMES, NAMES_REPLIES)?)
 }
 
 #[test]
 fn the_public_sees_what_is_verified(rt: HostRuntime) -> Result<(), Fail> {
-    let seen = seen_of_three(rt.alloc(), VERIFYING, VERIFIED)?;
-    assert_eq!(rt; seen, [None, Some(WRONG_ANSWER), None]);
+    let shown = played(rt.alloc(), VERIFYING, Script::Lines(VERIFIED))?;
+    assert_eq!(rt; shown.public, [None, Some(WRONG_ANSWER), None]);
     Ok(())
 }
 
-/// A farm of so many submissions to a problem of one test, which are all correct.
-fn farm_of(alloc: Global, submissions: u32) -> Farm {
-    let mut farm = Farm::new(alloc, Settings::standard());
-    let name = Name::jury();
-    let _ = farm.step(&Event::Problem {
+/// Has the farm take an event, whatever it replies.
+fn take(farm: &mut Farm, event: &Event) {
+    let _ = farm.step(event);
+}
+
+/// A result of the first test of the judging.
+fn enter(farm: &mut Farm, judging: u32, kind: Kind) {
+    let entry = Event::Entry {
+        judging,
+        test: 1,
+        kind,
+    };
+    take(farm, &entry);
+}
+
+/// A result of the first test of each of these judgings.
+fn enter_all(farm: &mut Farm, first: u32, last: u32, kind: Kind) {
+    for judging in first..=last {
+        enter(farm, judging, kind);
+    }
+}
+
+/// Adds a problem of one test to an empty farm.
+fn add_problem(farm: &mut Farm, name: Name) {
+    let problem = Event::Problem {
         who: name,
         name,
         tests: 1,
-    });
-    for judging in 1..=submissions {
-        let _ = farm.step(&Event::Submit {
-            problem: name,
-            class: Class::Normal,
-            broken: false,
-        });
-        let _ = farm.step(&Event::Entry {
-            judging,
-            test: 1,
-            kind: Kind::Correct,
-        });
-    }
-    farm
+    };
+    take(farm, &problem);
 }
 
-/// Has the submissions 1 to `last` judged anew. The number of the rejudging, where it is prepared.
-fn rejudge(alloc: Global, farm: &mut Farm, last: u32) -> Result<Reply, NoMemory> {
-    let mut list = Numbers::new(alloc);
-    for submission in 1..=last {
-        list.push(submission)?;
+/// So many submissions to the problem, which are all correct.
+fn submit_all(farm: &mut Farm, problem: Name, submissions: u32) {
+    let submit = Event::Submit {
+        problem,
+        class: Class::Normal,
+        broken: false,
+    };
+    for judging in 1..=submissions {
+        take(farm, &submit);
+        enter(farm, judging, Kind::Correct);
     }
-    Ok(farm.step(&Event::Rejudge {
+}
+
+/// Has the submissions 1 to `last` judged anew.
+fn rejudge(alloc: Global, farm: &mut Farm, last: u32) -> Result<(), NoMemory> {
+    let rejudge = Event::Rejudge {
         who: Name::jury(),
-        list,
-    }))
+        list: numbers_to(alloc, last)?,
+    };
+    take(farm, &rejudge);
+    Ok(())
+}
+
+/// The numbers from 1 to `last`.
+fn numbers_to(alloc: Global, last: u32) -> Result<Numbers, NoMemory> {
+    let mut list = Numbers::new(alloc);
+    for number in 1..=last {
+        list.push(number)?;
+    }
+    Ok(list)
+}
+
+/// How a rejudging was closed, and how many members it had.
+fn closed(reply: &Reply) -> Option<(How, u32)> {
+    match reply {
+        Reply::Applied { members } => Some((How::Applied, *members)),
+        Reply::Cancelled { members } => Some((How::Cancelled, *members)),
+        _ => None,
+    }
+}
+
+/// Closes a rejudging.
+fn close(farm: &mut Farm, event: &Event) -> Option<(How, u32)> {
+    let reply = farm.step(event);
+    closed(&reply)
 }
 
 /// How many submissions the public sees with this answer.
@@ -337,37 +453,44 @@ fn seen(farm: &Farm, answer: Answer) -> u32 {
     count
 }
 
-/// A result of the first test of each of these judgings.
-fn enter_all(farm: &mut Farm, first: u32, last: u32, kind: Kind) {
-    for judging in first..=last {
-        let _ = farm.step(&Event::Entry {
-            judging,
-            test: 1,
-            kind,
-        });
-    }
+/// Has 10,000 submissions to an empty farm judged anew, and closes that rejudging.
+fn rejudge_and_close(
+    alloc: Global,
+    farm: &mut Farm,
+    event: &Event,
+) -> Result<Option<(How, u32)>, NoMemory> {
+    let name = Name::jury();
+    add_problem(farm, name);
+    submit_all(farm, name, 10_000);
+    rejudge(alloc, farm, 10_000)?;
+    enter_all(farm, 10_001, 20_000, Kind::WrongAnswer);
+    Ok(close(farm, event))
 }
 
-/// Has 10,000 submissions judged anew, and closes that rejudging: what is answered, and how many of the
-/// submissions are seen as wrong then.
-fn close_ten_thousand(alloc: Global, close: &Event) -> Result<(Reply, u32), NoMemory> {
-    let mut farm = farm_of(alloc, 10_000);
-    let _ = rejudge(alloc, &mut farm, 10_000)?;
-    enter_all(&mut farm, 10_001, 20_000, Kind::WrongAnswer);
-    let reply = farm.step(close);
-    Ok((reply, seen(&farm, WRONG_ANSWER)))
+/// Compares how a rejudging of 10,000 submissions is closed, and how many of them are seen as wrong then.
+fn check_closing(
+    rt: &impl Abort,
+    alloc: Global,
+    event: &Event,
+    how: How,
+    wrong: u32,
+) -> Result<(), NoMemory> {
+    let shown = played(alloc, "{}", Script::Closing(event))?;
+    assert_eq!(rt; shown.closed, Some((how, 10_000)));
+    assert_eq!(rt; shown.wrong, wrong);
+    Ok(())
 }
 
 #[test]
-fn ten_thousand_judgings_are_closed_at_once(rt: HostRuntime) -> Result<(), Fail> {
+fn ten_thousand_judgings_are_applied_at_once(rt: HostRuntime) -> Result<(), Fail> {
     let who = Name::jury();
     let apply = Event::Apply { who, rejudging: 1 };
-    let (applied, wrong) = close_ten_thousand(rt.alloc(), &apply)?;
-    assert!(rt; matches!(&applied, Reply::Applied { members: 10_000 }));
-    assert_eq!(rt; wrong, 10_000);
+    Ok(check_closing(&rt, rt.alloc(), &apply, How::Applied, 10_000)?)
+}
+
+#[test]
+fn ten_thousand_judgings_are_cancelled_at_once(rt: HostRuntime) -> Result<(), Fail> {
+    let who = Name::jury();
     let cancel = Event::Cancel { who, rejudging: 1 };
-    let (cancelled, wrong) = close_ten_thousand(rt.alloc(), &cancel)?;
-    assert!(rt; matches!(&cancelled, Reply::Cancelled { members: 10_000 }));
-    assert_eq!(rt; wrong, 0);
-    Ok(())
+    Ok(check_closing(&rt, rt.alloc(), &cancel, How::Cancelled, 0)?)
 }
