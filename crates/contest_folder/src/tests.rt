@@ -1,12 +1,15 @@
 ghost use Rattle.std.specs.Prelude.{None};
 
-use crate::{ContestFault, Roster, push_contest_fault, read_contest};
+use crate::{
+    ContestFault, Roster, RosterProblem, RosterSubmission, push_contest_fault, read_contest,
+};
 use case_run::{Cases, Check};
 use farm_kinds::{Task, Text};
 use farm_tree::{
     Entries, FILE_LIMIT, MemoryTree, ReliableTree, Tree, TreeErr, TreeFile, TreeFiles,
 };
 use std::alloc::{AllocError, Global};
+use std::process::Abort;
 use std::str;
 use std::test::Fail;
 
@@ -94,18 +97,26 @@ const ROWS: &str = concat!(
 /// The files with these changes.
 fn changed(alloc: Global, changes: &str) -> Result<TreeFiles, Fail> {
     let mut files = TreeFiles::new(alloc);
+    put_changed(alloc, &mut files, changes)?;
+    Ok(files)
+}
+
+/// Adds the files with these changes.
+fn put_changed(alloc: Global, files: &mut TreeFiles, changes: &str) -> Result<(), Fail> {
     for file in CONTEST.lines() {
-        if !changes
-            .split('|')
-            .any(|change| path_of(change) == path_of(file))
-        {
-            put_change(alloc, &mut files, file)?;
+        if !is_changed(changes, path_of(file)) {
+            put_change(alloc, files, file)?;
         }
     }
     for change in changes.split('|') {
-        put_change(alloc, &mut files, change)?;
+        put_change(alloc, files, change)?;
     }
-    Ok(files)
+    Ok(())
+}
+
+/// Whether one of the changes is of this path.
+fn is_changed(changes: &str, path: &str) -> bool {
+    changes.split('|').any(|change| path_of(change) == path)
 }
 
 /// The path of a change.
@@ -120,11 +131,21 @@ fn path_of(change: &str) -> &str {
 fn put_change(alloc: Global, files: &mut TreeFiles, change: &str) -> Result<(), Fail> {
     if let Some((path, text)) = change.split_once('=') {
         let path = path.replace(alloc, '^', "\r")?;
-        let text = text.replace(alloc, '~', "\n")?;
-        let text = text.as_str().replace(alloc, '^', "\r")?;
-        put(alloc, files, path.as_str(), text.as_str().as_bytes())?;
+        put_text(alloc, files, path.as_str(), text)?;
     }
     Ok(())
+}
+
+/// Adds a file with the text that is written so.
+fn put_text(alloc: Global, files: &mut TreeFiles, path: &str, text: &str) -> Result<(), Fail> {
+    let text = text.replace(alloc, '~', "\n")?;
+    put_lines(alloc, files, path, text.as_str())
+}
+
+/// The same where only carriage returns are written otherwise.
+fn put_lines(alloc: Global, files: &mut TreeFiles, path: &str, text: &str) -> Result<(), Fail> {
+    let text = text.replace(alloc, '^', "\r")?;
+    put(alloc, files, path, text.as_str().as_bytes())
 }
 
 fn put(alloc: Global, files: &mut TreeFiles, path: &str, bytes: &[u8]) -> Result<(), Fail> {
@@ -135,65 +156,118 @@ fn put(alloc: Global, files: &mut TreeFiles, path: &str, bytes: &[u8]) -> Result
     Ok(())
 }
 
+/// What is read of the tree, in words.
+fn read_told<T: Tree>(alloc: Global, tree: &mut T, path: &str) -> Result<String, Fail> {
+    let answer = read_contest(alloc, tree, path);
+    told(alloc, &answer)
+}
+
+/// What is read of the files, in words.
+fn files_told(alloc: Global, files: TreeFiles, path: &str) -> Result<String, Fail> {
+    let mut tree = ReliableTree::new(alloc, files);
+    read_told(alloc, &mut tree, path)
+}
+
 /// What was read, in words.
 fn told(alloc: Global, answer: &Result<Roster, ContestFault>) -> Result<String, Fail> {
     match answer {
         Ok(roster) => Ok(roster_told(alloc, roster)?),
         Err(ContestFault::Tree) => Ok(String::from_str(alloc, "tree")?),
-        Err(fault) => {
-            let mut text = Vec::new(alloc);
-            push_contest_fault(&mut text, fault)?;
-            let text = str::from_utf8(text.as_slice()).unwrap_or("?");
-            Ok(String::from_str(alloc, text)?)
-        }
+        Err(fault) => fault_told(alloc, fault),
     }
+}
+
+fn fault_told(alloc: Global, fault: &ContestFault) -> Result<String, Fail> {
+    let mut text = Vec::new(alloc);
+    push_contest_fault(&mut text, fault)?;
+    Ok(String::from_str(alloc, text_of(text.as_slice()))?)
+}
+
+/// The text of bytes that are one.
+fn text_of(bytes: &[u8]) -> &str {
+    str::from_utf8(bytes).unwrap_or("?")
 }
 
 fn roster_told(alloc: Global, roster: &Roster) -> Result<String, AllocError> {
     let mut shown = format!(in alloc; "{}", roster.settings().ips())?;
+    push_roster(alloc, &mut shown, roster)?;
+    Ok(shown)
+}
+
+/// Appends the problems and the submissions of a roster.
+fn push_roster(alloc: Global, shown: &mut String, roster: &Roster) -> Result<(), AllocError> {
     for number in 1..=roster.problems() {
-        let problem = roster.problem(number);
-        let name = str::from_utf8(problem.name.as_bytes()).unwrap_or("?");
-        let line = format!(in alloc; " {name}/{}", problem.tests)?;
-        shown.push_str(line.as_str())?;
+        push_problem(alloc, shown, &roster.problem(number))?;
     }
     for number in 1..=roster.submissions() {
-        let submission = roster.submission(number);
-        let team = str::from_utf8(submission.team.as_bytes()).unwrap_or("?");
-        let problem = str::from_utf8(submission.problem.as_bytes()).unwrap_or("?");
-        let line = format!(in alloc; " {team}:{problem}")?;
-        shown.push_str(line.as_str())?;
-        if submission.broken {
-            shown.push('!')?;
-        }
+        push_submission(alloc, shown, &roster.submission(number))?;
     }
-    Ok(shown)
+    Ok(())
+}
+
+fn push_problem(
+    alloc: Global,
+    shown: &mut String,
+    problem: &RosterProblem,
+) -> Result<(), AllocError> {
+    let name = text_of(problem.name.as_bytes());
+    let line = format!(in alloc; " {name}/{}", problem.tests)?;
+    shown.push_str(line.as_str())
+}
+
+fn push_submission(
+    alloc: Global,
+    shown: &mut String,
+    submission: &RosterSubmission,
+) -> Result<(), AllocError> {
+    let team = text_of(submission.team.as_bytes());
+    let problem = text_of(submission.problem.as_bytes());
+    let mark = if submission.broken { "!" } else { "" };
+    let line = format!(in alloc; " {team}:{problem}{mark}")?;
+    shown.push_str(line.as_str())
+}
+
+/// What is read of the files with these changes, in words.
+fn changed_told(alloc: Global, changes: &str) -> Result<String, Fail> {
+    files_told(alloc, changed(alloc, changes)?, "c")
+}
+
+fn check_row(rt: &impl Abort, alloc: Global, row: &str) -> Result<(), Fail> {
+    if let Some((changes, expected)) = row.split_once(" => ") {
+        let expected = if expected == "READ" { READ } else { expected };
+        let shown = changed_told(alloc, changes)?;
+        assert_eq!(rt; shown.as_str(), expected, "{changes}");
+    }
+    Ok(())
 }
 
 #[test]
 fn each_fault_beside_a_near_miss(rt: HostRuntime) -> Result<(), Fail> {
-    let alloc = rt.alloc();
     for row in ROWS.lines() {
-        if let Some((changes, expected)) = row.split_once(" => ") {
-            let mut tree = ReliableTree::new(alloc, changed(alloc, changes)?);
-            let answer = read_contest(alloc, &mut tree, "c");
-            let expected = if expected == "READ" { READ } else { expected };
-            assert_eq!(rt; told(alloc, &answer)?.as_str(), expected, "{changes}");
-        }
+        check_row(&rt, rt.alloc(), row)?;
     }
+    Ok(())
+}
+
+/// The files in a tree whose call of this number fails.
+fn failing_tree(alloc: Global, failing: u64) -> Result<MemoryTree, Fail> {
+    let failing = [failing].to_vec(alloc)?;
+    Ok(MemoryTree::new(alloc, changed(alloc, "")?, failing))
+}
+
+fn check_failing(rt: &impl Abort, alloc: Global, failing: u64) -> Result<(), Fail> {
+    let mut tree = failing_tree(alloc, failing)?;
+    let shown = read_told(alloc, &mut tree, "c")?;
+    let expected = if failing < 30 { "tree" } else { READ };
+    assert_eq!(rt; shown.as_str(), expected, "{failing}");
     Ok(())
 }
 
 /// Each call of the contest's tree fails in turn: that is the answer.
 #[test]
 fn each_call_of_the_tree_fails(rt: HostRuntime) -> Result<(), Fail> {
-    let alloc = rt.alloc();
     for failing in 0..31u64 {
-        let files = changed(alloc, "")?;
-        let mut tree = MemoryTree::new(alloc, files, [failing].to_vec(alloc)?);
-        let answer = read_contest(alloc, &mut tree, "c");
-        let expected = if failing < 30 { "tree" } else { READ };
-        assert_eq!(rt; told(alloc, &answer)?.as_str(), expected, "{failing}");
+        check_failing(&rt, rt.alloc(), failing)?;
     }
     Ok(())
 }
@@ -208,25 +282,29 @@ fn case_told(
     let Some(case) = roster.case_of(Task { judging, test }) else {
         return String::from_str(alloc, "none");
     };
-    let check = match case.check {
-        Check::Default(flags) => format!(in alloc;
-            "default {}",
-            flags.tolerance.relative.unwrap_or(0)
-        )?,
-        Check::Custom { image, flags } => format!(in alloc;
-            "{} {}",
-            str::from_utf8(image).unwrap_or("?"),
-            str::from_utf8(flags).unwrap_or("?")
-        )?,
-    };
+    let check = check_told(alloc, &case.check)?;
     format!(in alloc;
         "{} {} {} {} {}",
-        str::from_utf8(case.image).unwrap_or("?"),
-        str::from_utf8(case.input).unwrap_or("?").trim(),
-        str::from_utf8(case.answer).unwrap_or("?").trim(),
+        text_of(case.image),
+        text_of(case.input).trim(),
+        text_of(case.answer).trim(),
         case.limits.instructions,
         check.as_str()
     )
+}
+
+fn check_told(alloc: Global, check: &Check<'_>) -> Result<String, AllocError> {
+    match check {
+        Check::Default(flags) => format!(in alloc;
+            "default {}",
+            flags.tolerance.relative.unwrap_or(0)
+        ),
+        Check::Custom { image, flags } => format!(in alloc;
+            "{} {}",
+            text_of(image),
+            text_of(flags)
+        ),
+    }
 }
 
 /// A judging, a test, and the case.
@@ -243,22 +321,86 @@ const CASES: &str = concat!(
     "8 1 none\n",
 );
 
+fn check_case(rt: &impl Abort, alloc: Global, roster: &Roster, row: &str) -> Result<(), Fail> {
+    let (judging, rest) = row.split_once(' ').unwrap_or((row, ""));
+    let (test, expected) = rest.split_once(' ').unwrap_or((rest, ""));
+    let judging = judging.parse::<u32>().unwrap_or(0);
+    let test = test.parse::<u16>().unwrap_or(0);
+    let case = case_told(alloc, roster, judging, test)?;
+    assert_eq!(rt; case.as_str(), expected, "{row}");
+    Ok(())
+}
+
+fn check_cases(rt: &impl Abort, alloc: Global, roster: &Roster) -> Result<(), Fail> {
+    for row in CASES.lines() {
+        check_case(rt, alloc, roster, row)?;
+    }
+    Ok(())
+}
+
+/// The same of what is read of the files.
+fn check_cases_of(rt: &impl Abort, alloc: Global, files: TreeFiles) -> Result<(), Fail> {
+    match read_contest(alloc, &mut ReliableTree::new(alloc, files), "c") {
+        Ok(roster) => check_cases(rt, alloc, &roster),
+        Err(_) => Err(Fail::from("no roster")),
+    }
+}
+
 #[test]
 fn each_judging_and_test_has_its_case(rt: HostRuntime) -> Result<(), Fail> {
     let alloc = rt.alloc();
-    let mut tree = ReliableTree::new(alloc, changed(alloc, "")?);
-    let Ok(roster) = read_contest(alloc, &mut tree, "c") else {
-        return Err(Fail::from("no roster"));
+    check_cases_of(&rt, alloc, changed(alloc, "")?)
+}
+
+/// A file, what is read where it is too large, and what is read where it is just not. `READ` and `NINE_BROKEN` stand for
+/// the texts of these names.
+const LARGE: &str = concat!(
+    "c/farm.json => too large farm.json => farm.json: not json\n",
+    "c/submissions.txt => too large submissions.txt => 10000000 echo/2 guess/2\n",
+    "c/problems/echo/problem.yaml => problem echo: too large problem.yaml => READ\n",
+    "c/submissions/9.rv32 => NINE_BROKEN => NINE_BROKEN\n",
+);
+
+/// What is read where the sixth submission is broken too.
+const NINE_BROKEN: &str =
+    "10000000 echo/2 guess/2 alpha:echo beta:echo gamma:echo delta:echo! alpha:guess beta:guess! gamma:guess";
+
+/// The files with this one.
+fn with_file(alloc: Global, path: &str, bytes: &[u8]) -> Result<TreeFiles, Fail> {
+    let mut files = changed(alloc, path)?;
+    put(alloc, &mut files, path, bytes)?;
+    Ok(files)
+}
+
+/// Compares what is read of the files with this one.
+fn check_file(
+    rt: &impl Abort,
+    alloc: Global,
+    path: &str,
+    bytes: &[u8],
+    expected: &str,
+) -> Result<(), Fail> {
+    let expected = match expected {
+        "READ" => READ,
+        "NINE_BROKEN" => NINE_BROKEN,
+        _ => expected,
     };
-    for row in CASES.lines() {
-        if let Some((judging, rest)) = row.split_once(' ') {
-            if let Some((test, expected)) = rest.split_once(' ') {
-                let judging = judging.parse::<u32>().unwrap_or(0);
-                let test = test.parse::<u16>().unwrap_or(0);
-                let case = case_told(alloc, &roster, judging, test)?;
-                assert_eq!(rt; case.as_str(), expected, "{row}");
-            }
-        }
+    let shown = files_told(alloc, with_file(alloc, path, bytes)?, "c")?;
+    assert_eq!(rt; shown.as_str(), expected, "{path}");
+    Ok(())
+}
+
+fn check_large(rt: &impl Abort, alloc: Global, row: &str, large: &[u8]) -> Result<(), Fail> {
+    let (path, rest) = row.split_once(" => ").unwrap_or((row, ""));
+    let (over, within) = rest.split_once(" => ").unwrap_or((rest, ""));
+    let just = large.get(1..).unwrap_or(b"");
+    check_file(rt, alloc, path, large, over)?;
+    check_file(rt, alloc, path, just, within)
+}
+
+fn check_large_rows(rt: &impl Abort, alloc: Global, large: &[u8]) -> Result<(), Fail> {
+    for row in LARGE.lines() {
+        check_large(rt, alloc, row, large)?;
     }
     Ok(())
 }
@@ -267,36 +409,8 @@ fn each_judging_and_test_has_its_case(rt: HostRuntime) -> Result<(), Fail> {
 #[test]
 fn a_file_has_at_most_16_mebibytes(rt: HostRuntime) -> Result<(), Fail> {
     let alloc = rt.alloc();
-    let rows = [
-        ("c/farm.json", "too large farm.json", "farm.json: not json"),
-        (
-            "c/submissions.txt",
-            "too large submissions.txt",
-            "10000000 echo/2 guess/2",
-        ),
-        (
-            "c/problems/echo/problem.yaml",
-            "problem echo: too large problem.yaml",
-            READ,
-        ),
-        (
-            "c/submissions/9.rv32",
-            "10000000 echo/2 guess/2 alpha:echo beta:echo gamma:echo delta:echo! alpha:guess beta:guess! gamma:guess",
-            "10000000 echo/2 guess/2 alpha:echo beta:echo gamma:echo delta:echo! alpha:guess beta:guess! gamma:guess",
-        ),
-    ];
-    let just = vec![in alloc; b' '; FILE_LIMIT]?;
     let large = vec![in alloc; b' '; FILE_LIMIT + 1]?;
-    for (path, over, within) in rows {
-        for (bytes, expected) in [(large.as_slice(), over), (just.as_slice(), within)] {
-            let mut files = changed(alloc, path)?;
-            put(alloc, &mut files, path, bytes)?;
-            let mut tree = ReliableTree::new(alloc, files);
-            let answer = read_contest(alloc, &mut tree, "c");
-            assert_eq!(rt; told(alloc, &answer)?.as_str(), expected, "{path}");
-        }
-    }
-    Ok(())
+    check_large_rows(&rt, alloc, large.as_slice())
 }
 
 /// A tree in which each file of submissions has 16 MiB.
@@ -326,85 +440,109 @@ impl Tree for Heavy {
     }
 }
 
+/// Appends so many submissions of one file to a list.
+fn push_submissions(alloc: Global, list: &mut String, count: u32, file: &str) -> Result<(), Fail> {
+    for number in 1..=count {
+        push_line(alloc, list, number, file)?;
+    }
+    Ok(())
+}
+
+fn push_line(alloc: Global, list: &mut String, number: u32, file: &str) -> Result<(), Fail> {
+    let line = format!(in alloc; "{number} a echo {file}\n")?;
+    Ok(list.push_str(line.as_str())?)
+}
+
+/// The list of so many submissions of one file.
+fn list_of(alloc: Global, count: u32, file: &str) -> Result<String, Fail> {
+    let mut list = String::new(alloc);
+    push_submissions(alloc, &mut list, count, file)?;
+    Ok(list)
+}
+
+/// The files with so many submissions of one file.
+fn with_submissions(alloc: Global, count: u32, file: &str) -> Result<TreeFiles, Fail> {
+    let list = list_of(alloc, count, file)?;
+    with_file(alloc, "c/submissions.txt", list.as_str().as_bytes())
+}
+
+/// How many submissions are read of the tree, in words, or what is at fault.
+fn count_told<T: Tree>(alloc: Global, tree: &mut T) -> Result<String, Fail> {
+    let answer = read_contest(alloc, tree, "c");
+    submissions_told(alloc, &answer)
+}
+
+fn submissions_told(alloc: Global, answer: &Result<Roster, ContestFault>) -> Result<String, Fail> {
+    match answer {
+        Ok(roster) => Ok(format!(in alloc; "{} submissions", roster.submissions())?),
+        Err(_) => told(alloc, answer),
+    }
+}
+
+fn check_heavy(rt: &impl Abort, alloc: Global, count: u32, expected: &str) -> Result<(), Fail> {
+    let tree = ReliableTree::new(alloc, with_submissions(alloc, count, "x.heavy")?);
+    let shown = count_told(alloc, &mut Heavy { alloc, tree })?;
+    assert_eq!(rt; shown.as_str(), expected);
+    Ok(())
+}
+
 /// So many submissions of one file, each of 16 MiB, behind 23 bytes in test files.
 #[test]
 fn a_contest_has_at_most_1_gibibyte(rt: HostRuntime) -> Result<(), Fail> {
-    let alloc = rt.alloc();
-    for (count, expected) in [(63u32, "63 submissions"), (65, "too much 1073741847")] {
-        let mut list = String::new(alloc);
-        for number in 1..=count {
-            list.push_str(format!(in alloc; "{number} a echo x.heavy\n")?.as_str())?;
-        }
-        let mut files = changed(alloc, "c/submissions.txt")?;
-        put(
-            alloc,
-            &mut files,
-            "c/submissions.txt",
-            list.as_str().as_bytes(),
-        )?;
-        let tree = ReliableTree::new(alloc, files);
-        let answer = read_contest(alloc, &mut Heavy { alloc, tree }, "c");
-        let shown = match &answer {
-            Ok(roster) => format!(in alloc; "{} submissions", roster.submissions())?,
-            Err(_) => told(alloc, &answer)?,
-        };
-        assert_eq!(rt; shown.as_str(), expected);
-    }
+    check_heavy(&rt, rt.alloc(), 63, "63 submissions")?;
+    check_heavy(&rt, rt.alloc(), 65, "too much 1073741847")
+}
+
+fn check_many(rt: &impl Abort, alloc: Global, count: u32, expected: &str) -> Result<(), Fail> {
+    let mut tree = ReliableTree::new(alloc, with_submissions(alloc, count, "9.rv32")?);
+    let shown = count_told(alloc, &mut tree)?;
+    assert_eq!(rt; shown.as_str(), expected);
     Ok(())
 }
 
 #[test]
 fn a_contest_has_at_most_100000_submissions(rt: HostRuntime) -> Result<(), Fail> {
-    let alloc = rt.alloc();
-    for (count, expected) in [
-        (100_000u32, "100000 submissions"),
-        (100_001, "too many submissions 100001"),
-    ] {
-        let mut list = String::new(alloc);
-        for number in 1..=count {
-            list.push_str(format!(in alloc; "{number} a echo 9.rv32\n")?.as_str())?;
-        }
-        let mut files = changed(alloc, "c/submissions.txt")?;
-        put(
-            alloc,
-            &mut files,
-            "c/submissions.txt",
-            list.as_str().as_bytes(),
-        )?;
-        let answer = read_contest(alloc, &mut ReliableTree::new(alloc, files), "c");
-        let shown = match &answer {
-            Ok(roster) => format!(in alloc; "{} submissions", roster.submissions())?,
-            Err(_) => told(alloc, &answer)?,
-        };
-        assert_eq!(rt; shown.as_str(), expected);
+    check_many(&rt, rt.alloc(), 100_000, "100000 submissions")?;
+    check_many(&rt, rt.alloc(), 100_001, "too many submissions 100001")
+}
+
+/// Adds folders of so many more problems, with one file each that is not read.
+fn put_problems(alloc: Global, files: &mut TreeFiles, count: u32) -> Result<(), Fail> {
+    for number in 1..=count {
+        put_problem(alloc, files, number)?;
     }
+    Ok(())
+}
+
+fn put_problem(alloc: Global, files: &mut TreeFiles, number: u32) -> Result<(), Fail> {
+    let path = format!(in alloc; "c/problems/p{number}/x")?;
+    put(alloc, files, path.as_str(), b"")
+}
+
+/// The files with so many more problems.
+fn with_problems(alloc: Global, count: u32) -> Result<TreeFiles, Fail> {
+    let mut files = changed(alloc, "")?;
+    put_problems(alloc, &mut files, count)?;
+    Ok(files)
+}
+
+fn check_problems(rt: &impl Abort, alloc: Global, count: u32, expected: &str) -> Result<(), Fail> {
+    let shown = files_told(alloc, with_problems(alloc, count)?, "c")?;
+    assert_eq!(rt; shown.as_str(), expected);
     Ok(())
 }
 
 #[test]
 fn a_contest_has_at_most_1000_problems(rt: HostRuntime) -> Result<(), Fail> {
-    let alloc = rt.alloc();
-    for (count, expected) in [
-        (998u32, "problem p1: no problem.yaml"),
-        (999, "too many problems 1001"),
-    ] {
-        let mut files = changed(alloc, "")?;
-        for number in 1..=count {
-            let path = format!(in alloc; "c/problems/p{number}/x")?;
-            put(alloc, &mut files, path.as_str(), b"")?;
-        }
-        let answer = read_contest(alloc, &mut ReliableTree::new(alloc, files), "c");
-        assert_eq!(rt; told(alloc, &answer)?.as_str(), expected);
-    }
-    Ok(())
+    check_problems(&rt, rt.alloc(), 998, "problem p1: no problem.yaml")?;
+    check_problems(&rt, rt.alloc(), 999, "too many problems 1001")
 }
 
 /// Without a folder there is no list of submissions.
 #[test]
 fn an_absent_folder_has_no_list(rt: HostRuntime) -> Result<(), Fail> {
     let alloc = rt.alloc();
-    let mut tree = ReliableTree::new(alloc, changed(alloc, "")?);
-    let answer = read_contest(alloc, &mut tree, "d");
-    assert_eq!(rt; told(alloc, &answer)?.as_str(), "no submissions.txt");
+    let shown = files_told(alloc, changed(alloc, "")?, "d")?;
+    assert_eq!(rt; shown.as_str(), "no submissions.txt");
     Ok(())
 }
