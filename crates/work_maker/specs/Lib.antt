@@ -1,0 +1,4 @@
+pub mod Programs
+pub mod Draws
+pub mod Made
+pub mod Files
