@@ -1,3 +1,14 @@
 pub mod Appends
 pub mod Lengths
 pub mod Turns
+pub mod Digits
+pub mod Each
+pub mod Computed
+pub mod Stems
+pub mod Held
+pub mod Listed
+pub mod Cases
+pub mod ProblemTests
+pub mod Packages
+pub mod Contests
+pub mod Made

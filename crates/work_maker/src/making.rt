@@ -3,6 +3,7 @@ ghost use Rattle.std.specs.List.{flat_map};
 ghost use Rattle.work_maker.specs.Draws.{next, after};
 ghost use Rattle.work_maker.specs.Made.{problem_by, after_problem, problems_from, after_problems, submissions_from};
 ghost use Rattle.work_maker.specs.Files.{problem_files, submission_files, made_files, tree_of};
+ghost use Rattle.work_maker.specs.Reading.{IsContestFolder};
 
 use crate::draws::Draws;
 use crate::files::{add_image, add_list, add_settings, add_test, push_line};
@@ -14,7 +15,8 @@ use std::alloc::Global;
 /// The path of a made contest's folder.
 pub const FOLDER: &str = "contest";
 
-/// The tree of the contest of this number, with so many problems and submissions. No call of it fails.
+/// The tree of the contest of this number, with so many problems and submissions. No call of it fails, and its folder
+/// is read as a contest, without a fault.
 pub fn make_contest(
     alloc: Global,
     number: u32,
@@ -23,13 +25,15 @@ pub fn make_contest(
 ) -> Result<MemoryTree, NoMemory>
     requires problems { (1 ≤ problems) × (problems ≤ 50) }
     requires submissions { (1 ≤ submissions) × (submissions ≤ 2000) }
-    ensures { IfOk result (λ tree. tree ≡ tree_of (made_files number problems submissions)) }
+    ensures made { IfOk result (λ tree. tree ≡ tree_of (made_files number problems submissions)) }
+    ensures contest { IfOk result (λ tree. IsContestFolder tree.files) }
 {
     let files = make_files(alloc, number, problems, submissions)?;
     Ok(MemoryTree::new(alloc, files, Vec::new(alloc)))
 }
 
-/// The files of the contest of this number, with so many problems and submissions.
+/// The files of the contest of this number, with so many problems and submissions: those of a contest's folder without a
+/// fault.
 pub fn make_files(
     alloc: Global,
     number: u32,
@@ -38,7 +42,8 @@ pub fn make_files(
 ) -> Result<TreeFiles, NoMemory>
     requires problems { (1 ≤ problems) × (problems ≤ 50) }
     requires submissions { (1 ≤ submissions) × (submissions ≤ 2000) }
-    ensures { IfOk result (λ files. files ≡ made_files number problems submissions) }
+    ensures made { IfOk result (λ files. files ≡ made_files number problems submissions) }
+    ensures contest { IfOk result (λ files. IsContestFolder files) }
 {
     let mut draws = Draws::new(number);
     let mut files = TreeFiles::new(alloc);
