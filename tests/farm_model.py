@@ -15,7 +15,7 @@ NUMBER = re.compile(rb"(0|[1-9][0-9]*)\Z")
 CLASSES = [b"high", b"normal", b"low"]
 # The answers in the order of a matrix.
 ANSWERS = KINDS + ["compiler-error", "pending"]
-JURY = [b"problem", b"replace", b"rejudge", b"apply", b"cancel", b"verify"]
+JURY = [b"problem", b"replace", b"rejudge", b"apply", b"cancel", b"verify", b"ask"]
 
 
 class Bad(Exception):
@@ -49,9 +49,11 @@ def count(words, *numbers):
 class Farm:
     """A farm from its start on. Numbers of submissions, judgings and rejudgings are from 1."""
 
-    def __init__(self, lazy=True, lease=60, verification=False, rule=None):
+    def __init__(self, lazy=True, lease=60, verification=False, rule=None, modes=None):
         self.rule = rule or Rule()
         self.lazy = lazy
+        # The modes of problems by name: "lazy", "full" or "on-demand".
+        self.modes = modes or {}
         self.lease = lease
         self.verification = verification
         self.now = 0
@@ -103,10 +105,11 @@ class Farm:
     # What is known of judgings
 
     def report(self, judging):
-        row = self.judgings[judging - 1]["row"]
+        kept = self.judgings[judging - 1]
+        row = kept["row"]
         if not row:
             return "final compiler-error"
-        if self.lazy or None not in row:
+        if kept["lazy"] or None not in row:
             return self.rule.report(row)
         return "pending"
 
@@ -122,20 +125,23 @@ class Farm:
             return "pending"
         return self.outcome(judging)
 
-    def add_judging(self, rank, submission):
+    def add_judging(self, rank, submission, again=False):
         entered = self.submissions[submission - 1]
         tests = 0 if entered["broken"] else self.problems[entered["problem"]][1]
-        self.judgings.append({"rank": rank, "row": [None] * tests, "handed": set(), "dropped": False, "verified": False})
+        mode = self.modes.get(entered["problem"], "lazy" if self.lazy else "full")
+        kept = {"rank": rank, "row": [None] * tests, "handed": set(), "dropped": False, "verified": False}
+        # Judgings on demand wait to be asked for, but for those of rejudgings.
+        self.judgings.append({**kept, "lazy": mode != "full", "asked": again or mode != "on-demand"})
         return len(self.judgings)
 
     def first_open(self):
         tasks = [
             (kept["rank"], judging, test)
             for judging, kept in enumerate(self.judgings, 1)
-            if not kept["dropped"]
+            if kept["asked"] and not kept["dropped"]
             for test, cell in enumerate(kept["row"], 1)
             if cell is None and (judging, test) not in self.leases
-            if not self.lazy or self.rule.matters(kept["row"], test - 1)
+            if not kept["lazy"] or self.rule.matters(kept["row"], test - 1)
         ]
         return min(tasks)[1:] if tasks else None
 
@@ -333,7 +339,7 @@ class Farm:
         if fault:
             return fault
         olds = [self.submissions[number - 1]["current"] for number in numbers]
-        news = [self.add_judging(2, number) for number in numbers]
+        news = [self.add_judging(2, number, again=True) for number in numbers]
         self.rejudgings.append({"members": list(zip(numbers, olds, news)), "state": "open"})
         replies = [f"rejudging {len(self.rejudgings)} judgings {news[0]} to {news[-1]}"]
         return replies, ",".join(str(number) for number in numbers)
@@ -384,3 +390,15 @@ class Farm:
             return [f"already {judging}"]
         kept["verified"] = True
         return [f"verified {judging}"], str(judging)
+
+    def on_ask(self, words):
+        judging = number_of(*count(words, 1))
+        if not 1 <= judging <= len(self.judgings):
+            return [f"no-judging {judging}"]
+        kept = self.judgings[judging - 1]
+        if kept["dropped"]:
+            return ["dropped"]
+        if kept["asked"]:
+            return [f"already {judging}"]
+        kept["asked"] = True
+        return [self.report(judging)], str(judging)

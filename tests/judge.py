@@ -108,6 +108,8 @@ def faults():
     yield {"farm.json": '{"lease": 0}'}, "farm.json: bad value lease"
     yield {"farm.json": '{"results_prio": {"correct": 1000}}'}, "farm.json: bad value correct"
     yield {"farm.json": '{"instructions_per_second": 999}'}, "farm.json: bad value instructions_per_second"
+    yield {"farm.json": '{"problem_modes": {"echo": "always"}}'}, "farm.json: bad value echo"
+    yield {"farm.json": '{"problem_modes": {"no.name": "lazy"}}'}, "farm.json: unknown key no.name"
     yield {"farm.json": '{"lease": 0}', "problems/a b/problem.yaml": ""}, "farm.json: bad value lease"
     yield {"farm.json": Size(LARGE)}, "too large farm.json"
     yield {"problems/a b/problem.yaml": ""}, "bad name a b"
@@ -240,6 +242,8 @@ class Looks:
         yield "0: blank lines and comments", self.table({"submissions.txt": "# a\n" + REALISTIC["submissions.txt"].replace("\n", "\n\n#b\n  \n")}, TABLE)
         yield "0: settings, of which the last value counts", self.table({"farm.json": '{"lease": 0, "lease": 7}'}, TABLE)
         yield "0: every test is run", self.table({"farm.json": '{"lazy_eval_results": false}'}, TABLE)
+        modes = '{"problem_modes": {"echo": "on-demand", "guess": "full"}}'
+        yield "0: all of a contest on demand is asked for", self.table({"farm.json": modes}, TABLE)
         yield "0: verification withholds nothing here", self.table({"farm.json": '{"verification_required": true}'}, TABLE)
         yield "0: a result that counts as another", self.table(
             {"farm.json": '{"results_remap": {"timelimit": "no-output", "judging-error": "correct"}}'},

@@ -434,6 +434,7 @@ def read_settings(text):
         "instructions_per_second": lambda v: is_whole(v, 1000, 100_000_000),
         "lazy_eval_results": lambda v: isinstance(v, bool),
         "lease": lambda v: is_whole(v, 1, 1_000_000),
+        "problem_modes": lambda v: isinstance(v, dict) and by_names(v, lambda m: m in ["lazy", "full", "on-demand"]),
         "results_prio": lambda v: isinstance(v, dict) and by_kinds(v, lambda n: is_whole(n, 0, 999)),
         "results_remap": lambda v: isinstance(v, dict) and by_kinds(v, lambda n: n in KINDS),
         "verification_required": lambda v: isinstance(v, bool),
@@ -444,6 +445,12 @@ def read_settings(text):
 
 def by_kinds(given, is_good):
     by_keys(given, dict.fromkeys(KINDS, is_good))
+    return True
+
+
+def by_names(given, is_good):
+    # A key that is no name is unknown.
+    by_keys(given, {key: is_good for key in given if NAME.match(key.encode(errors="replace"))})
     return True
 
 

@@ -80,6 +80,9 @@ class Drawn:
             settings["results_remap"] = {kind: self.random.choice(KINDS) for kind in KINDS if self.random.random() < 0.3}
         if self.random.random() < 0.3:
             settings["lazy_eval_results"] = self.random.random() < 0.5
+        if self.random.random() < 0.4:
+            names = ["a", "A", "b-2", "echo", "z_", "none"]
+            settings["problem_modes"] = {name: self.random.choice(["lazy", "full", "on-demand"]) for name in names if self.random.random() < 0.5}
         self.files["farm.json"] = json.dumps(settings).encode()
 
     def draw_problem(self, name):

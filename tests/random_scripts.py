@@ -68,6 +68,7 @@ class Drawer:
             (3, f"apply {rejudging}"),
             (1, f"cancel {rejudging}"),
             (6, f"verify {self.near(self.farm.judgings)}"),
+            (4, f"ask {self.near(self.farm.judgings)}"),
         ])
 
     def host_line(self):
@@ -119,6 +120,8 @@ BAD_LINES = [
     "apply",
     "cancel 1 1",
     "verify x",
+    "ask",
+    "ask 1 1",
 ]
 
 
@@ -127,8 +130,9 @@ def draw_settings(draw):
     priorities = {kind: draw.randrange(1000) for kind in KINDS if draw.random() < 0.2}
     remap = {kind: draw.choice(KINDS) for kind in KINDS if draw.random() < 0.2}
     lazy, verification, lease = draw.random() < 0.7, draw.random() < 0.5, draw.choice([1, 20, 60])
-    kept = {"rule": Rule(priorities, remap), "lazy": lazy, "verification": verification, "lease": lease}
-    said = {"results_prio": priorities, "results_remap": remap, "lease": lease}
+    modes = {name: draw.choice(["lazy", "full", "on-demand"]) for name in PROBLEMS + ["C"] if draw.random() < 0.3}
+    kept = {"rule": Rule(priorities, remap), "lazy": lazy, "verification": verification, "lease": lease, "modes": modes}
+    said = {"results_prio": priorities, "results_remap": remap, "lease": lease, "problem_modes": modes}
     return kept, {**said, "lazy_eval_results": lazy, "verification_required": verification}
 
 

@@ -37,6 +37,7 @@ has_words (event.Matrix r) = omega arith
 has_words (event.Apply who r) = omega arith
 has_words (event.Cancel who r) = omega arith
 has_words (event.Verify who j) = omega arith
+has_words (event.Ask who j) = omega arith
 has_words event.Audit = omega arith
 
 -- the text of an event is who acts and then its words

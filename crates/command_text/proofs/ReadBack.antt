@@ -146,6 +146,7 @@ actor_name (event.Rejudge who list) h = h.0
 actor_name (event.Apply who r) h = h.0
 actor_name (event.Cancel who r) h = h.0
 actor_name (event.Verify who j) h = h.0
+actor_name (event.Ask who j) h = h.0
 actor_name (event.Host name) h = refl
 actor_name (event.Submit problem class broken) h = refl
 actor_name (event.Claim host) h = refl
@@ -172,6 +173,7 @@ words_back (event.Rejudge who list) h = jury_back who (codes "rejudge") (list_wo
 words_back (event.Apply who r) h = jury_back who (codes "apply") (decimal r ∷ []) (event.Apply who r) h.0 refl (number_line_back (event.Apply who) r h.1)
 words_back (event.Cancel who r) h = jury_back who (codes "cancel") (decimal r ∷ []) (event.Cancel who r) h.0 refl (number_line_back (event.Cancel who) r h.1)
 words_back (event.Verify who j) h = jury_back who (codes "verify") (decimal j ∷ []) (event.Verify who j) h.0 refl (number_line_back (event.Verify who) j h.1)
+words_back (event.Ask who j) h = jury_back who (codes "ask") (decimal j ∷ []) (event.Ask who j) h.0 refl (number_line_back (event.Ask who) j h.1)
 words_back (event.Host name) h = ap (λ o. event_or_bad (option_or o None)) (name_line_back event.Host name h)
 words_back (event.Submit problem class broken) h = ap event_or_bad (submit_back problem class broken h)
 words_back (event.Claim host) h = ap (λ o. event_or_bad (option_or o None)) (name_line_back event.Claim host h)
@@ -207,6 +209,7 @@ tokens_of (event.Matrix r) h = (token-name (codes "matrix") refl, (number_token 
 tokens_of (event.Apply who r) h = (token-name (codes "apply") refl, (number_token r h.1, tt))
 tokens_of (event.Cancel who r) h = (token-name (codes "cancel") refl, (number_token r h.1, tt))
 tokens_of (event.Verify who j) h = (token-name (codes "verify") refl, (number_token j h.1, tt))
+tokens_of (event.Ask who j) h = (token-name (codes "ask") refl, (number_token j h.1, tt))
 tokens_of event.Audit h = (token-name (codes "audit") refl, tt)
 
 readable_back : (e : Event) → IsReadable e → line_read (event_text e) ≡ Ok (Some e)

@@ -41,6 +41,7 @@ IsReadable (event.Matrix r) = IsNumber r
 IsReadable (event.Apply who r) = IsName who × IsNumber r
 IsReadable (event.Cancel who r) = IsName who × IsNumber r
 IsReadable (event.Verify who j) = IsName who × IsNumber j
+IsReadable (event.Ask who j) = IsName who × IsNumber j
 IsReadable event.Audit = ⊤
 
 abbrev IfRead : Option Event → Type 0
@@ -188,7 +189,8 @@ jury_event_reads who named word ws =
     (or_else (bytes_eq word (codes "rejudge")) _ _ (rejudge_reads who named ws)
     (or_else (bytes_eq word (codes "apply")) _ _ (number_reads (event.Apply who) (λ n small. (named, small)) ws)
     (or_else (bytes_eq word (codes "cancel")) _ _ (number_reads (event.Cancel who) (λ n small. (named, small)) ws)
-    (or_else (bytes_eq word (codes "verify")) (number_line (event.Verify who) ws) None (number_reads (event.Verify who) (λ n small. (named, small)) ws) tt)))))
+    (or_else (bytes_eq word (codes "verify")) _ _ (number_reads (event.Verify who) (λ n small. (named, small)) ws)
+    (or_else (bytes_eq word (codes "ask")) (number_line (event.Ask who) ws) None (number_reads (event.Ask who) (λ n small. (named, small)) ws) tt))))))
 
 other_event_reads : (word : List ℕ) (ws : List (List ℕ)) → IfRead (other_event_of word ws)
 other_event_reads word ws =

@@ -15,6 +15,7 @@ jury_words (event.Rejudge who list) = codes "rejudge" ∷ list_words list
 jury_words (event.Apply who r) = codes "apply" ∷ decimal r ∷ []
 jury_words (event.Cancel who r) = codes "cancel" ∷ decimal r ∷ []
 jury_words (event.Verify who j) = codes "verify" ∷ decimal j ∷ []
+jury_words (event.Ask who j) = codes "ask" ∷ decimal j ∷ []
 jury_words e = []
 
 -- the words of a reply that only refuses; none of another reply

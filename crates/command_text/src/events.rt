@@ -197,6 +197,7 @@ fn push_jury_words(out: &mut Vec<u8>, event: &Event) -> Result<(), NoMemory>
         Event::Apply { rejudging, .. } => push_number(out, b"apply", u64::from(*rejudging)),
         Event::Cancel { rejudging, .. } => push_number(out, b"cancel", u64::from(*rejudging)),
         Event::Verify { judging, .. } => push_number(out, b"verify", u64::from(*judging)),
+        Event::Ask { judging, .. } => push_number(out, b"ask", u64::from(*judging)),
         _ => Ok(()),
     }
 }

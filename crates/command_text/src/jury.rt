@@ -84,6 +84,15 @@ fn verify_line(who: Name, rest: &[u8]) -> Option<Event>
     Some(Event::Verify { who, judging })
 }
 
+/// What `ask J` asks.
+#[tactic(auto, using(crate::proofs::LineLemmas::number_line_by))]
+fn ask_line(who: Name, rest: &[u8]) -> Option<Event>
+    ensures { result ≡ number_line (event.Ask who) (words rest.now) }
+{
+    let judging = number_alone(rest)?;
+    Some(Event::Ask { who, judging })
+}
+
 /// The event of a line of the jury that begins with this word.
 pub fn jury_event_of(
     alloc: Global,
@@ -106,6 +115,8 @@ pub fn jury_event_of(
         Ok(cancel_line(who, rest))
     } else if word == b"verify".as_slice() {
         Ok(verify_line(who, rest))
+    } else if word == b"ask".as_slice() {
+        Ok(ask_line(who, rest))
     } else {
         Ok(None)
     }

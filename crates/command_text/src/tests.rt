@@ -47,6 +47,7 @@ fn each_line_is_read_and_written_again(rt: HostRuntime) -> Result<(), Fail> {
         b"apply 1",
         b"cancel 2",
         b"verify 3",
+        b"ask 3",
         b"audit",
         b"@ann problem A 2",
         b"@ann replace A 3",
@@ -55,6 +56,7 @@ fn each_line_is_read_and_written_again(rt: HostRuntime) -> Result<(), Fail> {
         b"@ann apply 1",
         b"@ann cancel 2",
         b"@ann verify 1",
+        b"@ann ask 1",
     ] {
         let text = read_and_written(rt.alloc(), line)?;
         assert!(rt; text.as_slice() == line);
@@ -153,6 +155,8 @@ fn other_lines_are_bad(rt: HostRuntime) {
         b"matrix 1 2",
         b"apply",
         b"verify -1",
+        b"ask",
+        b"ask 1 2",
         b"rejudge 1 2",
         b"rejudge ,",
         b"rejudge 1,",

@@ -48,7 +48,7 @@ fn read_contest_settings<T: Tree>(
     ensures cause { result ≡ Err ContestFault.Tree → Rose (T.faults tree.old) (T.faults tree.new) }
 {
     let Some(text) = read_file(alloc, tree, path, "farm.json")? else {
-        return Ok(Settings::standard());
+        return Ok(Settings::standard(alloc));
     };
     match read_settings(alloc, text.as_slice()) {
         Ok(settings) => Ok(settings),

@@ -49,11 +49,12 @@ script reads event lines from standard input and writes a reply to each:
   matrix R                       old and new answers of rejudging R
   apply R, cancel R              makes its judgings the current ones; drops them
   verify J                       lets the public see judging J
+  ask J                          has hosts judge a judging that waits
   audit                          the audit log's length and last digest
-problem, replace, rejudge, apply, cancel and verify may begin with @NAME, which
-says who acts. Empty lines, and lines whose first word begins with #, have no
-reply. FILE holds settings in JSON: priorities, remapping, lazy evaluation,
-leases, verification.
+problem, replace, rejudge, apply, cancel, verify and ask may begin with @NAME,
+which says who acts. Empty lines, and lines whose first word begins with #, have
+no reply. FILE holds settings in JSON: priorities, remapping, lazy evaluation,
+modes of problems, leases, verification.
 
 Status: 0 done, 2 usage, 3 bad settings or contest, 4 read fault, 5 write
 fault, 6 no memory, 7 file fault, 9 input limit.

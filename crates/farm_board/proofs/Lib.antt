@@ -10,4 +10,5 @@ pub mod Trusts
 pub mod Agreeing
 pub mod HostCalls
 pub mod Callers
+mod Listed
 pub mod Sending

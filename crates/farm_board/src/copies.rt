@@ -108,6 +108,10 @@ pub(crate) fn copy_event(alloc: Global, event: &Event) -> Result<Event, NoMemory
             who: *who,
             judging: *judging,
         },
+        Event::Ask { who, judging } => Event::Ask {
+            who: *who,
+            judging: *judging,
+        },
         Event::Audit => Event::Audit,
     })
 }

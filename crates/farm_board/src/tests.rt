@@ -70,7 +70,7 @@ fn submit_and_wait<W: Wait, A: Admission>(
 
 #[test]
 fn journal_is_read_back(rt: HostRuntime) -> Result<(), Fail> {
-    let farm = Farm::new(rt.alloc(), Settings::standard());
+    let farm = Farm::new(rt.alloc(), Settings::standard(rt.alloc()));
     let opened = Board::<Anyone, Brand>::new(rt.alloc(), farm, Anyone, 1, true);
     let Ok((board, mut pass)) = opened else {
         return Err(Fail::new("no memory"));
@@ -97,7 +97,7 @@ fn journal_is_read_back(rt: HostRuntime) -> Result<(), Fail> {
 
 #[test]
 fn seats_run_out_and_come_back(rt: HostRuntime) -> Result<(), Fail> {
-    let farm = Farm::new(rt.alloc(), Settings::standard());
+    let farm = Farm::new(rt.alloc(), Settings::standard(rt.alloc()));
     let opened = Board::<Anyone, Brand>::new(rt.alloc(), farm, Anyone, 2, false);
     let Ok((board, mut pass)) = opened else {
         return Err(Fail::new("no memory"));
@@ -132,7 +132,7 @@ fn submit_in_two_threads<R: Threads + Wait + Sync, A: Admission + Send + Sync>(
 
 #[test]
 fn two_passes_are_live_at_once(rt: HostRuntime) -> Result<(), Fail> {
-    let farm = Farm::new(rt.alloc(), Settings::standard());
+    let farm = Farm::new(rt.alloc(), Settings::standard(rt.alloc()));
     let opened = Board::<Anyone, Brand>::new(rt.alloc(), farm, Anyone, 3, false);
     let Ok((board, mut pass)) = opened else {
         return Err(Fail::new("no memory"));
@@ -205,7 +205,7 @@ fn judge_three_tests<W: Wait, C: Cases + Drop, A: Admission>(
         return Err(NoMemory);
     };
     let runner = Runner::new(run);
-    let farm = Farm::new(alloc, Settings::standard());
+    let farm = Farm::new(alloc, Settings::standard(alloc));
     let (board, mut pass) = Board::<Proved<C>, A>::new(alloc, farm, Proved::new(cases), 2, false)?;
     board.step(
         rt,

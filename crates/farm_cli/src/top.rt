@@ -119,7 +119,7 @@ fn script<T: Tree, S: Source, K: Sink>(
         result }
 {
     let Some(path) = config else {
-        return run(alloc, Settings::standard(), input, out);
+        return run(alloc, Settings::standard(alloc), input, out);
     };
     match read_config(alloc, tree, path) {
         Ok(settings) => run(alloc, settings, input, out),

@@ -34,6 +34,7 @@ refusal_aside s t (event.Matrix r) = refl
 refusal_aside s t (event.Apply who r) = refl
 refusal_aside s t (event.Cancel who r) = refl
 refusal_aside s t (event.Verify who j) = refl
+refusal_aside s t (event.Ask who j) = refl
 refusal_aside s t event.Audit = refl
 
 takes_aside : (s : State) (t : List (List ℕ)) (e : Event) → takes_memory (with_texts s t) e ≡ takes_memory s e
@@ -54,6 +55,7 @@ takes_aside s t (event.Matrix r) = refl
 takes_aside s t (event.Apply who r) = refl
 takes_aside s t (event.Cancel who r) = refl
 takes_aside s t (event.Verify who j) = refl
+takes_aside s t (event.Ask who j) = refl
 takes_aside s t event.Audit = refl
 
 -- Events of the jury
@@ -76,6 +78,7 @@ takes_jury s (event.Matrix r) h = cc
 takes_jury s (event.Apply who r) h = refl
 takes_jury s (event.Cancel who r) h = refl
 takes_jury s (event.Verify who j) h = refl
+takes_jury s (event.Ask who j) h = refl
 takes_jury s event.Audit h = cc
 
 -- the entry stands behind the texts that are there
@@ -98,6 +101,7 @@ accepted_aside s t (event.Matrix r) h = cc
 accepted_aside s t (event.Apply who r) h = refl
 accepted_aside s t (event.Cancel who r) h = refl
 accepted_aside s t (event.Verify who j) h = refl
+accepted_aside s t (event.Ask who j) h = refl
 accepted_aside s t event.Audit h = cc
 
 pub entered : (old new : State) (t : List (List ℕ)) (e : Event) (r : Reply) → IsSome (jury_actor e)
@@ -136,6 +140,7 @@ step_aside s t (event.Matrix r) h = refused_aside s t (refusal_of s (event.Matri
 step_aside s t (event.Apply who r) h = let no : Some who ≡ None = h.unaudited in cc
 step_aside s t (event.Cancel who r) h = let no : Some who ≡ None = h.unaudited in cc
 step_aside s t (event.Verify who j) h = let no : Some who ≡ None = h.unaudited in cc
+step_aside s t (event.Ask who j) h = let no : Some who ≡ None = h.unaudited in cc
 step_aside s t event.Audit h = absurd (h.other refl)
 
 -- what a contest does is what the farm does, whatever its audit log holds

@@ -9,6 +9,8 @@ use Rattle.farm_core.specs.declared.contest.Contest.TheInside.{Inside}
 abbrev pub contest_value : Inside → State
 contest_value a = record {
   judge = a.judge.state;
+  mode = a.mode;
+  modes = a.modes;
   verification = a.verification;
   problems = a.problems.items;
   hosts = a.hosts.items;

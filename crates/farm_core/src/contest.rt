@@ -1,6 +1,7 @@
 ghost use Rattle.std.specs.Prelude.{◌≡◌, length};
 ghost use Rattle.farm_model.specs.State.{start, public_of};
 
+mod asking;
 mod hosts;
 mod judged;
 mod jury;
@@ -11,7 +12,7 @@ mod submissions;
 mod verifying;
 
 use crate::names::Names;
-use farm_kinds::Answer;
+use farm_kinds::{Answer, Mode, Modes};
 use farm_model::{Host, JudgingDetails, Problem, Submission, item_of};
 use farm_settings::Settings;
 use judging_core::Judge;
@@ -25,6 +26,9 @@ use std::marker::Model;
 pub struct Contest {
     alloc: Global,
     judge: Judge,
+    /// How far judgings are judged, but for those of the problems in `modes`.
+    mode: Mode,
+    modes: Modes,
     verification: bool,
     problems: Vec<Problem>,
     /// The names of the problems, in their order.
@@ -57,8 +61,10 @@ impl Contest {
     {
         Contest {
             alloc,
-            judge: Judge::new(alloc, settings.rule(), settings.mode(), settings.lease()),
+            judge: Judge::new(alloc, settings.rule(), settings.lease()),
+            mode: settings.mode(),
             verification: settings.verification(),
+            modes: settings.into_modes(),
             problems: Vec::new(alloc),
             problem_names: Names::new(alloc),
             hosts: Vec::new(alloc),

@@ -88,9 +88,8 @@ impl Farm {
         match event {
             Event::Problem { .. } | Event::Replace { .. } | Event::Rejudge { .. } =>
                 self.answer_jury(event),
-            Event::Apply { .. } | Event::Cancel { .. } | Event::Verify { .. } => self.answer_jury(
-                event,
-            ),
+            Event::Apply { .. } | Event::Cancel { .. } | Event::Verify { .. } | Event::Ask { .. } =>
+                self.answer_jury(event),
             Event::Host { name } => self.contest.bring_up(*name),
             Event::Submit {
                 problem,

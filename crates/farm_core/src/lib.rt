@@ -6,6 +6,7 @@ mod contest;
 mod entries;
 mod farm;
 mod lists;
+mod modes;
 mod names;
 mod places;
 mod replies;
@@ -13,3 +14,4 @@ mod replies;
 mod tests;
 
 pub use farm::Farm;
+pub use modes::is_asked_for;

@@ -1,14 +1,14 @@
 ghost use Rattle.std.specs.Prelude.{◌≡◌, ◌+◌, ◌++◌, ◌<◌, ◌≤◌, All, IfOk, IsTrue, fold, length, map, vec_len, vec_capacity};
-ghost use Rattle.farm_kinds.specs.declared.outcomes.Class.TheVariants.{Low};
 ghost use Rattle.farm_model.specs.Limits.{max_judgings, max_tests};
 ghost use Rattle.farm_model.specs.Judge.{add_judgings, drop_judging};
 ghost use Rattle.farm_model.specs.Numbered.{item_of};
 ghost use Rattle.farm_model.specs.Rejudgings.{new_judgings};
 ghost use Rattle.farm_model.specs.State.{current_of};
-ghost use Rattle.farm_model.specs.Changes.{cells_of_item, details_for, with_current};
+ghost use Rattle.farm_model.specs.Changes.{cells_of_item, judging_again, details_for, with_current};
 ghost use Rattle.judging_core.specs.JudgeValue.{in_state, starts_with, with_judging};
 ghost use Rattle.farm_core.specs.FarmShape.{AreShort, HasJudging, HasSubmission};
 
+use crate::modes::mode_of_one;
 use crate::places::cells_for;
 use farm_kinds::{Class, NoMemory, Numbers};
 use farm_model::{JudgingDetails, Member, Problem, Submission, item_of};
@@ -73,17 +73,24 @@ fn cells_of_one(problems: &[Problem], submissions: &[Submission], submission: u3
     }
 }
 
-/// Adds a judging for each of these numbers of tests, for which there is room.
-pub fn add_judgings(judge: &mut Judge, tests: &[u32])
-    requires reserved { judge.old.reserved ≡ tests.now }
-    requires few { length judge.old.state.judgings + length tests.now ≤ max_judgings }
-    requires short { All (λ n. n ≤ max_tests) tests.now }
-    ensures state { judge.new.state ≡ add_judgings judge.old.state Low tests.now }
-    ensures count { length judge.new.state.judgings ≡ length judge.old.state.judgings + length tests.now }
+/// Adds a judging of each submission of the list, for which there is room.
+pub fn add_judgings(
+    judge: &mut Judge,
+    problems: &[Problem],
+    submissions: &[Submission],
+    list: &[u32],
+)
+    requires reserved { judge.old.reserved ≡ map (λ n. cells_of_item problems.now (item_of submissions.now n)) list.now }
+    requires few { length judge.old.state.judgings + length list.now ≤ max_judgings }
+    requires short { AreShort problems.now }
+    ensures state { judge.new.state ≡ add_judgings judge.old.state (map (λ n. judging_again problems.now (item_of submissions.now n)) list.now) }
+    ensures count { length judge.new.state.judgings ≡ length judge.old.state.judgings + length list.now }
     ensures hosts { judge.new.hosts ≡ judge.old.hosts }
 {
-    for count in tests {
-        judge.add_reserved(Class::Low, *count as u16);
+    for submission in list {
+        let tests = cells_of_one(problems, submissions, *submission) as u16;
+        let mode = mode_of_one(problems, submissions, *submission);
+        judge.add_reserved(Class::Low, tests, mode, true);
     }
 }
 

@@ -42,7 +42,7 @@ fn played(alloc: Global, config: &str, script: Script<'_>) -> Result<Shown, NoMe
 /// The settings that the JSON text says, or the standard ones.
 fn settings_of(alloc: Global, config: &str) -> Settings {
     let Ok(settings) = read_settings(alloc, config.as_bytes()) else {
-        return Settings::standard();
+        return Settings::standard(alloc);
     };
     settings
 }

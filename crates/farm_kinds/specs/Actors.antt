@@ -22,4 +22,5 @@ jury_actor (event.Matrix r) = None
 jury_actor (event.Apply who r) = Some who
 jury_actor (event.Cancel who r) = Some who
 jury_actor (event.Verify who j) = Some who
+jury_actor (event.Ask who j) = Some who
 jury_actor event.Audit = None

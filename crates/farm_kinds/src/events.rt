@@ -93,6 +93,11 @@ pub enum Event {
         who: Name,
         judging: u32,
     },
+    /// Someone asks for a judging: hosts are given its tasks from then on.
+    Ask {
+        who: Name,
+        judging: u32,
+    },
     /// How many entries the audit log has, and its last digest.
     Audit,
 }
@@ -106,7 +111,9 @@ impl Event {
         match self {
             Event::Problem { who, .. } | Event::Replace { who, .. } => Some(*who),
             Event::Rejudge { who, .. } | Event::Verify { who, .. } => Some(*who),
-            Event::Apply { who, .. } | Event::Cancel { who, .. } => Some(*who),
+            Event::Apply { who, .. } | Event::Cancel { who, .. } | Event::Ask { who, .. } => {
+                Some(*who)
+            }
             Event::Host { .. } | Event::Submit { .. } | Event::Claim { .. } => None,
             Event::Result { .. } | Event::Entry { .. } | Event::Renew { .. } => None,
             Event::Tick { .. } | Event::Down { .. } | Event::Show { .. } => None,
@@ -192,7 +199,7 @@ pub enum Reply {
     Closed { how: How },
     /// This judging of the rejudging is not final.
     Unfinished { judging: u32 },
-    /// The judging is verified already.
+    /// The judging is verified already, or it was asked for already.
     Already { judging: u32 },
     /// No memory was left, and the event changed nothing.
     NoMemory,

@@ -19,10 +19,11 @@ pub use limits::{
     Limits, MAX_HELD, MAX_HOSTS, MAX_JUDGINGS, MAX_PROBLEMS, MAX_REJUDGINGS, MAX_SUBMISSIONS,
     MAX_TESTS, MAX_VERSIONS, raw_image,
 };
-pub use lists::{Answers, MatrixRows, Numbers, TableRows, Text};
+pub use lists::{Answers, MatrixRows, Modes, Numbers, TableRows, Text};
 pub use names::Name;
 pub use outcomes::{
-    Answer, Claim, Class, Count, How, MatrixRow, Mode, NoMemory, Renewed, TableRow, Task, Verdict,
+    Answer, AskEnd, Claim, Class, Count, How, MatrixRow, Mode, NamedMode, NoMemory, ProblemMode,
+    Renewed, TableRow, Task, Verdict,
 };
 pub use rules::{Rule, RuleFault, verdict, verdict_with};
 pub use worked::{worked_images, worked_kinds, worked_names, worked_rules, worked_verdicts};

@@ -1,6 +1,6 @@
 ghost use Rattle.std.specs.Prelude.{◌≡◌, ◌++◌, ◌∷◌, [], ℕ, List, OnOk, OnErr};
 
-use crate::outcomes::{Answer, MatrixRow, NoMemory, TableRow};
+use crate::outcomes::{Answer, MatrixRow, NamedMode, NoMemory, TableRow};
 use std::alloc::Global;
 use std::marker::Model;
 
@@ -270,5 +270,60 @@ impl TableRows {
         ensures { result.now ≡ self.now }
     {
         self.rows.as_slice()
+    }
+}
+
+/// The modes of problems by their names, in the order in which they were given. Contracts see a list.
+#[derive(Debug, Drop)]
+pub struct Modes {
+    modes: Vec<NamedMode>,
+}
+
+impl Model for Modes {
+    ghost use Rattle.std.specs.Prelude.{List};
+    ghost use Rattle.farm_kinds.specs.declared.outcomes.NamedMode.{NamedMode};
+
+    ghost Value = { List NamedMode };
+
+    ghost view = { λ t. t.modes.items };
+}
+
+impl Modes {
+    /// No modes.
+    pub fn new(alloc: Global) -> Modes
+        ensures { result ≡ [] }
+    {
+        Modes {
+            modes: Vec::new(alloc),
+        }
+    }
+
+    /// The modes of a vector, without taking memory.
+    pub fn from_vec(modes: Vec<NamedMode>) -> Modes
+        ensures { result ≡ modes.items }
+    {
+        Modes { modes }
+    }
+
+    /// Gives the modes back, without taking memory.
+    pub fn into_vec(self) -> Vec<NamedMode>
+        ensures { result.items ≡ self }
+    {
+        self.modes
+    }
+
+    /// Adds a mode at the end. At `NoMemory` nothing changes.
+    pub fn push(&mut self, mode: NamedMode) -> Result<(), NoMemory>
+        ensures ok { OnOk result (self.new ≡ self.old ++ mode ∷ []) }
+        ensures err { OnErr result (self.new ≡ self.old) }
+    {
+        self.modes.push(mode).map_err(|_| NoMemory)
+    }
+
+    /// The modes in order.
+    pub fn as_slice(&self) -> &[NamedMode]
+        ensures { result.now ≡ self.now }
+    {
+        self.modes.as_slice()
     }
 }

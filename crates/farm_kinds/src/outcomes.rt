@@ -50,6 +50,26 @@ pub enum Mode {
     Full,
 }
 
+/// How the submissions of a problem are judged (DOMjudge manual, "Lazy judging").
+#[derive(Clone, Copy, Debug, PartialEq, Eq)]
+pub enum ProblemMode {
+    /// A judging is final once its verdict can no longer change.
+    Lazy,
+    /// A judging is final once every test is judged.
+    Full,
+    /// As `Lazy`, and no task of a judging is handed out before it is asked for.
+    OnDemand,
+}
+
+/// How the submissions of the problem of a name are judged.
+#[derive(Clone, Copy, Debug)]
+pub struct NamedMode {
+    /// The problem.
+    pub name: Name,
+    /// How its submissions are judged.
+    pub mode: ProblemMode,
+}
+
 /// One test of one judging (DOMjudge's judge task).
 #[derive(Clone, Copy, Debug, PartialEq, Eq)]
 pub struct Task {
@@ -100,6 +120,19 @@ pub enum Renewed {
     NoLease,
     /// The host holds the task until this moment, in seconds.
     Until { until: u64 },
+}
+
+/// What becomes of a judging that the jury asks for.
+#[derive(Clone, Copy, Debug, PartialEq, Eq)]
+pub enum AskEnd {
+    /// No judging has the number.
+    NoJudging,
+    /// The judging was dropped, and takes no results.
+    Dropped,
+    /// It was asked for before, or from the start.
+    Already,
+    /// Its tasks are handed out from now on.
+    Done,
 }
 
 /// How a rejudging was closed.

@@ -22,34 +22,44 @@ use Rattle.farm_model.specs.Farm.{farm_step}
 use Rattle.farm_model.specs.Replay.{reply_to}
 use Rattle.farm_laws.specs.Laws.{reached, current_in, CancelChangesNone}
 use Rattle.farm_laws.proofs.Items.{item_seen}
-use Rattle.farm_laws.proofs.Kept.{KeepsRows, drops_keep}
+use Rattle.farm_laws.proofs.Kept.{modes_of, KeepsRows, drops_keep}
 use Rattle.farm_laws.proofs.Outcomes.{outcome}
 
--- Answers by rows alone
+-- Answers by modes and rows alone
 
-answer_by_row : (rule : RuleValue) (mode : Mode) (o : Option Judging) → option_map (λ judging. answer_of rule mode judging.row) o ≡ option_map (answer_of rule mode) (option_map (λ judging. judging.row) o)
-answer_by_row rule mode None = refl
-answer_by_row rule mode (Some g) = refl
+abbrev answer_by : RuleValue → Option Mode → Option Row → Option Answer
+answer_by rule None row = None
+answer_by rule (Some mode) row = option_map (answer_of rule mode) row
 
-answer_by_rows : (rule : RuleValue) (mode : Mode) (judgings : List Judging) (j : ℕ) → answer_in rule mode judgings j ≡ option_map (answer_of rule mode) (item_of (judging_rows judgings) j)
-answer_by_rows rule mode judgings j =
-    answer_by_row rule mode (item_of judgings j) ∙ ap (option_map (answer_of rule mode)) (sym (item_seen (λ (judging : Judging). judging.row) judgings j))
+answer_of_both : (rule : RuleValue) (o : Option Judging)
+    → option_map (λ judging. answer_of rule judging.mode judging.row) o ≡ answer_by rule (option_map (λ judging. judging.mode) o) (option_map (λ judging. judging.row) o)
+answer_of_both rule None = refl
+answer_of_both rule (Some g) = refl
 
-answers_same : (rule : RuleValue) (mode : Mode) (new old : List Judging) (j : ℕ) → judging_rows new ≡ judging_rows old → answer_in rule mode new j ≡ answer_in rule mode old j
-answers_same rule mode new old j same =
-    answer_by_rows rule mode new j ∙ ap (λ (rows : List Row). option_map (answer_of rule mode) (item_of rows j)) same ∙ sym (answer_by_rows rule mode old j)
+answer_by_both : (rule : RuleValue) (judgings : List Judging) (j : ℕ)
+    → answer_in rule judgings j ≡ answer_by rule (item_of (modes_of judgings) j) (item_of (judging_rows judgings) j)
+answer_by_both rule judgings j =
+    answer_of_both rule (item_of judgings j)
+    ∙ ap (λ (mode : Option Mode). answer_by rule mode (option_map (λ judging. judging.row) (item_of judgings j))) (sym (item_seen (λ (judging : Judging). judging.mode) judgings j))
+    ∙ ap (answer_by rule (item_of (modes_of judgings) j)) (sym (item_seen (λ (judging : Judging). judging.row) judgings j))
 
--- a judge that keeps its rows reports what it reported
-kept_answer : (old new : JudgeState) (j : ℕ) → KeepsRows old new → answer_in new.rule new.mode new.judgings j ≡ answer_in old.rule old.mode old.judgings j
+answers_same : (rule : RuleValue) (new old : List Judging) (j : ℕ) → modes_of new ≡ modes_of old → judging_rows new ≡ judging_rows old → answer_in rule new j ≡ answer_in rule old j
+answers_same rule new old j modes rows =
+    answer_by_both rule new j
+    ∙ ap (λ (ms : List Mode). answer_by rule (item_of ms j) (item_of (judging_rows new) j)) modes
+    ∙ ap (λ (rs : List Row). answer_by rule (item_of (modes_of old) j) (item_of rs j)) rows
+    ∙ sym (answer_by_both rule old j)
+
+-- a judge that keeps its modes and rows reports what it reported
+kept_answer : (old new : JudgeState) (j : ℕ) → KeepsRows old new → answer_in new.rule new.judgings j ≡ answer_in old.rule old.judgings j
 kept_answer old new j kept =
-    ap (λ rule. answer_in rule new.mode new.judgings j) kept.rule ∙ ap (λ mode. answer_in old.rule mode new.judgings j) kept.mode
-    ∙ answers_same old.rule old.mode new.judgings old.judgings j kept.rows
+    ap (λ rule. answer_in rule new.judgings j) kept.rule ∙ answers_same old.rule new.judgings old.judgings j kept.modes kept.rows
 
 -- The board
 
 public_same : (s t : State) (j : ℕ) → KeepsRows s.judge t.judge → is_withheld t j ≡ is_withheld s j → public_answer t j ≡ public_answer s j
 public_same s t j kept withheld =
-    ap (λ b. cond b Pending (unwrap_or (answer_in t.judge.rule t.judge.mode t.judge.judgings j) Pending)) withheld
+    ap (λ b. cond b Pending (unwrap_or (answer_in t.judge.rule t.judge.judgings j) Pending)) withheld
     ∙ ap (λ o. cond (is_withheld s j) Pending (unwrap_or o Pending)) (kept_answer s.judge t.judge j kept)
 
 board_same : (s t : State) (submissions : List Submission) → KeepsRows s.judge t.judge → ((j : ℕ) → is_withheld t j ≡ is_withheld s j)

@@ -1,11 +1,12 @@
 -- The cells of judgings, and what each event does to them.
-use Rattle.std.proofs.Common.{ℕ, zero, suc, ◌≡◌, ◌≢◌, ◌-◌, List, [], ◌∷◌, ◌++◌, Option, Some, None, Bool, true, false, cond, eqb, ◌&&◌, refl, sym, ap, ◌∙◌, subst, set, slice_get, replicate, map, append_assoc}
+use Rattle.std.proofs.Common.{ℕ, zero, suc, ◌≡◌, ◌≢◌, ◌-◌, List, [], ◌∷◌, ◌++◌, Option, Some, None, Bool, true, false, cond, eqb, ◌&&◌, refl, sym, ap, ◌∙◌, subst, set, slice_get, replicate, append_assoc}
 use Rattle.std.specs.Prelude.{nat_lt}
 use Rattle.std.specs.Option.{option_map, option_and_then, option_or, unwrap_or, is_some}
 use Rattle.std.proofs.lemmas.List.{append-nil}
 use Rattle.std.proofs.lemmas.Bool.{eqb-true, eqb-false}
 use Rattle.farm_kinds.specs.declared.kinds.Kind.{Kind}
 use Rattle.farm_kinds.specs.declared.outcomes.Class.{Class}
+use Rattle.farm_kinds.specs.declared.outcomes.Mode.{Mode}
 use Rattle.farm_kinds.specs.declared.outcomes.Count.{Count}
 use Rattle.farm_kinds.specs.declared.outcomes.Count.TheVariants as count
 use Rattle.farm_kinds.specs.declared.events.Reply.TheVariants as reply
@@ -16,6 +17,7 @@ use Rattle.farm_model.specs.Leases.{same_task}
 use Rattle.farm_model.specs.Judgings.{Judging, empty_judging, task_of, cell_of, is_judging, has_test, kept_count, is_dropped, was_handed, entry_refusal, result_refusal, fill_cell, with_result}
 use Rattle.farm_model.specs.Refusals.{count_reply}
 use Rattle.farm_laws.proofs.Items.{item_at, with_same, with_other}
+use Rattle.farm_laws.proofs.Each.{Each}
 
 -- the kind that a cell holds; none where it is empty, or is not there
 abbrev pub cell_at : List Judging → ℕ → ℕ → Option Kind
@@ -100,30 +102,34 @@ unwrapped : {X : Type 0} (b : Bool) (o : Option X) (d : X) → unwrap_or o d ≡
 unwrapped true o d h = h
 unwrapped false o d h = refl
 
-empty_kind : (class : Class) (n t : ℕ) → kind_in (Some (empty_judging class n)) t ≡ None
-empty_kind class n t = unwrapped (nat_lt 0 t) (slice_get (replicate n None) (t - 1)) None (copied n (t - 1) None)
+-- no cell of the judging holds a kind
+abbrev pub IsUnjudged : Judging → Type 0
+IsUnjudged judging = (t : ℕ) → kind_in (Some judging) t ≡ None
 
-last_empty : (judgings : List Judging) (class : Class) (n i t : ℕ) → kind_in (slice_get (judgings ++ empty_judging class n ∷ []) i) t ≡ kind_in (slice_get judgings i) t
-last_empty [] class n zero t = empty_kind class n t
-last_empty [] class n (suc i) t = refl
-last_empty (g ∷ judgings) class n zero t = refl
-last_empty (g ∷ judgings) class n (suc i) t = last_empty judgings class n i t
+pub empty_unjudged : (class : Class) (n : ℕ) (mode : Mode) (asked : Bool) → IsUnjudged (empty_judging class n mode asked)
+empty_unjudged class n mode asked t = unwrapped (nat_lt 0 t) (slice_get (replicate n None) (t - 1)) None (copied n (t - 1) None)
+
+last_empty : (judgings : List Judging) (new : Judging) → IsUnjudged new → (i t : ℕ) → kind_in (slice_get (judgings ++ new ∷ []) i) t ≡ kind_in (slice_get judgings i) t
+last_empty [] new none zero t = none t
+last_empty [] new none (suc i) t = refl
+last_empty (g ∷ judgings) new none zero t = refl
+last_empty (g ∷ judgings) new none (suc i) t = last_empty judgings new none i t
 
 same_kinds : (b : Bool) (x y : Option Judging) (t : ℕ) → kind_in x t ≡ kind_in y t → kind_in (cond b x None) t ≡ kind_in (cond b y None) t
 same_kinds true x y t h = h
 same_kinds false x y t h = refl
 
 -- a new judging has no kind in any cell
-pub cell_append : (judgings : List Judging) (class : Class) (n j t : ℕ) → cell_at (judgings ++ empty_judging class n ∷ []) j t ≡ cell_at judgings j t
-cell_append judgings class n j t = same_kinds (nat_lt 0 j) (slice_get (judgings ++ empty_judging class n ∷ []) (j - 1)) (slice_get judgings (j - 1)) t (last_empty judgings class n (j - 1) t)
+cell_append : (judgings : List Judging) (new : Judging) → IsUnjudged new → (j t : ℕ) → cell_at (judgings ++ new ∷ []) j t ≡ cell_at judgings j t
+cell_append judgings new none j t = same_kinds (nat_lt 0 j) (slice_get (judgings ++ new ∷ []) (j - 1)) (slice_get judgings (j - 1)) t (last_empty judgings new none (j - 1) t)
 
 -- new judgings have none
-pub cells_append : (judgings : List Judging) (class : Class) (tests : List ℕ) (j t : ℕ) → cell_at (judgings ++ map (empty_judging class) tests) j t ≡ cell_at judgings j t
-cells_append judgings class [] j t = ap (λ (js : List Judging). cell_at js j t) (append-nil judgings)
-cells_append judgings class (n ∷ tests) j t =
-    ap (λ (js : List Judging). cell_at js j t) (sym (append_assoc judgings (empty_judging class n ∷ []) (map (empty_judging class) tests)))
-    ∙ cells_append (judgings ++ empty_judging class n ∷ []) class tests j t
-    ∙ cell_append judgings class n j t
+pub cells_append : (judgings new : List Judging) → Each IsUnjudged new → (j t : ℕ) → cell_at (judgings ++ new) j t ≡ cell_at judgings j t
+cells_append judgings [] none j t = ap (λ (js : List Judging). cell_at js j t) (append-nil judgings)
+cells_append judgings (g ∷ new) none j t =
+    ap (λ (js : List Judging). cell_at js j t) (sym (append_assoc judgings (g ∷ []) new))
+    ∙ cells_append (judgings ++ g ∷ []) new none.1 j t
+    ∙ cell_append judgings g none.0 j t
 
 pub or_none : {X : Type 0} (o : Option X) → option_or o None ≡ o
 or_none None = refl

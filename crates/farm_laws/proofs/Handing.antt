@@ -1,5 +1,5 @@
 -- Tasks that are handed out.
-use Rattle.std.proofs.Common.{ℕ, ◌≡◌, ◌+◌, ◌-◌, List, [], ◌∷◌, Option, Some, None, Bool, true, false, refl, sym, ap, ◌∙◌, arith, length, slice_get, inl, inr}
+use Rattle.std.proofs.Common.{ℕ, ◌≡◌, ◌+◌, ◌-◌, List, [], ◌∷◌, Option, Some, None, Bool, true, false, ◌&&◌, refl, sym, ap, ◌∙◌, arith, length, slice_get, inl, inr}
 use Rattle.std.specs.Prelude.{is_none, not, nat_le, map, ◌++◌}
 use Rattle.std.specs.Option.{IsSome, option_map, is_some}
 use Rattle.std.specs.List.{slice_index_or, filter, enumerate_from}
@@ -23,7 +23,7 @@ use Rattle.farm_model.specs.Numbered.{item_of, numbers_to, number_or_0}
 use Rattle.farm_model.specs.Refusing.{when, unless, first_of, refused_or}
 use Rattle.farm_model.specs.Rows.{Row}
 use Rattle.farm_model.specs.Leases.{held_count}
-use Rattle.farm_model.specs.Open.{same_class, is_empty_cell, is_wanted, wanted_tests, is_free, open_in, judgings_in, open_in_class, open_tasks}
+use Rattle.farm_model.specs.Open.{same_class, is_empty_cell, is_wanted, wanted_tests, is_free, open_in, is_active, judgings_in, open_in_class, open_tasks}
 use Rattle.farm_model.specs.Judgings.{Judging, task_of, entry_refusal, result_refusal}
 use Rattle.farm_model.specs.Judge.{JudgeState, claimed, first_open, judge_enter, judge_result}
 use Rattle.farm_model.specs.State.{State, up_number}
@@ -37,12 +37,13 @@ use Rattle.farm_laws.proofs.Each.{Each, each_first, each_append, each_map, each_
 
 -- Open tasks
 
--- the cell of the task is empty, and is still to be judged
-pub record IsOpen (rule : RuleValue) (mode : Mode) (judgings : List Judging) (task : Task) : Type 0 where
+-- the cell of the task is empty, and is still to be judged, in a judging that was asked for
+pub record IsOpen (rule : RuleValue) (judgings : List Judging) (task : Task) : Type 0 where
   pub judging : Judging
   pub there : item_of judgings task.judging ≡ Some judging
   pub empty : item_of judging.row task.test ≡ Some None
-  pub wanted : is_wanted rule mode judging.row task.test ≡ true
+  pub asked : judging.asked ≡ true
+  pub wanted : is_wanted rule judging.mode judging.row task.test ≡ true
 
 abbrev HasCell : Row → ℕ → Type 0
 HasCell row test = (cell : Option Kind) × (item_of row test ≡ Some cell)
@@ -69,31 +70,41 @@ open_cells rule mode row = each_filter (λ test. item_of row test ≡ Some None)
 abbrev IsNumbered : List Judging → ℕ × Judging → Type 0
 IsNumbered judgings p = item_of judgings p.0 ≡ Some p.1
 
-each_judging : (judgings : List Judging) (class : Class) → Each (IsNumbered judgings) (judgings_in judgings class)
+-- one that was asked for
+abbrev IsAskedFor : List Judging → ℕ × Judging → Type 0
+IsAskedFor judgings p = IsNumbered judgings p × (p.1.asked ≡ true)
+
+active_asked : (judging : Judging) → is_active judging ≡ true → judging.asked ≡ true
+active_asked judging h = second (not judging.dropped) judging.asked h where
+  second : (a b : Bool) → (a && b) ≡ true → b ≡ true
+  second true b h = h
+  second false b h = cc
+
+each_judging : (judgings : List Judging) (class : Class) → Each (IsAskedFor judgings) (judgings_in judgings class)
 each_judging judgings class =
     let numbered : Each (IsNumbered judgings) (enumerate_from 1 judgings) = each_numbered (λ n g. item_of judgings n ≡ Some g) judgings 1 (λ i g e.
     let place : 1 + i - 1 ≡ i = omega arith in
     item_by judgings (1 + i) g (omega arith) (ap (slice_get judgings) place ∙ e)) in
-    each_kept (IsNumbered judgings) (λ p. same_class p.1.class class) (filter (λ p. not p.1.dropped) (enumerate_from 1 judgings))
-    (each_kept (IsNumbered judgings) (λ p. not p.1.dropped) (enumerate_from 1 judgings) numbered)
+    each_kept (IsAskedFor judgings) (λ p. same_class p.1.class class) (filter (λ p. is_active p.1) (enumerate_from 1 judgings))
+    (each_filter (IsNumbered judgings) (IsAskedFor judgings) (λ p. is_active p.1) (λ p h e. (h, active_asked p.1 e)) (enumerate_from 1 judgings) numbered)
 
-each_open : (rule : RuleValue) (mode : Mode) (judgings : List Judging) (leases : List Lease) (p : ℕ × Judging) → IsNumbered judgings p → Each (IsOpen rule mode judgings) (open_in rule mode leases p)
-each_open rule mode judgings leases p h = each_kept (IsOpen rule mode judgings) (is_free leases) (map (task_of p.0) (wanted_tests rule mode p.1.row))
-    (each_map (IsWanted rule mode p.1.row) (IsOpen rule mode judgings) (task_of p.0) (λ test c. record { judging = p.1; there = h; empty = c.0; wanted = c.1 }) (wanted_tests rule mode p.1.row) (open_cells rule mode p.1.row))
+each_open : (rule : RuleValue) (judgings : List Judging) (leases : List Lease) (p : ℕ × Judging) → IsAskedFor judgings p → Each (IsOpen rule judgings) (open_in rule leases p)
+each_open rule judgings leases p h = each_kept (IsOpen rule judgings) (is_free leases) (map (task_of p.0) (wanted_tests rule p.1.mode p.1.row))
+    (each_map (IsWanted rule p.1.mode p.1.row) (IsOpen rule judgings) (task_of p.0) (λ test c. record { judging = p.1; there = h.0; empty = c.0; asked = h.1; wanted = c.1 }) (wanted_tests rule p.1.mode p.1.row) (open_cells rule p.1.mode p.1.row))
 
-class_open : (rule : RuleValue) (mode : Mode) (judgings : List Judging) (leases : List Lease) (class : Class) → Each (IsOpen rule mode judgings) (open_in_class rule mode judgings leases class)
-class_open rule mode judgings leases class =
-    each_flat_map (IsNumbered judgings) (IsOpen rule mode judgings) (open_in rule mode leases) (each_open rule mode judgings leases) (judgings_in judgings class) (each_judging judgings class)
+class_open : (rule : RuleValue) (judgings : List Judging) (leases : List Lease) (class : Class) → Each (IsOpen rule judgings) (open_in_class rule judgings leases class)
+class_open rule judgings leases class =
+    each_flat_map (IsAskedFor judgings) (IsOpen rule judgings) (open_in rule leases) (each_open rule judgings leases) (judgings_in judgings class) (each_judging judgings class)
 
-all_open : (rule : RuleValue) (mode : Mode) (judgings : List Judging) (leases : List Lease) → Each (IsOpen rule mode judgings) (open_tasks rule mode judgings leases)
-all_open rule mode judgings leases =
-    let high = each_append (IsOpen rule mode judgings) (open_in_class rule mode judgings leases High) (open_in_class rule mode judgings leases Normal)
-    (class_open rule mode judgings leases High) (class_open rule mode judgings leases Normal) in
-    each_append (IsOpen rule mode judgings) (open_in_class rule mode judgings leases High ++ open_in_class rule mode judgings leases Normal) (open_in_class rule mode judgings leases Low)
-    high (class_open rule mode judgings leases Low)
+all_open : (rule : RuleValue) (judgings : List Judging) (leases : List Lease) → Each (IsOpen rule judgings) (open_tasks rule judgings leases)
+all_open rule judgings leases =
+    let high = each_append (IsOpen rule judgings) (open_in_class rule judgings leases High) (open_in_class rule judgings leases Normal)
+    (class_open rule judgings leases High) (class_open rule judgings leases Normal) in
+    each_append (IsOpen rule judgings) (open_in_class rule judgings leases High ++ open_in_class rule judgings leases Normal) (open_in_class rule judgings leases Low)
+    high (class_open rule judgings leases Low)
 
-first_open_is : (s : JudgeState) (task : Task) → first_open s ≡ Some task → IsOpen s.rule s.mode s.judgings task
-first_open_is s task e = each_first (IsOpen s.rule s.mode s.judgings) (open_tasks s.rule s.mode s.judgings s.leases) task (all_open s.rule s.mode s.judgings s.leases) e
+first_open_is : (s : JudgeState) (task : Task) → first_open s ≡ Some task → IsOpen s.rule s.judgings task
+first_open_is s task e = each_first (IsOpen s.rule s.judgings) (open_tasks s.rule s.judgings s.leases) task (all_open s.rule s.judgings s.leases) e
 
 -- Claims
 
@@ -130,7 +141,7 @@ claim_hands s true host true n o task until e = cc
 claim_hands s true host false n None task until e = cc
 claim_hands s true host false n (Some given) task until e = cc
 
-claim_open : (s : State) (e : Event) (task : Task) (until : ℕ) → IsClaimOrResult e → reply_to s e ≡ reply.Handed task until → IsOpen s.judge.rule s.judge.mode s.judge.judgings task
+claim_open : (s : State) (e : Event) (task : Task) (until : ℕ) → IsClaimOrResult e → reply_to s e ≡ reply.Handed task until → IsOpen s.judge.rule s.judge.judgings task
 claim_open s (event.Claim host) task until is e =
     let n = number_or_0 (up_number s.hosts host) in
     first_open_is s.judge task (claim_hands s (is_some (up_number s.hosts host)) host (nat_le 64 (held_count s.judge.leases n)) n (first_open s.judge) task until e)
@@ -141,7 +152,7 @@ claim_open s (event.Entry j t kind) task until is e =
 claim_open s e task until is h = absurd is
 
 -- what is handed out was open
-pub hands_open : (s : State) (e : Event) (task : Task) (until : ℕ) → reply_to s e ≡ reply.Handed task until → IsOpen s.judge.rule s.judge.mode s.judge.judgings task
+pub hands_open : (s : State) (e : Event) (task : Task) (until : ℕ) → reply_to s e ≡ reply.Handed task until → IsOpen s.judge.rule s.judge.judgings task
 hands_open s e task until h = elim (quiet_or_not s e) [ inl is ↦ claim_open s e task until is h | inr none ↦ absurd (never (reply_to s e) task until none h) ]
 
 -- Results that count

@@ -5,12 +5,14 @@ use Rattle.std.specs.List.{fold}
 use Rattle.std.specs.Option.{option_map, option_and_then, unwrap_or}
 use Rattle.std.proofs.lemmas.Option.{slice_get-map}
 use Rattle.farm_kinds.specs.declared.kinds.Kind.{Kind}
+use Rattle.farm_kinds.specs.declared.outcomes.AskEnd.TheVariants as ask
+use Rattle.farm_kinds.specs.declared.outcomes.Mode.{Mode}
 use Rattle.farm_kinds.specs.declared.outcomes.Task.{Task}
 use Rattle.farm_model.specs.Numbered.{item_of, change_item}
 use Rattle.farm_model.specs.Refusing.{refused_or}
 use Rattle.farm_model.specs.Rows.{Row}
-use Rattle.farm_model.specs.Judgings.{Judging, task_of, judging_rows, mark_handed, mark_dropped}
-use Rattle.farm_model.specs.Judge.{JudgeState, claim_refusal, claimed, first_open, judge_claim, renew_refusal, renew_lease, judge_renew, drop_judging}
+use Rattle.farm_model.specs.Judgings.{Judging, task_of, judging_rows, mark_handed, mark_asked, mark_dropped, with_asked}
+use Rattle.farm_model.specs.Judge.{JudgeState, claim_refusal, claimed, first_open, judge_claim, renew_refusal, renew_lease, judge_renew, ask_refusal, judge_ask, drop_judging}
 use Rattle.farm_laws.proofs.Items.{item_at}
 use Rattle.farm_laws.proofs.Cells.{cell_at}
 
@@ -56,16 +58,19 @@ cell_by_rows judgings j t =
 pub cells_same : (new old : List Judging) (j t : ℕ) → judging_rows new ≡ judging_rows old → cell_at new j t ≡ cell_at old j t
 cells_same new old j t same = cell_by_rows new j t ∙ ap (λ (rows : List Row). kind_of_row (item_of rows j) t) same ∙ sym (cell_by_rows old j t)
 
+abbrev pub modes_of : List Judging → List Mode
+modes_of judgings = map (λ judging. judging.mode) judgings
+
 -- Changes of the judge
 
--- the rule, the mode and every row are as they were
+-- the rule, and the mode and the row of every judging, are as they were
 pub record KeepsRows (old new : JudgeState) : Type 0 where
   pub rule : new.rule ≡ old.rule
-  pub mode : new.mode ≡ old.mode
+  pub modes : modes_of new.judgings ≡ modes_of old.judgings
   pub rows : judging_rows new.judgings ≡ judging_rows old.judgings
 
 pub same_rows : (s : JudgeState) → KeepsRows s s
-same_rows s = record { rule = refl; mode = refl; rows = refl }
+same_rows s = record { rule = refl; modes = refl; rows = refl }
 
 -- what is refused changes nothing
 refused_keeps : {R : Type 0} (s : JudgeState) (refusal : Option R) (done : JudgeState × R) → KeepsRows s done.0 → KeepsRows s (refused_or s refusal done).0
@@ -77,7 +82,7 @@ claimed_keeps : (s : JudgeState) (host : ℕ) (task : Option Task) → KeepsRows
 claimed_keeps s host None = same_rows s
 claimed_keeps s host (Some task) = record {
   rule = refl;
-  mode = refl;
+  modes = changed_same (λ (judging : Judging). judging.mode) (mark_handed task.test) (λ judging. refl) s.judgings task.judging (item_of s.judgings task.judging) refl;
   rows = changed_same (λ (judging : Judging). judging.row) (mark_handed task.test) (λ judging. refl) s.judgings task.judging (item_of s.judgings task.judging) refl;
 }
 
@@ -86,10 +91,22 @@ claim_keeps s host = refused_keeps s (claim_refusal s.leases host) (claimed s ho
 
 -- a renewal changes a lease alone
 pub renew_keeps : (s : JudgeState) (host j t : ℕ) → KeepsRows s (judge_renew s host j t).0
-renew_keeps s host j t = refused_keeps s (renew_refusal s host j t) (renew_lease s (task_of j t)) (record { rule = refl; mode = refl; rows = refl })
+renew_keeps s host j t = refused_keeps s (renew_refusal s host j t) (renew_lease s (task_of j t)) (record { rule = refl; modes = refl; rows = refl })
+
+-- a judging that was asked for keeps its mode and its row
+pub ask_keeps : (s : JudgeState) (j : ℕ) → KeepsRows s (judge_ask s j).0
+ask_keeps s j = refused_keeps s (ask_refusal s.judgings j) (record s { judgings = with_asked s.judgings j }, ask.Done) (record {
+  rule = refl;
+  modes = changed_same (λ (judging : Judging). judging.mode) mark_asked (λ judging. refl) s.judgings j (item_of s.judgings j) refl;
+  rows = changed_same (λ (judging : Judging). judging.row) mark_asked (λ judging. refl) s.judgings j (item_of s.judgings j) refl;
+})
 
 drop_keeps : (s : JudgeState) (j : ℕ) → KeepsRows s (drop_judging s j)
-drop_keeps s j = record { rule = refl; mode = refl; rows = changed_same (λ (judging : Judging). judging.row) mark_dropped (λ judging. refl) s.judgings j (item_of s.judgings j) refl }
+drop_keeps s j = record {
+  rule = refl;
+  modes = changed_same (λ (judging : Judging). judging.mode) mark_dropped (λ judging. refl) s.judgings j (item_of s.judgings j) refl;
+  rows = changed_same (λ (judging : Judging). judging.row) mark_dropped (λ judging. refl) s.judgings j (item_of s.judgings j) refl;
+}
 
 -- judgings that are dropped keep their rows
 pub drops_keep : (s : JudgeState) (js : List ℕ) → KeepsRows s (fold drop_judging s js)
@@ -97,4 +114,4 @@ drops_keep s [] = same_rows s
 drops_keep s (j ∷ js) =
     let first = drop_keeps s j in
     let others = drops_keep (drop_judging s j) js in
-    record { rule = others.rule ∙ first.rule; mode = others.mode ∙ first.mode; rows = others.rows ∙ first.rows }
+    record { rule = others.rule ∙ first.rule; modes = others.modes ∙ first.modes; rows = others.rows ∙ first.rows }

@@ -202,6 +202,7 @@ keeps s (event.Matrix r) = same s (event.Matrix r) refl refl
 keeps s (event.Apply who r) = kept s (event.Apply who r) (stay_applied s.submissions (members_in s.rejudgings r)) (closed_members s.rejudgings r how.Applied)
 keeps s (event.Cancel who r) = kept s (event.Cancel who r) (λ n is. is) (closed_members s.rejudgings r how.Cancelled)
 keeps s (event.Verify who j) = same s (event.Verify who j) refl refl
+keeps s (event.Ask who j) = same s (event.Ask who j) refl refl
 keeps s event.Audit = same s event.Audit refl refl
 
 run_keeps : (s : State) (es : List Event) → AllMembers s → AllMembers (state_after s es)

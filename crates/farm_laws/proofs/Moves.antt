@@ -61,4 +61,5 @@ only_apply s (event.Matrix r) none = kept s (event.Matrix r) refl
 only_apply s (event.Apply who r) none = not_applied s who r none
 only_apply s (event.Cancel who r) none = kept s (event.Cancel who r) refl
 only_apply s (event.Verify who j) none = kept s (event.Verify who j) refl
+only_apply s (event.Ask who j) none = kept s (event.Ask who j) refl
 only_apply s event.Audit none = kept s event.Audit refl

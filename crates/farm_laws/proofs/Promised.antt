@@ -1,5 +1,5 @@
 -- What is written for a script keeps the promise.
-use Rattle.std.proofs.Common.{ℕ, zero, suc, ◌≡◌, ◌+◌, ◌-◌, ◌<◌, ◌≤◌, ◌↔◌, List, [], ◌∷◌, ◌++◌, Some, Bool, true, false, cond, eqb, ◌&&◌, refl, sym, ap, ◌∙◌, subst, arith, inl, inr, ◌⊎◌, length, take, drop}
+use Rattle.std.proofs.Common.{ℕ, zero, suc, ◌≡◌, ◌+◌, ◌-◌, ◌<◌, ◌≤◌, ◌↔◌, List, [], ◌∷◌, ◌++◌, Option, Some, None, Bool, true, false, cond, eqb, ◌&&◌, refl, sym, ap, ◌∙◌, subst, arith, inl, inr, ◌⊎◌, length, take, drop}
 use Rattle.std.specs.Option.{is_some}
 use Rattle.std.specs.List.{filter_map, cons_option}
 use Rattle.std.proofs.Math.Seq.{drop-append_seam}
@@ -18,11 +18,13 @@ use Rattle.farm_model.specs.Numbered.{item_of}
 use Rattle.farm_model.specs.Leases.{same_task}
 use Rattle.farm_model.specs.Refusing.{refused_or, unless}
 use Rattle.farm_model.specs.State.{State, SettingsValue, start, answer_at}
+use Rattle.farm_model.specs.Refusals.{refusal_of}
+use Rattle.farm_model.specs.Changes.{accepted}
 use Rattle.farm_model.specs.Farm.{farm_step}
 use Rattle.farm_model.specs.Texts.{reply_text}
 use Rattle.farm_model.specs.Script.{output_from, script_output}
 use Rattle.farm_model.specs.Replay.{state_after, reply_to, answered, given_by, if_counted, counted_by, counted_in, times_counted}
-use Rattle.farm_laws.specs.Laws.{reached, ReplyKeepsPromise}
+use Rattle.farm_laws.specs.Laws.{reached, Reports, ReplyKeepsPromise}
 use Rattle.farm_laws.specs.Output.{events_in, events_before, IsReadAs, first_line, written_at, IsTold, IsWritten, FinalStaysWritten, IsResultOf, CountedOnceWritten, PrefixKeepsPromise, WholeIsWritten}
 use Rattle.farm_laws.proofs.Items.{there}
 use Rattle.farm_laws.proofs.FirstLines.{first_line_front, written_behind}
@@ -35,8 +37,8 @@ use Rattle.farm_laws.proofs.Reporting.{step_keeps_promise}
 -- Replies that are told otherwise
 
 -- What is told of a reply tells it, as far as the promise speaks of it.
-pub record Tells (e : Event) (r : Reply) (told : Reply → Type 0) : Type 0 where
-  pub shown : (j : ℕ) (answer : Answer) → e ≡ event.Show j → told (reply.Shown answer) → r ≡ reply.Shown answer
+pub record Tells (s : State) (e : Event) (r : Reply) (told : Reply → Type 0) : Type 0 where
+  pub shown : (j : ℕ) (answer : Answer) → Reports s e j → told (reply.Shown answer) → r ≡ reply.Shown answer
   pub handed : (task : Task) (until : ℕ) → told (reply.Handed task until) → HandsSome r
   pub counted : told reply.Counted → r ≡ reply.Counted
   pub applied : (members : ℕ) → told (reply.Applied members) → AppliesSome r
@@ -47,7 +49,7 @@ pub record Tells (e : Event) (r : Reply) (told : Reply → Type 0) : Type 0 wher
   pub applies : (members : ℕ) → r ≡ reply.Applied members → told (reply.Applied members)
 
 pub told_keeps : (settings : SettingsValue) (es : List Event) (e : Event) (new : State) (r : Reply) (told : Reply → Type 0)
-    → Tells e r told → ReplyKeepsPromise settings es e new (λ x. r ≡ x) → ReplyKeepsPromise settings es e new told
+    → Tells (reached settings es) e r told → ReplyKeepsPromise settings es e new (λ x. r ≡ x) → ReplyKeepsPromise settings es e new told
 told_keeps settings es e new r told t kept = record {
   final_is_exact = λ j v at is. let exact = kept.final_is_exact j v at is in (λ h. exact.0 (t.shown j (Final v) at h), λ h. t.shows (Final v) (exact.1 h));
   pending_is_exact = λ j at is. let exact = kept.pending_is_exact j at is in (λ h. exact.0 (t.shown j _ at h), λ h. t.shows _ (exact.1 h));
@@ -56,7 +58,7 @@ told_keeps settings es e new r told t kept = record {
   hands_out_wanted = λ task until h.
       let some = t.handed task until h in
       let out = kept.hands_out_wanted some.0 some.1 some.2 in
-      record { task = out.task; until = out.until; handed = t.hands out.task out.until out.handed; wanted = out.wanted };
+      record { task = out.task; until = out.until; handed = t.hands out.task out.until out.handed; asked = out.asked; wanted = out.wanted };
   only_counted_fills = λ other. kept.only_counted_fills (λ h. other (t.counts h));
   counted_fills = λ h. kept.counted_fills (t.counted h);
   applies_to_all = λ who n members at h. let some = t.applied members h in kept.applies_to_all who n some.0 at some.1;
@@ -96,12 +98,24 @@ told_shown s j answer h = elim (shown_or_none s j (is_some (item_of s.judge.judg
   | inr is ↦ absurd (none_told j answer (subst (λ (r : Reply). HasLine r (reply.Shown answer)) is h))
 ]
 
+-- the line of a reply to an accepted `ask` is that of its answer
+told_asked : (s : State) (who : List ℕ) (j : ℕ) (answer : Answer) → refusal_of s (event.Ask who j) ≡ None → HasLine (reply_to s (event.Ask who j)) (reply.Shown answer) → reply_to s (event.Ask who j) ≡ reply.Shown answer
+told_asked s who j answer none h =
+    let is : reply_to s (event.Ask who j) ≡ reply.Shown (answer_at s j) = ap (λ (r : Option Reply). (refused_or s r (accepted s (event.Ask who j))).1) none in
+    is ∙ ap reply.Shown (shown_told (answer_at s j) answer (subst (λ (r : Reply). HasLine r (reply.Shown answer)) is h))
+
+told_reports : (s : State) (e : Event) (j : ℕ) (answer : Answer) → Reports s e j → HasLine (reply_to s e) (reply.Shown answer) → reply_to s e ≡ reply.Shown answer
+told_reports s e j answer (inl at) h =
+    let same = ap (reply_to s) at in
+    same ∙ told_shown s j answer (subst (λ (r : Reply). HasLine r (reply.Shown answer)) same h)
+told_reports s e j answer (inr asked) h =
+    let same = ap (reply_to s) asked.1 in
+    same ∙ told_asked s asked.0 j answer asked.2 (subst (λ (r : Reply). HasLine r (reply.Shown answer)) same h)
+
 -- a reply's text tells it
-text_tells : (s : State) (e : Event) (told : Reply → Type 0) → ((x : Reply) → told x ↔ HasLine (reply_to s e) x) → Tells e (reply_to s e) told
+text_tells : (s : State) (e : Event) (told : Reply → Type 0) → ((x : Reply) → told x ↔ HasLine (reply_to s e) x) → Tells s e (reply_to s e) told
 text_tells s e told line = record {
-  shown = λ j answer at h.
-      let same = ap (reply_to s) at in
-      same ∙ told_shown s j answer (subst (λ (r : Reply). HasLine r (reply.Shown answer)) same ((line (reply.Shown answer)).0 h));
+  shown = λ j answer at h. told_reports s e j answer at ((line (reply.Shown answer)).0 h);
   handed = λ task until h. handed_told (reply_to s e) task until ((line (reply.Handed task until)).0 h);
   counted = λ h. counted_told (reply_to s e) ((line reply.Counted).0 h);
   applied = λ members h. applied_told (reply_to s e) members ((line (reply.Applied members)).0 h);
@@ -113,7 +127,7 @@ text_tells s e told line = record {
 
 -- what is told at the place of a line is the reply to it
 pub line_tells : (settings : SettingsValue) (bytes text more : List ℕ) (n : ℕ) (e : Event) → text ++ more ≡ script_output settings bytes
-    → IsReadAs bytes n e → IsWritten settings bytes text n → Tells e (reply_to (reached settings (events_before bytes n)) e) (IsTold settings bytes text n)
+    → IsReadAs bytes n e → IsWritten settings bytes text n → Tells (reached settings (events_before bytes n)) e (reply_to (reached settings (events_before bytes n)) e) (IsTold settings bytes text n)
 line_tells settings bytes text more n e front is written =
     let same = written_reply settings bytes text more n e front is written in
     text_tells (reached settings (events_before bytes n)) e (IsTold settings bytes text n) (λ x. (λ h. sym same ∙ h, λ h. same ∙ h))
@@ -142,7 +156,7 @@ final_stays_written : (settings : SettingsValue) (bytes text more : List ℕ) �
 final_stays_written settings bytes text more front n m j v lt is is' written told =
     let later = events_later bytes n m (omega (arith, lt)) in
     let tells = line_tells settings bytes text more n (event.Show j) front is (told_written settings bytes text n (reply.Shown (Final v)) told) in
-    (line_keeps settings bytes text more front m (event.Show j) is' written).final_stays (events_before bytes n) later.0 j v refl later.1 (tells.shown j (Final v) refl told)
+    (line_keeps settings bytes text more front m (event.Show j) is' written).final_stays (events_before bytes n) later.0 j v (inl refl) later.1 (tells.shown j (Final v) (inl refl) told)
 
 answered-append : (s : State) (es later : List Event) → answered s (es ++ later) ≡ answered s es ++ answered (state_after s es) later
 answered-append s [] later = refl

@@ -2,6 +2,8 @@
 use Rattle.std.proofs.Common.{ℕ, ◌≡◌, ◌+◌, List, [], ◌∷◌, Option, Some, None, Bool, true, false, refl, length, inl, inr, ◌⊎◌, ◌&&◌}
 use Rattle.std.specs.Prelude.{is_none, not, nat_le, nat_lt, map, find, ◌==◌}
 use Rattle.std.specs.Option.{option_map, is_some}
+use Rattle.farm_kinds.specs.declared.outcomes.AskEnd.{AskEnd}
+use Rattle.farm_kinds.specs.declared.outcomes.AskEnd.TheVariants as ask
 use Rattle.farm_kinds.specs.declared.outcomes.Renewed.{Renewed}
 use Rattle.farm_kinds.specs.declared.outcomes.Renewed.TheVariants as lease
 use Rattle.farm_kinds.specs.declared.events.Event.{Event}
@@ -14,10 +16,10 @@ use Rattle.farm_model.specs.declared.records.Rejudging.{Rejudging}
 use Rattle.farm_model.specs.Numbered.{item_of, number_or_0}
 use Rattle.farm_model.specs.Refusing.{when, unless, first_of, refused_or}
 use Rattle.farm_model.specs.Judgings.{is_judging, is_dropped}
-use Rattle.farm_model.specs.Judge.{renew_refusal, judge_renew}
+use Rattle.farm_model.specs.Judge.{renew_refusal, judge_renew, ask_refusal}
 use Rattle.farm_model.specs.State.{State, problem_number, host_number, up_number, answer_at, is_final, is_verified}
 use Rattle.farm_model.specs.Rejudgings.{first_twice, is_busy, busy_with, closed_how, members_in, new_judgings}
-use Rattle.farm_model.specs.Refusals.{is_full, is_test_count, is_problem, problem_refusal, version_of, replace_refusal, host_refusal, submit_refusal, no_host, renewed_reply, refuse_first, is_submission, has_final, rejudge_refusal, no_rejudging, close_refusal, apply_refusal, verify_refusal, refusal_of}
+use Rattle.farm_model.specs.Refusals.{is_full, is_test_count, is_problem, problem_refusal, version_of, replace_refusal, host_refusal, submit_refusal, no_host, renewed_reply, refuse_first, is_submission, has_final, rejudge_refusal, no_rejudging, close_refusal, apply_refusal, verify_refusal, ask_reply, refusal_of}
 use Rattle.farm_model.specs.Changes.{accepted}
 use Rattle.farm_model.specs.Replay.{reply_to}
 
@@ -140,6 +142,12 @@ verify_quiet s j =
     three_quiet (when (is_dropped s.judge.judgings j) reply.Dropped) (unless final (reply.NotFinal j)) (when known (reply.Already j))
     (when_quiet (is_dropped s.judge.judgings j) reply.Dropped refl) (unless_quiet final (reply.NotFinal j) refl) (when_quiet known (reply.Already j) refl))
 
+ask_quiet : (s : State) (j : ℕ) → (e : AskEnd) → hands_or_counts (ask_reply s j e) ≡ false
+ask_quiet s j ask.NoJudging = refl
+ask_quiet s j ask.Dropped = refl
+ask_quiet s j ask.Already = refl
+ask_quiet s j ask.Done = refl
+
 refused_quiet : (s : State) (refusal : Option Reply) (done : State × Reply) → Quiet refusal → hands_or_counts done.1 ≡ false → hands_or_counts (refused_or s refusal done).1 ≡ false
 refused_quiet s None done h k = k
 refused_quiet s (Some r) done h k = h
@@ -187,4 +195,5 @@ quiet_or_not s (event.Matrix r) = inr (quiet s (event.Matrix r) (no_rejudging_qu
 quiet_or_not s (event.Apply who r) = inr (quiet s (event.Apply who r) (apply_quiet s r) refl)
 quiet_or_not s (event.Cancel who r) = inr (quiet s (event.Cancel who r) (close_quiet s.rejudgings r) refl)
 quiet_or_not s (event.Verify who j) = inr (quiet s (event.Verify who j) (verify_quiet s j) refl)
+quiet_or_not s (event.Ask who j) = inr (quiet s (event.Ask who j) (map_quiet (ask_reply s j) (ask_quiet s j) (ask_refusal s.judge.judgings j)) refl)
 quiet_or_not s event.Audit = inr refl

@@ -1,5 +1,5 @@
 -- What is reported after a run of events.
-use Rattle.std.proofs.Common.{ℕ, zero, suc, ◌≡◌, ◌≢◌, ◌+◌, List, [], ◌∷◌, ◌++◌, Option, Some, None, true, false, cond, refl, sym, ap, ◌∙◌, subst, arith, length, map}
+use Rattle.std.proofs.Common.{ℕ, zero, suc, ◌≡◌, ◌≢◌, ◌+◌, List, [], ◌∷◌, ◌++◌, Option, Some, None, Bool, true, false, inl, inr, cond, refl, sym, ap, ◌∙◌, subst, arith, length, map}
 use Rattle.std.specs.Prelude.{IsSome, All, IsSomeAnd}
 use Rattle.std.specs.Option.{option_map, option_or, unwrap_or, is_some}
 use Rattle.farm_kinds.specs.declared.kinds.Kind.{Kind}
@@ -7,7 +7,10 @@ use Rattle.farm_kinds.specs.declared.outcomes.Task.{Task}
 use Rattle.farm_kinds.specs.declared.outcomes.Verdict.{Verdict}
 use Rattle.farm_kinds.specs.declared.outcomes.Answer.{Answer}
 use Rattle.farm_kinds.specs.declared.outcomes.Answer.TheVariants.{Final, Pending}
+use Rattle.farm_kinds.specs.declared.outcomes.AskEnd.{AskEnd}
+use Rattle.farm_kinds.specs.declared.outcomes.AskEnd.TheVariants as ask
 use Rattle.farm_kinds.specs.declared.outcomes.Mode.{Mode}
+use Rattle.farm_kinds.specs.declared.outcomes.Mode.TheVariants.{Lazy}
 use Rattle.farm_kinds.specs.declared.events.Event.{Event}
 use Rattle.farm_kinds.specs.declared.events.Event.TheVariants as event
 use Rattle.farm_kinds.specs.declared.events.Reply.{Reply}
@@ -15,15 +18,17 @@ use Rattle.farm_kinds.specs.declared.events.Reply.TheVariants as reply
 use Rattle.farm_kinds.specs.RuleValue.{RuleValue}
 use Rattle.farm_kinds.specs.Rules.{remap_of, possible_kinds}
 use Rattle.farm_model.specs.Numbered.{item_of, numbers_to}
-use Rattle.farm_model.specs.Refusing.{refused_or, unless}
+use Rattle.farm_model.specs.Refusing.{refused_or, when, unless, first_of}
 use Rattle.farm_model.specs.Leases.{same_task}
 use Rattle.farm_model.specs.Rows.{Row, answer_of, kinds_of}
 use Rattle.farm_model.specs.Open.{is_wanted}
-use Rattle.farm_model.specs.Judgings.{Judging, task_of}
-use Rattle.farm_model.specs.State.{State, SettingsValue, start}
+use Rattle.farm_model.specs.Judgings.{Judging, task_of, is_dropped, is_asked}
+use Rattle.farm_model.specs.State.{State, SettingsValue, start, answer_at}
+use Rattle.farm_model.specs.Refusals.{ask_reply, refusal_of}
+use Rattle.farm_model.specs.Changes.{accepted}
 use Rattle.farm_model.specs.Farm.{farm_step, Stepped}
 use Rattle.farm_model.specs.Replay.{state_after, reply_to, counted_in, kind_for, cell_for, given_by, Truth, AgreesWith, IsHonest, KnowsAll, true_kinds}
-use Rattle.farm_laws.specs.Laws.{reached, row_in, IsJudging, replayed_row, Shows, FinalIsExact, IsWantedCell, PendingIsExact, HandsOutWanted, FinalStays, CountedOnce, EqualsOneThread, OnlyCountedFills, EachStepKeepsPromise, StepKeepsPromise, RowIsReplayed, KeepsPromise}
+use Rattle.farm_laws.specs.Laws.{reached, row_in, mode_in, IsJudging, replayed_row, Shows, Reports, FinalIsExact, IsWantedCell, PendingIsExact, HandsOutWanted, FinalStays, CountedOnce, EqualsOneThread, OnlyCountedFills, EachStepKeepsPromise, StepKeepsPromise, RowIsReplayed, KeepsPromise}
 use Rattle.lazy_stop.specs.Matters.{Extends}
 use Rattle.farm_laws.proofs.Items.{there}
 use Rattle.farm_laws.proofs.Cells.{cell_at, or_none}
@@ -35,7 +40,7 @@ use Rattle.farm_laws.proofs.Handing.{hands_open}
 use Rattle.farm_laws.proofs.Moves.{only_apply}
 use Rattle.farm_laws.proofs.Cancels.{cancel_changes_none}
 use Rattle.farm_laws.proofs.Applying.{applies_to_all}
-use Rattle.farm_laws.proofs.RowCells.{Told, reached_cell, row_cells, row_length, row_same}
+use Rattle.farm_laws.proofs.RowCells.{Told, reached_cell, row_cells, row_length, row_same, mode_same}
 use Rattle.farm_laws.proofs.Counting.{counted_fills}
 use Rattle.farm_laws.proofs.Outputs.{state_after-append}
 
@@ -52,23 +57,22 @@ row_is_replayed settings es j is = replayed settings es j
 
 -- What is shown
 
-shown_by : (s : State) (j : ℕ) (g : Judging) → item_of s.judge.judgings j ≡ Some g → reply_to s (event.Show j) ≡ reply.Shown (answer_of s.judge.rule s.judge.mode (row_in s j))
+shown_by : (s : State) (j : ℕ) (g : Judging) → item_of s.judge.judgings j ≡ Some g → reply_to s (event.Show j) ≡ reply.Shown (answer_of s.judge.rule (mode_in s j) (row_in s j))
 shown_by s j g h =
-    ap (λ (o : Option Judging). (refused_or s (unless (is_some o) (reply.NoJudging j)) (s, reply.Shown (unwrap_or (option_map (λ judging. answer_of s.judge.rule s.judge.mode judging.row) o) Pending))).1) h
-    ∙ sym (ap (λ (o : Option Judging). reply.Shown (answer_of s.judge.rule s.judge.mode (unwrap_or (option_map (λ judging. judging.row) o) []))) h)
+    ap (λ (o : Option Judging). (refused_or s (unless (is_some o) (reply.NoJudging j)) (s, reply.Shown (unwrap_or (option_map (λ judging. answer_of s.judge.rule judging.mode judging.row) o) Pending))).1) h
+    ∙ sym (ap (λ (o : Option Judging). reply.Shown (answer_of s.judge.rule (unwrap_or (option_map (λ judging. judging.mode) o) Lazy) (unwrap_or (option_map (λ judging. judging.row) o) []))) h)
 
 pub shows_answer : (settings : SettingsValue) (es : List Event) (j : ℕ) → IsJudging (reached settings es) j
-    → reply_to (reached settings es) (event.Show j) ≡ reply.Shown (answer_of settings.rule settings.mode (row_in (reached settings es) j))
+    → reply_to (reached settings es) (event.Show j) ≡ reply.Shown (answer_of settings.rule (mode_in (reached settings es) j) (row_in (reached settings es) j))
 shows_answer settings es j is =
     let g = there (item_of (reached settings es).judge.judgings j) is in
     let r = runs (start settings) es in
     shown_by (reached settings es) j g.0 g.1
-    ∙ ap (λ rule. reply.Shown (answer_of rule (reached settings es).judge.mode (row_in (reached settings es) j))) r.rule
-    ∙ ap (λ mode. reply.Shown (answer_of settings.rule mode (row_in (reached settings es) j))) r.mode
+    ∙ ap (λ rule. reply.Shown (answer_of rule (mode_in (reached settings es) j) (row_in (reached settings es) j))) r.rule
 
 -- only a judging that is there is shown
 shown_there : (s : State) (j : ℕ) (a : Answer) (o : Option Judging)
-    → (refused_or s (unless (is_some o) (reply.NoJudging j)) (s, reply.Shown (unwrap_or (option_map (λ judging. answer_of s.judge.rule s.judge.mode judging.row) o) Pending))).1 ≡ reply.Shown a → IsSome o
+    → (refused_or s (unless (is_some o) (reply.NoJudging j)) (s, reply.Shown (unwrap_or (option_map (λ judging. answer_of s.judge.rule judging.mode judging.row) o) Pending))).1 ≡ reply.Shown a → IsSome o
 shown_there s j a None h = cc
 shown_there s j a (Some g) h = refl
 
@@ -78,29 +82,47 @@ shows_judging settings es j a h = shown_there (reached settings es) j a (item_of
 same_shown : (a b : Answer) → reply.Shown a ≡ reply.Shown b → a ≡ b
 same_shown a b h = cc
 
-pub shows_same : (settings : SettingsValue) (es : List Event) (j : ℕ) (a : Answer) → Shows settings es j a → answer_of settings.rule settings.mode (row_in (reached settings es) j) ≡ a
+pub shows_same : (settings : SettingsValue) (es : List Event) (j : ℕ) (a : Answer) → Shows settings es j a → answer_of settings.rule (mode_in (reached settings es) j) (row_in (reached settings es) j) ≡ a
 shows_same settings es j a h = same_shown _ a (sym (shows_answer settings es j (shows_judging settings es j a h)) ∙ h)
 
-pub same_shows : (settings : SettingsValue) (es : List Event) (j : ℕ) (a : Answer) → IsJudging (reached settings es) j → answer_of settings.rule settings.mode (row_in (reached settings es) j) ≡ a → Shows settings es j a
+pub same_shows : (settings : SettingsValue) (es : List Event) (j : ℕ) (a : Answer) → IsJudging (reached settings es) j → answer_of settings.rule (mode_in (reached settings es) j) (row_in (reached settings es) j) ≡ a → Shows settings es j a
 same_shows settings es j a is h = shows_answer settings es j is ∙ ap reply.Shown h
 
-replayed_answer : (settings : SettingsValue) (es : List Event) (j : ℕ) → answer_of settings.rule settings.mode (row_in (reached settings es) j) ≡ answer_of settings.rule settings.mode (replayed_row settings es j)
-replayed_answer settings es j = ap (answer_of settings.rule settings.mode) (replayed settings es j)
+replayed_answer : (settings : SettingsValue) (es : List Event) (j : ℕ) → answer_of settings.rule (mode_in (reached settings es) j) (row_in (reached settings es) j) ≡ answer_of settings.rule (mode_in (reached settings es) j) (replayed_row settings es j)
+replayed_answer settings es j = ap (answer_of settings.rule (mode_in (reached settings es) j)) (replayed settings es j)
 
--- the reply to an event that is a `show`
-shown : (settings : SettingsValue) (es : List Event) (e : Event) (j : ℕ) → e ≡ event.Show j → reply_to (reached settings es) e ≡ reply_to (reached settings es) (event.Show j)
-shown settings es e j at = ap (reply_to (reached settings es)) at
+-- an accepted `ask` is answered as a `show`
+asked_shown : (s : State) (who : List ℕ) (j : ℕ) → refusal_of s (event.Ask who j) ≡ None → IsJudging s j → reply_to s (event.Ask who j) ≡ reply_to s (event.Show j)
+asked_shown s who j none is =
+    ap (λ (r : Option Reply). (refused_or s r (accepted s (event.Ask who j))).1) none
+    ∙ sym (ap (λ b. (refused_or s (unless b (reply.NoJudging j)) (s, reply.Shown (answer_at s j))).1) is)
+
+-- the reply to an event that asks what is reported
+shown : (s : State) (e : Event) (j : ℕ) → Reports s e j → IsJudging s j → reply_to s e ≡ reply_to s (event.Show j)
+shown s e j (inl at) is = ap (reply_to s) at
+shown s e j (inr a) is = ap (reply_to s) a.1 ∙ asked_shown s a.0 j a.2 is
+
+ask_there : (s : State) (j : ℕ) (b : Bool) (others : List (Option AskEnd)) → option_map (ask_reply s j) (first_of (unless b ask.NoJudging ∷ others)) ≡ None → b ≡ true
+ask_there s j true others h = refl
+ask_there s j false others h = cc
+
+-- and is of a judging that is there, where it is answered with what is reported
+reports_there : (settings : SettingsValue) (es : List Event) (e : Event) (j : ℕ) (a : Answer) → Reports (reached settings es) e j → reply_to (reached settings es) e ≡ reply.Shown a → IsJudging (reached settings es) j
+reports_there settings es e j a (inl at) h = shows_judging settings es j a (sym (ap (reply_to (reached settings es)) at) ∙ h)
+reports_there settings es e j a (inr asked) h =
+    let s = reached settings es in
+    ask_there s j (is_some (item_of s.judge.judgings j)) (when (is_dropped s.judge.judgings j) ask.Dropped ∷ when (is_asked s.judge.judgings j) ask.Already ∷ []) asked.2
 
 pub final_is_exact : (settings : SettingsValue) (es : List Event) (e : Event) → FinalIsExact settings es e (Told settings es e)
-final_is_exact settings es e j v at is = let same = shown settings es e j at in (
+final_is_exact settings es e j v at is = let same = shown (reached settings es) e j at is in (
   λ h. sym (replayed_answer settings es j) ∙ shows_same settings es j (Final v) (sym same ∙ h),
   λ h. same ∙ same_shows settings es j (Final v) is (replayed_answer settings es j ∙ h),
 )
 
 pub pending_is_exact : (settings : SettingsValue) (es : List Event) (e : Event) → PendingIsExact settings es e (Told settings es e)
 pending_is_exact settings es e j at is =
-    let same = shown settings es e j at in
-    let wanted = pending_wanted settings.rule settings.mode (replayed_row settings es j) in (
+    let same = shown (reached settings es) e j at is in
+    let wanted = pending_wanted settings.rule (mode_in (reached settings es) j) (replayed_row settings es j) in (
       λ h. wanted.0 (sym (replayed_answer settings es j) ∙ shows_same settings es j Pending (sym same ∙ h)),
       λ w. same ∙ same_shows settings es j Pending is (replayed_answer settings es j ∙ wanted.1 w),
     )
@@ -135,15 +157,18 @@ final_after settings es later j v h =
     let is = shows_judging settings es j (Final v) h in
     let r = runs s later in
     let extends = subst (λ (rule : RuleValue). Extends (possible_kinds rule) (row_in s j) (row_in (state_after s later) j)) (runs (start settings) es).rule (row_extends s later j is) in
-    let kept = answer_stays settings.rule settings.mode (row_in s j) (row_in (state_after s later) j) v extends (shows_same settings es j (Final v) h) in
+    let kept = answer_stays settings.rule (mode_in s j) (row_in s j) (row_in (state_after s later) j) v extends (shows_same settings es j (Final v) h) in
     let both = state_after-append (start settings) es later in
     same_shows settings (es ++ later) j (Final v)
     (subst (λ (t : State). IsJudging t j) (sym both) (row_length s (state_after s later) r.more j is r.lengths).0)
-    (ap (λ (t : State). answer_of settings.rule settings.mode (row_in t j)) both ∙ kept)
+    (ap (λ (t : State). answer_of settings.rule (mode_in t j) (row_in t j)) both
+    ∙ ap (λ (mode : Mode). answer_of settings.rule mode (row_in (state_after s later) j)) (mode_same s (state_after s later) r.more_modes j is r.modes)
+    ∙ kept)
 
 pub final_stays : (settings : SettingsValue) (es : List Event) (e : Event) → FinalStays settings es e (Told settings es e)
 final_stays settings es e before later j v at split h =
-    shown settings es e j at ∙ ap (λ events. reply_to (reached settings events) (event.Show j)) split ∙ final_after settings before later j v h
+    let kept : Shows settings es j (Final v) = ap (λ events. reply_to (reached settings events) (event.Show j)) split ∙ final_after settings before later j v h in
+    shown (reached settings es) e j at (shows_judging settings es j (Final v) kept) ∙ kept
 
 -- One thread
 
@@ -213,7 +238,7 @@ equals_one_thread settings es e truth j v at honest knows h =
     let row = row_in (reached settings es) j in
     let n = length row in
     let kinds = truth_kinds settings truth j n knows in
-    let answer = answer_in_full settings.rule settings.mode row (truth_row settings truth j n) v (true_kinds settings.rule truth j n) (truth_extends settings es truth j honest) (shows_same settings es j (Final v) (sym (shown settings es e j at) ∙ h)) kinds in
+    let answer = answer_in_full settings.rule (mode_in (reached settings es) j) row (truth_row settings truth j n) v (true_kinds settings.rule truth j n) (truth_extends settings es truth j honest) (shows_same settings es j (Final v) (sym (shown (reached settings es) e j at (reports_there settings es e j (Final v) at h)) ∙ h)) kinds in
     final_verdict settings.rule (truth_row settings truth j n) (true_kinds settings.rule truth j n) v kinds answer
 
 -- Tasks that are handed out
@@ -224,10 +249,18 @@ hands_out_wanted settings es e task until h =
     let r = runs (start settings) es in
     let given = hands_open s e task until h in
     let row : row_in s task.judging ≡ given.judging.row = ap (λ (o : Option Judging). unwrap_or (option_map (λ judging. judging.row) o) []) given.there in
-    let wanted : is_wanted settings.rule settings.mode given.judging.row task.test ≡ true =
-    ap (λ (rule : RuleValue). is_wanted rule settings.mode given.judging.row task.test) (sym r.rule)
-    ∙ ap (λ (mode : Mode). is_wanted s.judge.rule mode given.judging.row task.test) (sym r.mode) ∙ given.wanted in
-    record { task = task; until = until; handed = h; wanted = subst (λ (cells : Row). IsWantedCell settings cells task.test) (sym row) (given.empty, wanted) }
+    let mode : mode_in s task.judging ≡ given.judging.mode = ap (λ (o : Option Judging). unwrap_or (option_map (λ judging. judging.mode) o) Lazy) given.there in
+    let asked : is_asked s.judge.judgings task.judging ≡ true = ap (λ (o : Option Judging). unwrap_or (option_map (λ judging. judging.asked) o) false) given.there ∙ given.asked in
+    let wanted : is_wanted settings.rule given.judging.mode given.judging.row task.test ≡ true =
+    ap (λ (rule : RuleValue). is_wanted rule given.judging.mode given.judging.row task.test) (sym r.rule) ∙ given.wanted in
+    record {
+      task = task;
+      until = until;
+      handed = h;
+      asked = asked;
+      wanted = subst (λ (m : Mode). IsWantedCell settings m (row_in s task.judging) task.test) (sym mode)
+          (subst (λ (cells : Row). IsWantedCell settings given.judging.mode cells task.test) (sym row) (given.empty, wanted));
+    }
 
 -- The laws
 

@@ -4,6 +4,8 @@ use Rattle.std.specs.Prelude.{nat_lt}
 use Rattle.std.specs.Option.{option_map, option_or, unwrap_or, is_some}
 use Rattle.std.proofs.lemmas.Option.{slice_get-map}
 use Rattle.farm_kinds.specs.declared.kinds.Kind.{Kind}
+use Rattle.farm_kinds.specs.declared.outcomes.Mode.{Mode}
+use Rattle.farm_kinds.specs.declared.outcomes.Mode.TheVariants.{Lazy}
 use Rattle.farm_model.specs.Numbered.{item_of, numbers_to}
 use Rattle.farm_model.specs.Rows.{Row}
 use Rattle.farm_kinds.specs.declared.events.Event.{Event}
@@ -11,10 +13,10 @@ use Rattle.farm_kinds.specs.declared.events.Reply.{Reply}
 use Rattle.farm_model.specs.Judgings.{Judging, task_of}
 use Rattle.farm_model.specs.State.{State, SettingsValue, start}
 use Rattle.farm_model.specs.Replay.{reply_to, cell_for, counted_in}
-use Rattle.farm_laws.specs.Laws.{reached, row_in, IsJudging}
-use Rattle.farm_laws.proofs.Items.{item_at, item_by, item_append, numbered_from, there}
+use Rattle.farm_laws.specs.Laws.{reached, row_in, mode_in, IsJudging}
+use Rattle.farm_laws.proofs.Items.{item_at, item_by, item_append, item_seen, numbered_from, there}
 use Rattle.farm_laws.proofs.Cells.{cell_at, kind_in}
-use Rattle.farm_laws.proofs.Kept.{lengths_of}
+use Rattle.farm_laws.proofs.Kept.{lengths_of, modes_of}
 use Rattle.farm_laws.proofs.Runs.{runs}
 use Rattle.farm_laws.proofs.Rows.{map_range}
 
@@ -70,6 +72,17 @@ row_length s t more j is same =
     let f = at_length t.judge.judgings j (length g.0.row) long in
     let new : length (row_in t j) ≡ length f.0.row = ap (λ (o : Option Judging). length (unwrap_or (option_map (λ judging. judging.row) o) [])) f.1 in
     (ap is_some f.1, new ∙ f.2 ∙ sym old)
+
+-- so does its mode
+pub mode_same : (s t : State) (more : List Mode) (j : ℕ) → IsJudging s j → modes_of t.judge.judgings ≡ modes_of s.judge.judgings ++ more → mode_in t j ≡ mode_in s j
+mode_same s t more j is same =
+    let g = there (item_of s.judge.judgings j) is in
+    let seen = item_seen (λ (judging : Judging). judging.mode) s.judge.judgings j in
+    let old : item_of (modes_of s.judge.judgings) j ≡ Some g.0.mode = seen ∙ ap (option_map (λ (judging : Judging). judging.mode)) g.1 in
+    let new : item_of (modes_of t.judge.judgings) j ≡ Some g.0.mode =
+    ap (λ ms. item_of ms j) same ∙ item_append (modes_of s.judge.judgings) more j g.0.mode old in
+    ap (λ (o : Option Mode). unwrap_or o Lazy)
+    (sym (item_seen (λ (judging : Judging). judging.mode) t.judge.judgings j) ∙ new ∙ sym old ∙ seen)
 
 -- where each cell holds what it held, the row is as it was
 pub row_same : (s t : State) (more : List ℕ) (j : ℕ) → IsJudging s j → lengths_of t.judge.judgings ≡ lengths_of s.judge.judgings ++ more

@@ -6,6 +6,7 @@ use Rattle.std.proofs.lemmas.List.{append-nil}
 use Rattle.std.proofs.lemmas.List.Sums.{sum_by-cons}
 use Rattle.std.proofs.lemmas.Bool.{eqb-true}
 use Rattle.farm_kinds.specs.declared.kinds.Kind.{Kind}
+use Rattle.farm_kinds.specs.declared.outcomes.Mode.{Mode}
 use Rattle.farm_kinds.specs.declared.outcomes.Task.{Task}
 use Rattle.farm_kinds.specs.declared.events.Event.{Event}
 use Rattle.farm_kinds.specs.declared.events.Reply.{Reply}
@@ -17,7 +18,7 @@ use Rattle.farm_model.specs.State.{State}
 use Rattle.farm_model.specs.Farm.{farm_step}
 use Rattle.farm_model.specs.Replay.{state_after, reply_to, counted_by, counted_in, kind_for, cell_for, times_counted}
 use Rattle.farm_laws.proofs.Cells.{cell_at, or_none}
-use Rattle.farm_laws.proofs.Kept.{lengths_of}
+use Rattle.farm_laws.proofs.Kept.{lengths_of, modes_of}
 use Rattle.farm_laws.proofs.Steps.{Steps, one_cell, steps}
 
 or_assoc : {X : Type 0} (a b c : Option X) → option_or (option_or a b) c ≡ option_or a (option_or b c)
@@ -52,7 +53,8 @@ first_given rule (Some p) others task = elim (same_task p.0 task) as (λ b. opti
 
 pub record Runs (s : State) (es : List Event) : Type 0 where
   pub rule : (state_after s es).judge.rule ≡ s.judge.rule
-  pub mode : (state_after s es).judge.mode ≡ s.judge.mode
+  pub more_modes : List Mode
+  pub modes : modes_of (state_after s es).judge.judgings ≡ modes_of s.judge.judgings ++ more_modes
   pub more : List ℕ
   pub lengths : lengths_of (state_after s es).judge.judgings ≡ lengths_of s.judge.judgings ++ more
   -- cells keep what they hold, and others hold what was counted
@@ -64,7 +66,8 @@ runs_on s e es a b =
     let others = counted_in (farm_step s e).0 es in
     record {
       rule = b.rule ∙ a.rule;
-      mode = b.mode ∙ a.mode;
+      more_modes = a.more_modes ++ b.more_modes;
+      modes = b.modes ∙ ap (λ ms. ms ++ b.more_modes) a.modes ∙ append_assoc (modes_of s.judge.judgings) a.more_modes b.more_modes;
       more = a.more ++ b.more;
       lengths = b.lengths ∙ ap (λ ls. ls ++ b.more) a.lengths ∙ append_assoc (lengths_of s.judge.judgings) a.more b.more;
       cells = λ j t.
@@ -78,7 +81,8 @@ runs_on s e es a b =
 pub runs : (s : State) (es : List Event) → Runs s es
 runs s [] = record {
   rule = refl;
-  mode = refl;
+  more_modes = [];
+  modes = sym (append-nil (modes_of s.judge.judgings));
   more = [];
   lengths = sym (append-nil (lengths_of s.judge.judgings));
   cells = λ j t. sym (or_none (cell_at s.judge.judgings j t));

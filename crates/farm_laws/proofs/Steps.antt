@@ -6,6 +6,7 @@ use Rattle.std.proofs.lemmas.List.{append-nil, map-append}
 use Rattle.farm_kinds.specs.declared.kinds.Kind.{Kind}
 use Rattle.farm_kinds.specs.declared.outcomes.Class.{Class}
 use Rattle.farm_kinds.specs.declared.outcomes.Class.TheVariants.{Low}
+use Rattle.farm_kinds.specs.declared.outcomes.Mode.{Mode}
 use Rattle.farm_kinds.specs.declared.outcomes.Count.{Count}
 use Rattle.farm_kinds.specs.declared.outcomes.Task.{Task}
 use Rattle.farm_kinds.specs.declared.events.Event.{Event}
@@ -17,16 +18,17 @@ use Rattle.farm_kinds.specs.Rules.{remap_of}
 use Rattle.farm_model.specs.Numbered.{item_of, number_or_0}
 use Rattle.farm_model.specs.Refusing.{unless, first_of, refused_or}
 use Rattle.farm_model.specs.Leases.{same_task}
-use Rattle.farm_model.specs.Judgings.{Judging, empty_judging, task_of, cell_of, entry_refusal, result_refusal, fill_cell, with_result}
+use Rattle.farm_model.specs.Judgings.{Judging, task_of, cell_of, entry_refusal, result_refusal, fill_cell, with_result}
 use Rattle.farm_model.specs.Rejudgings.{members_in, new_judgings}
 use Rattle.farm_model.specs.Judge.{JudgeState, add_judgings, counted}
 use Rattle.farm_model.specs.State.{State, problem_number, up_number}
 use Rattle.farm_model.specs.Refusals.{count_reply, no_host, refusal_of}
-use Rattle.farm_model.specs.Changes.{accepted, cells_for, cells_of, by_judge}
+use Rattle.farm_model.specs.Changes.{accepted, cells_for, cells_of_item, mode_for, mode_of_item, asked_for, judging_of_new, rejudging_of, by_judge}
 use Rattle.farm_model.specs.Farm.{farm_step}
 use Rattle.farm_model.specs.Replay.{if_counted, counted_by}
-use Rattle.farm_laws.proofs.Cells.{cell_at, TellsOf, result_tells, entry_tells, count_reply_other, cells_append, or_none, cell_filled}
-use Rattle.farm_laws.proofs.Kept.{lengths_of, lengths_same, cells_same, changed_same, KeepsRows, same_rows, claim_keeps, renew_keeps, drops_keep}
+use Rattle.farm_laws.proofs.Cells.{cell_at, TellsOf, result_tells, entry_tells, count_reply_other, IsUnjudged, empty_unjudged, cells_append, or_none, cell_filled}
+use Rattle.farm_laws.proofs.Each.{Each}
+use Rattle.farm_laws.proofs.Kept.{lengths_of, modes_of, lengths_same, cells_same, changed_same, KeepsRows, same_rows, claim_keeps, renew_keeps, ask_keeps, drops_keep}
 
 -- what one counted result gives the cell of a task
 abbrev pub one_cell : RuleValue → Option (Task × Kind) → Task → Option Kind
@@ -36,10 +38,12 @@ one_cell rule (Some p) task = cond (same_task p.0 task) (Some (remap_of rule p.1
 -- what an event with this outcome, which counted this result or none, did
 pub record Steps (s : State) (p : State × Reply) (given : Option (Task × Kind)) : Type 0 where
   pub rule : p.0.judge.rule ≡ s.judge.rule
-  pub mode : p.0.judge.mode ≡ s.judge.mode
   -- the rows keep their lengths, and perhaps there are more of them
   pub more : List ℕ
   pub lengths : lengths_of p.0.judge.judgings ≡ lengths_of s.judge.judgings ++ more
+  -- so do the modes of the judgings
+  pub more_modes : List Mode
+  pub modes : modes_of p.0.judge.judgings ≡ modes_of s.judge.judgings ++ more_modes
   -- cells keep what they hold, and the counted result fills its own
   pub cells : (j t : ℕ) → cell_at p.0.judge.judgings j t ≡ option_or (cell_at s.judge.judgings j t) (one_cell s.judge.rule given (task_of j t))
   -- a result counts only where its cell is there and empty
@@ -51,7 +55,8 @@ pub record Steps (s : State) (p : State × Reply) (given : Option (Task × Kind)
 kept_steps : (s : State) (p : State × Reply) (given : Option (Task × Kind)) → given ≡ None → KeepsRows s.judge p.0.judge → Steps s p given
 kept_steps s p given none kept = record {
   rule = kept.rule;
-  mode = kept.mode;
+  more_modes = [];
+  modes = kept.modes ∙ sym (append-nil (modes_of s.judge.judgings));
   more = [];
   lengths = lengths_same p.0.judge.judgings s.judge.judgings kept.rows ∙ sym (append-nil (lengths_of s.judge.judgings));
   cells = λ j t. cells_same p.0.judge.judgings s.judge.judgings j t kept.rows ∙ sym (ap (λ o. option_or (cell_at s.judge.judgings j t) (one_cell s.judge.rule o (task_of j t))) none ∙ or_none (cell_at s.judge.judgings j t));
@@ -79,34 +84,47 @@ quiet_steps s (Some x) done a = kept_steps s (s, x) (if_counted x None) (nothing
 same_steps : (s : State) (refusal : Option Reply) (done : State × Reply) → KeepsRows s.judge done.0.judge → StepOf s None (refused_or s refusal done)
 same_steps s refusal done kept = quiet_steps s refusal done (kept_steps s done (if_counted done.1 None) (nothing_given done.1) kept)
 
--- an event that adds judgings of the class, none of whose tests is judged
-added_steps : (s : State) (refusal : Option Reply) (done : State × Reply) (class : Class) (tests : List ℕ) → done.0.judge ≡ add_judgings s.judge class tests → StepOf s None (refused_or s refusal done)
-added_steps s refusal done class tests e =
+-- an event that adds judgings, none of whose tests is judged
+added_steps : (s : State) (refusal : Option Reply) (done : State × Reply) (new : List Judging) → Each IsUnjudged new → done.0.judge ≡ add_judgings s.judge new → StepOf s None (refused_or s refusal done)
+added_steps s refusal done new none e =
     quiet_steps s refusal done (record {
       rule = ap (λ (judge : JudgeState). judge.rule) e;
-      mode = ap (λ (judge : JudgeState). judge.mode) e;
-      more = lengths_of (map (empty_judging class) tests);
-      lengths = ap (λ (judge : JudgeState). lengths_of judge.judgings) e ∙ map-append (λ (judging : Judging). length judging.row) s.judge.judgings (map (empty_judging class) tests);
+      more_modes = modes_of new;
+      modes = ap (λ (judge : JudgeState). modes_of judge.judgings) e ∙ map-append (λ (judging : Judging). judging.mode) s.judge.judgings new;
+      more = lengths_of new;
+      lengths = ap (λ (judge : JudgeState). lengths_of judge.judgings) e ∙ map-append (λ (judging : Judging). length judging.row) s.judge.judgings new;
       cells = λ j t.
           ap (λ (judge : JudgeState). cell_at judge.judgings j t) e
-          ∙ cells_append s.judge.judgings class tests j t
+          ∙ cells_append s.judge.judgings new none j t
           ∙ sym (ap (λ o. option_or (cell_at s.judge.judgings j t) (one_cell s.judge.rule o (task_of j t))) (nothing_given done.1) ∙ or_none (cell_at s.judge.judgings j t));
-      fresh = λ g no. let none : None ≡ Some g = sym (nothing_given done.1) ∙ no in cc;
+      fresh = λ g no. let absent : None ≡ Some g = sym (nothing_given done.1) ∙ no in cc;
     })
 
 submit_steps : (s : State) (name : List ℕ) (class : Class) (broken : Bool) → StepOf s None (farm_step s (event.Submit name class broken))
 submit_steps s name class broken =
     let e = event.Submit name class broken in
-    added_steps s (refusal_of s e) (accepted s e) class (cells_for s.problems (number_or_0 (problem_number s.problems name)) broken ∷ []) refl
+    let problem = number_or_0 (problem_number s.problems name) in
+    added_steps s (refusal_of s e) (accepted s e) (judging_of_new s problem class broken ∷ [])
+    (empty_unjudged class (cells_for s.problems problem broken) (mode_for s.problems problem) (asked_for s.problems problem), tt) refl
+
+rejudgings_unjudged : (s : State) (list : List ℕ) → Each IsUnjudged (map (rejudging_of s) list)
+rejudgings_unjudged s [] = tt
+rejudgings_unjudged s (n ∷ list) = (empty_unjudged Low (cells_of_item s.problems (item_of s.submissions n)) (mode_of_item s.problems (item_of s.submissions n)) true, rejudgings_unjudged s list)
 
 rejudge_steps : (s : State) (who list : List ℕ) → StepOf s None (farm_step s (event.Rejudge who list))
-rejudge_steps s who list = let e = event.Rejudge who list in added_steps s (refusal_of s e) (accepted s e) Low (map (cells_of s) list) refl
+rejudge_steps s who list =
+    let e = event.Rejudge who list in
+    added_steps s (refusal_of s e) (accepted s e) (map (rejudging_of s) list) (rejudgings_unjudged s list) refl
 
 -- Results
 
 lengths_filled : (judgings : List Judging) (j t : ℕ) (kind : Kind) → lengths_of (with_result judgings j t kind) ≡ lengths_of judgings
 lengths_filled judgings j t kind =
     changed_same (λ judging. length judging.row) (fill_cell t kind) (λ judging. length-set judging.row (t - 1) (Some kind)) judgings j (item_of judgings j) refl
+
+modes_filled : (judgings : List Judging) (j t : ℕ) (kind : Kind) → modes_of (with_result judgings j t kind) ≡ modes_of judgings
+modes_filled judgings j t kind =
+    changed_same (λ judging. judging.mode) (fill_cell t kind) (λ judging. refl) judgings j (item_of judgings j) refl
 
 -- an outcome of a result of this task and this kind
 abbrev ResultStep : State → ℕ → ℕ → Kind → State × Reply → Type 0
@@ -117,7 +135,8 @@ counted_steps : (s : State) (j t : ℕ) (kind : Kind) → cell_of s.judge.judgin
     → ResultStep s j t kind (by_judge s (count_reply j t) (counted s.judge j t (remap_of s.judge.rule kind)))
 counted_steps s j t kind empty = record {
   rule = refl;
-  mode = refl;
+  more_modes = [];
+  modes = modes_filled s.judge.judgings j t (remap_of s.judge.rule kind) ∙ sym (append-nil (modes_of s.judge.judgings));
   more = [];
   lengths = lengths_filled s.judge.judgings j t (remap_of s.judge.rule kind) ∙ sym (append-nil (lengths_of s.judge.judgings));
   cells = cell_filled s.judge.judgings j t (remap_of s.judge.rule kind) empty;
@@ -174,8 +193,8 @@ steps s (event.Claim host) = quiet s (event.Claim host) (claim_keeps s.judge _)
 steps s (event.Result host j t kind) = host_steps s host j t kind
 steps s (event.Entry j t kind) = entry_steps s j t kind
 steps s (event.Renew host j t) = quiet s (event.Renew host j t) (renew_keeps s.judge _ j t)
-steps s (event.Tick moment) = quiet s (event.Tick moment) (record { rule = refl; mode = refl; rows = refl })
-steps s (event.Down host) = quiet s (event.Down host) (record { rule = refl; mode = refl; rows = refl })
+steps s (event.Tick moment) = quiet s (event.Tick moment) (record { rule = refl; modes = refl; rows = refl })
+steps s (event.Down host) = quiet s (event.Down host) (record { rule = refl; modes = refl; rows = refl })
 steps s (event.Show j) = quiet s (event.Show j) (same_rows s.judge)
 steps s event.Board = quiet s event.Board (same_rows s.judge)
 steps s (event.Rejudge who list) = rejudge_steps s who list
@@ -183,4 +202,5 @@ steps s (event.Matrix r) = quiet s (event.Matrix r) (same_rows s.judge)
 steps s (event.Apply who r) = quiet s (event.Apply who r) (same_rows s.judge)
 steps s (event.Cancel who r) = quiet s (event.Cancel who r) (drops_keep s.judge (new_judgings (members_in s.rejudgings r)))
 steps s (event.Verify who j) = quiet s (event.Verify who j) (same_rows s.judge)
+steps s (event.Ask who j) = quiet s (event.Ask who j) (ask_keeps s.judge j)
 steps s event.Audit = quiet s event.Audit (same_rows s.judge)

@@ -1,12 +1,14 @@
 -- The laws of runs: what each step keeps after any events from the empty farm, and what holds of every run.
 -- In the parts below `es` are the events before a step, `e` is its event and `new` the state after it. `told r` says
 -- that `r` is the reply: of a step because it is that, and of a line of a script because its text is written there.
-use Rattle.std.specs.Prelude.{◌≡◌, ◌≢◌, ◌↔◌, ℕ, ◌-◌, ◌≤◌, List, [], ◌++◌, map, length, slice_set, Option, Some, None, IsSome, IsTrue, unwrap_or, Contains, All}
+use Rattle.std.specs.Prelude.{◌≡◌, ◌≢◌, ◌↔◌, ◌⊎◌, ℕ, ◌-◌, ◌≤◌, List, [], ◌++◌, map, length, slice_set, Option, Some, None, IsSome, IsTrue, true, unwrap_or, Contains, All}
 use Rattle.std.specs.Option.{option_map}
 use Rattle.farm_kinds.specs.declared.kinds.Kind.{Kind}
 use Rattle.farm_kinds.specs.declared.outcomes.Verdict.{Verdict}
 use Rattle.farm_kinds.specs.declared.outcomes.Answer.{Answer}
 use Rattle.farm_kinds.specs.declared.outcomes.Answer.TheVariants.{Final, Pending}
+use Rattle.farm_kinds.specs.declared.outcomes.Mode.{Mode}
+use Rattle.farm_kinds.specs.declared.outcomes.Mode.TheVariants.{Lazy}
 use Rattle.farm_kinds.specs.declared.outcomes.Task.{Task}
 use Rattle.farm_kinds.specs.declared.events.Event.{Event}
 use Rattle.farm_kinds.specs.declared.events.Event.TheVariants as event
@@ -15,9 +17,11 @@ use Rattle.farm_kinds.specs.declared.events.Reply.TheVariants as reply
 use Rattle.farm_kinds.specs.Rules.{remap_of}
 use Rattle.farm_model.specs.Numbered.{item_of}
 use Rattle.farm_model.specs.Rows.{Row, answer_of}
+use Rattle.farm_model.specs.Judgings.{is_asked}
 use Rattle.farm_model.specs.Open.{is_wanted}
 use Rattle.farm_model.specs.Rejudgings.{members_in}
 use Rattle.farm_model.specs.State.{State, SettingsValue, start}
+use Rattle.farm_model.specs.Refusals.{refusal_of}
 use Rattle.farm_model.specs.Farm.{farm_step}
 use Rattle.farm_model.specs.Replay.{state_after, reply_to, given_by, counted_in, counted_row, times_counted, Truth, IsHonest, KnowsAll, one_thread_verdict}
 
@@ -28,6 +32,10 @@ reached settings es = state_after (start settings) es
 -- the row of a judging
 abbrev pub row_in : State → ℕ → Row
 row_in s j = unwrap_or (option_map (λ judging. judging.row) (item_of s.judge.judgings j)) []
+
+-- the mode of a judging
+abbrev pub mode_in : State → ℕ → Mode
+mode_in s j = unwrap_or (option_map (λ judging. judging.mode) (item_of s.judge.judgings j)) Lazy
 
 abbrev pub IsJudging : State → ℕ → Type 0
 IsJudging s j = IsSome (item_of s.judge.judgings j)
@@ -43,28 +51,36 @@ Shows settings es j answer = reply_to (reached settings es) (event.Show j) ≡ r
 
 -- What is reported
 
+-- The event asks what is reported of the judging: it is a `show`, or an `ask` that is accepted.
+abbrev pub Reports : State → Event → ℕ → Type 0
+Reports s e j = (e ≡ event.Show j) ⊎ ((who : List ℕ) × (e ≡ event.Ask who j) × (refusal_of s (event.Ask who j) ≡ None))
+
 -- A judging is reported final exactly where the results that were counted say so: `answer_of` is over all
--- that the cells without a result could become, or with `Full` over the cells that are all filled.
+-- that the cells without a result could become, or where its mode is `Full` over the cells that are all filled.
 abbrev pub FinalIsExact : SettingsValue → List Event → Event → (Reply → Type 0) → Type 0
-FinalIsExact settings es e told = (j : ℕ) (v : Verdict) → e ≡ event.Show j → IsJudging (reached settings es) j →
-    told (reply.Shown (Final v)) ↔ (answer_of settings.rule settings.mode (replayed_row settings es j) ≡ Final v)
+FinalIsExact settings es e told = (j : ℕ) (v : Verdict) →
+    Reports (reached settings es) e j → IsJudging (reached settings es) j →
+    told (reply.Shown (Final v))
+    ↔ (answer_of settings.rule (mode_in (reached settings es) j) (replayed_row settings es j) ≡ Final v)
 
 -- The cell of this test is empty, and is still to be judged: with `Lazy` where it matters, as two ways to
 -- fill the row that differ there alone have different verdicts, and with `Full` always.
-abbrev pub IsWantedCell : SettingsValue → Row → ℕ → Type 0
-IsWantedCell settings row test =
-    (item_of row test ≡ Some None) × IsTrue (is_wanted settings.rule settings.mode row test)
+abbrev pub IsWantedCell : SettingsValue → Mode → Row → ℕ → Type 0
+IsWantedCell settings mode row test =
+    (item_of row test ≡ Some None) × IsTrue (is_wanted settings.rule mode row test)
 
--- A judging is reported pending with `Full` exactly while a test has no result that was counted, and with
+-- A judging is reported pending with the mode `Full` exactly while a test has no result that was counted, and with
 -- `Lazy` exactly while an empty cell matters. One without cells is final.
 abbrev pub PendingIsExact : SettingsValue → List Event → Event → (Reply → Type 0) → Type 0
-PendingIsExact settings es e told = (j : ℕ) → e ≡ event.Show j → IsJudging (reached settings es) j →
-    told (reply.Shown Pending) ↔ ((test : ℕ) × IsWantedCell settings (replayed_row settings es j) test)
+PendingIsExact settings es e told = (j : ℕ) →
+    Reports (reached settings es) e j → IsJudging (reached settings es) j →
+    told (reply.Shown Pending)
+    ↔ ((test : ℕ) × IsWantedCell settings (mode_in (reached settings es) j) (replayed_row settings es j) test)
 
 -- what was final after some of the events is reported final still, with that verdict
 abbrev pub FinalStays : SettingsValue → List Event → Event → (Reply → Type 0) → Type 0
 FinalStays settings es e told = (before later : List Event) (j : ℕ) (v : Verdict) →
-    e ≡ event.Show j → es ≡ before ++ later →
+    Reports (reached settings es) e j → es ≡ before ++ later →
     Shows settings before j (Final v) → told (reply.Shown (Final v))
 
 -- What is final is what running every test in rank order on one thread gives, where the results are honest.
@@ -72,20 +88,21 @@ FinalStays settings es e told = (before later : List Event) (j : ℕ) (v : Verdi
 abbrev pub EqualsOneThread : SettingsValue → List Event → Event → (Reply → Type 0) → Type 0
 EqualsOneThread settings es e told = (truth : Truth) (j : ℕ) (v : Verdict) →
     let tests = length (row_in (reached settings es) j) in
-    e ≡ event.Show j → IsHonest (start settings) es truth → KnowsAll truth j tests →
+    Reports (reached settings es) e j → IsHonest (start settings) es truth → KnowsAll truth j tests →
     told (reply.Shown (Final v)) → v ≡ one_thread_verdict settings.rule truth j tests
 
 -- Results
 
--- the task that is told to be handed out has an empty cell that is still to be judged
+-- the task that is told to be handed out has an empty cell that is still to be judged, in a judging that was asked for
 pub record HandsOut (settings : SettingsValue) (s : State) (told : Reply → Type 0) : Type 0 where
   pub task : Task
   pub until : ℕ
   pub handed : told (reply.Handed task until)
-  pub wanted : IsWantedCell settings (row_in s task.judging) task.test
+  pub asked : is_asked s.judge.judgings task.judging ≡ true
+  pub wanted : IsWantedCell settings (mode_in s task.judging) (row_in s task.judging) task.test
 
--- A task is handed out only while its cell is empty and still to be judged: with `Lazy` it matters, in the
--- state before the event.
+-- A task is handed out only of a judging that was asked for, while its cell is empty and still to be judged: with
+-- `Lazy` it matters, in the state before the event.
 abbrev pub HandsOutWanted : SettingsValue → List Event → (Reply → Type 0) → Type 0
 HandsOutWanted settings es told = (task : Task) (until : ℕ) → told (reply.Handed task until) →
     HandsOut settings (reached settings es) told

@@ -32,6 +32,7 @@ takes_memory s (event.Matrix r) = true
 takes_memory s (event.Apply who r) = true
 takes_memory s (event.Cancel who r) = true
 takes_memory s (event.Verify who j) = true
+takes_memory s (event.Ask who j) = true
 takes_memory s event.Audit = false
 
 -- memory may be wanting: the event takes it, and is not refused

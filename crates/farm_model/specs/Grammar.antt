@@ -58,6 +58,7 @@ jury_event_of who word ws =
     else if bytes_eq word (codes "apply") then number_line (event.Apply who) ws
     else if bytes_eq word (codes "cancel") then number_line (event.Cancel who) ws
     else if bytes_eq word (codes "verify") then number_line (event.Verify who) ws
+    else if bytes_eq word (codes "ask") then number_line (event.Ask who) ws
     else None
 
 -- a line of one name

@@ -1,9 +1,11 @@
 -- What the judge keeps, and what each of its calls does.
-use Rattle.std.specs.Prelude.{ℕ, ◌+◌, ◌-◌, ◌^◌, min, max, List, [], ◌∷◌, ◌++◌, map, length, slice_get, Option, Some, None, nat_le}
+use Rattle.std.specs.Prelude.{ℕ, ◌+◌, ◌-◌, ◌^◌, min, max, List, [], ◌∷◌, ◌++◌, length, slice_get, Option, Some, None, Bool, nat_le}
 use Rattle.farm_kinds.specs.declared.kinds.Kind.{Kind}
 use Rattle.farm_kinds.specs.declared.outcomes.Answer.{Answer}
 use Rattle.farm_kinds.specs.declared.outcomes.Class.{Class}
 use Rattle.farm_kinds.specs.declared.outcomes.Mode.{Mode}
+use Rattle.farm_kinds.specs.declared.outcomes.AskEnd.{AskEnd}
+use Rattle.farm_kinds.specs.declared.outcomes.AskEnd.TheVariants as ask
 use Rattle.farm_kinds.specs.declared.outcomes.Task.{Task}
 use Rattle.farm_kinds.specs.declared.outcomes.Claim.{Claim}
 use Rattle.farm_kinds.specs.declared.outcomes.Claim.TheVariants as claim
@@ -17,13 +19,12 @@ use Rattle.farm_model.specs.declared.records.Lease.{Lease}
 use Rattle.farm_model.specs.Limits.{max_held}
 use Rattle.farm_model.specs.Refusing.{when, unless, first_of, refused_or}
 use Rattle.farm_model.specs.Leases.{is_held_by, held_count, with_lease, without_task, without_host, without_judging, renewed, ended_at, left_after}
-use Rattle.farm_model.specs.Judgings.{Judging, empty_judging, task_of, answer_in, is_judging, has_test, entry_refusal, result_refusal, with_result, with_handed, with_dropped}
+use Rattle.farm_model.specs.Judgings.{Judging, empty_judging, task_of, answer_in, is_judging, has_test, is_dropped, is_asked, entry_refusal, result_refusal, with_result, with_handed, with_asked, with_dropped}
 use Rattle.farm_model.specs.Open.{open_tasks}
 
 -- judgings are numbered from 1
 pub record JudgeState : Type 0 where
   pub rule : RuleValue
-  pub mode : Mode
   -- how long a lease lasts, in seconds
   pub lease : ℕ
   -- the moment, in seconds
@@ -32,19 +33,18 @@ pub record JudgeState : Type 0 where
   pub leases : List Lease
 
 -- nothing to judge, at moment 0
-abbrev pub first_state : RuleValue → Mode → ℕ → JudgeState
-first_state rule mode lease = record { rule = rule; mode = mode; lease = lease; now = 0; judgings = []; leases = [] }
+abbrev pub first_state : RuleValue → ℕ → JudgeState
+first_state rule lease = record { rule = rule; lease = lease; now = 0; judgings = []; leases = [] }
 
-abbrev pub add_judging : JudgeState → Class → ℕ → JudgeState
-add_judging s class tests = record s { judgings = s.judgings ++ empty_judging class tests ∷ [] }
+abbrev pub add_judgings : JudgeState → List Judging → JudgeState
+add_judgings s judgings = record s { judgings = s.judgings ++ judgings }
 
--- a judging of the class for each number of tests
-abbrev pub add_judgings : JudgeState → Class → List ℕ → JudgeState
-add_judgings s class tests = record s { judgings = s.judgings ++ map (empty_judging class) tests }
+abbrev pub add_judging : JudgeState → Class → ℕ → Mode → Bool → JudgeState
+add_judging s class tests mode asked = add_judgings s (empty_judging class tests mode asked ∷ [])
 
 -- what is reported of the judging of this number, where there is one
 abbrev pub answer_of_judging : JudgeState → ℕ → Option Answer
-answer_of_judging s j = answer_in s.rule s.mode s.judgings j
+answer_of_judging s j = answer_in s.rule s.judgings j
 
 -- Claims
 
@@ -69,10 +69,23 @@ claimed s host (Some task) = (hand_out s host task, claim.Handed task (lease_end
 
 -- the least open task by class, judging and test
 abbrev pub first_open : JudgeState → Option Task
-first_open s = slice_get (open_tasks s.rule s.mode s.judgings s.leases) 0
+first_open s = slice_get (open_tasks s.rule s.judgings s.leases) 0
 
 abbrev pub judge_claim : JudgeState → ℕ → JudgeState × Claim
 judge_claim s host = refused_or s (claim_refusal s.leases host) (claimed s host (first_open s))
+
+-- Asking
+
+abbrev pub ask_refusal : List Judging → ℕ → Option AskEnd
+ask_refusal judgings j = first_of (
+    unless (is_judging judgings j) ask.NoJudging
+    ∷ when (is_dropped judgings j) ask.Dropped
+    ∷ when (is_asked judgings j) ask.Already ∷ [])
+
+-- hosts are given the judging's tasks from now on
+abbrev pub judge_ask : JudgeState → ℕ → JudgeState × AskEnd
+judge_ask s j =
+    refused_or s (ask_refusal s.judgings j) (record s { judgings = with_asked s.judgings j }, ask.Done)
 
 -- Results
 

@@ -15,6 +15,10 @@ use Rattle.farm_model.specs.Rows.{Row, answer_of, same_kind}
 
 pub record Judging : Type 0 where
   pub class : Class
+  -- how far it is judged
+  pub mode : Mode
+  -- whether it was asked for: hosts are given no task of another
+  pub asked : Bool
   pub row : Row
   -- which of its tasks were ever handed out, in rank order
   pub handed : List Bool
@@ -22,9 +26,15 @@ pub record Judging : Type 0 where
   pub dropped : Bool
 
 -- a judging of so many tests, none of which was handed out or judged
-abbrev pub empty_judging : Class → ℕ → Judging
-empty_judging class tests =
-    record { class = class; row = replicate tests None; handed = replicate tests false; dropped = false }
+abbrev pub empty_judging : Class → ℕ → Mode → Bool → Judging
+empty_judging class tests mode asked = record {
+  class = class;
+  mode = mode;
+  asked = asked;
+  row = replicate tests None;
+  handed = replicate tests false;
+  dropped = false;
+}
 
 abbrev pub task_of : ℕ → ℕ → Task
 task_of judging test = record { judging = judging; test = test }
@@ -34,8 +44,8 @@ abbrev pub judging_rows : List Judging → List Row
 judging_rows judgings = map (λ judging. judging.row) judgings
 
 -- what is reported of the judging of this number, where there is one
-abbrev pub answer_in : RuleValue → Mode → List Judging → ℕ → Option Answer
-answer_in rule mode judgings j = option_map (λ judging. answer_of rule mode judging.row) (item_of judgings j)
+abbrev pub answer_in : RuleValue → List Judging → ℕ → Option Answer
+answer_in rule judgings j = option_map (λ judging. answer_of rule judging.mode judging.row) (item_of judgings j)
 
 abbrev pub is_judging : List Judging → ℕ → Bool
 is_judging judgings j = is_some (item_of judgings j)
@@ -57,6 +67,9 @@ kept_refusal judgings j test given = option_map (kept_count given) (unwrap_or (c
 
 abbrev pub is_dropped : List Judging → ℕ → Bool
 is_dropped judgings j = unwrap_or (option_map (λ judging. judging.dropped) (item_of judgings j)) false
+
+abbrev pub is_asked : List Judging → ℕ → Bool
+is_asked judgings j = unwrap_or (option_map (λ judging. judging.asked) (item_of judgings j)) false
 
 -- whether the task was ever handed out
 abbrev pub was_handed : List Judging → ℕ → ℕ → Bool
@@ -93,6 +106,13 @@ mark_handed test judging = record judging { handed = slice_set judging.handed (t
 -- the task was handed out
 abbrev pub with_handed : List Judging → Task → List Judging
 with_handed judgings task = with_change judgings task.judging (mark_handed task.test)
+
+abbrev pub mark_asked : Judging → Judging
+mark_asked judging = record judging { asked = true }
+
+-- the judging was asked for
+abbrev pub with_asked : List Judging → ℕ → List Judging
+with_asked judgings j = with_change judgings j mark_asked
 
 abbrev pub mark_dropped : Judging → Judging
 mark_dropped judging = record judging { dropped = true }

@@ -1,5 +1,5 @@
 -- Open tasks: those that a host may be given (DOMjudge manual, "Judging": judge tasks and their priority).
-use Rattle.std.specs.Prelude.{ℕ, ◌-◌, List, ◌++◌, length, slice_index_or, filter, map, flat_map, None, is_none, Bool, true, false, not}
+use Rattle.std.specs.Prelude.{ℕ, ◌-◌, ◌&&◌, List, ◌++◌, length, slice_index_or, filter, map, flat_map, None, is_none, Bool, true, false, not}
 use Rattle.std.specs.List.{enumerate_from}
 use Rattle.farm_kinds.specs.declared.outcomes.Class.{Class}
 use Rattle.farm_kinds.specs.declared.outcomes.Class.TheVariants.{High, Normal, Low}
@@ -36,20 +36,24 @@ abbrev pub is_free : List Lease → Task → Bool
 is_free leases task = is_none (lease_on leases task)
 
 -- the open tasks of the judging of this number
-abbrev pub open_in : RuleValue → Mode → List Lease → ℕ × Judging → List Task
-open_in rule mode leases p = filter (is_free leases) (map (task_of p.0) (wanted_tests rule mode p.1.row))
+abbrev pub open_in : RuleValue → List Lease → ℕ × Judging → List Task
+open_in rule leases p = filter (is_free leases) (map (task_of p.0) (wanted_tests rule p.1.mode p.1.row))
 
--- the judgings of a class that are not dropped, with their numbers
+-- it was asked for, and not dropped
+abbrev pub is_active : Judging → Bool
+is_active judging = not judging.dropped && judging.asked
+
+-- the active judgings of a class, with their numbers
 abbrev pub judgings_in : List Judging → Class → List (ℕ × Judging)
 judgings_in judgings class =
-    filter (λ p. same_class p.1.class class) (filter (λ p. not p.1.dropped) (enumerate_from 1 judgings))
+    filter (λ p. same_class p.1.class class) (filter (λ p. is_active p.1) (enumerate_from 1 judgings))
 
-abbrev pub open_in_class : RuleValue → Mode → List Judging → List Lease → Class → List Task
-open_in_class rule mode judgings leases class = flat_map (open_in rule mode leases) (judgings_in judgings class)
+abbrev pub open_in_class : RuleValue → List Judging → List Lease → Class → List Task
+open_in_class rule judgings leases class = flat_map (open_in rule leases) (judgings_in judgings class)
 
 -- the open tasks, by class, judging and test
-abbrev pub open_tasks : RuleValue → Mode → List Judging → List Lease → List Task
-open_tasks rule mode judgings leases =
-    open_in_class rule mode judgings leases High
-    ++ open_in_class rule mode judgings leases Normal
-    ++ open_in_class rule mode judgings leases Low
+abbrev pub open_tasks : RuleValue → List Judging → List Lease → List Task
+open_tasks rule judgings leases =
+    open_in_class rule judgings leases High
+    ++ open_in_class rule judgings leases Normal
+    ++ open_in_class rule judgings leases Low

@@ -1,6 +1,8 @@
 -- The refusals of each event, in their order.
 use Rattle.std.specs.Prelude.{ℕ, ◌+◌, List, [], ◌∷◌, ◌++◌, length, find, Option, None, is_some, is_none, Bool, ◌&&◌, ◌==◌, not, nat_le, nat_lt}
 use Rattle.std.specs.Option.{option_map}
+use Rattle.farm_kinds.specs.declared.outcomes.AskEnd.{AskEnd}
+use Rattle.farm_kinds.specs.declared.outcomes.AskEnd.TheVariants as ask
 use Rattle.farm_kinds.specs.declared.outcomes.Claim.{Claim}
 use Rattle.farm_kinds.specs.declared.outcomes.Claim.TheVariants as claim
 use Rattle.farm_kinds.specs.declared.outcomes.Count.{Count}
@@ -19,7 +21,7 @@ use Rattle.farm_model.specs.Numbered.{item_of, number_or_0}
 use Rattle.farm_model.specs.Limits.{max_problems, max_versions, max_tests, max_hosts, max_held, max_submissions, max_judgings, max_rejudgings}
 use Rattle.farm_model.specs.Refusing.{when, unless, first_of}
 use Rattle.farm_model.specs.Judgings.{entry_refusal, result_refusal, is_judging, is_dropped}
-use Rattle.farm_model.specs.Judge.{claim_refusal, renew_refusal}
+use Rattle.farm_model.specs.Judge.{claim_refusal, ask_refusal, renew_refusal}
 use Rattle.farm_model.specs.Rejudgings.{twice_refusal, busy_refusal, absent_refusal, closing_refusal, members_in, new_judgings}
 use Rattle.farm_model.specs.State.{State, problem_number, host_number, up_number, answer_at, is_final, current_of, is_verified}
 
@@ -138,6 +140,13 @@ verify_refusal s j = first_of (
     ∷ unless (is_final (answer_at s j)) (reply.NotFinal j)
     ∷ when (is_verified s.details j) (reply.Already j) ∷ [])
 
+-- what becomes of a judging that is asked for, as a reply: where it can be, what is reported of it
+abbrev pub ask_reply : State → ℕ → AskEnd → Reply
+ask_reply s j ask.NoJudging = reply.NoJudging j
+ask_reply s j ask.Dropped = reply.Dropped
+ask_reply s j ask.Already = reply.Already j
+ask_reply s j ask.Done = reply.Shown (answer_at s j)
+
 -- the refusal of an event, where it is refused
 abbrev pub refusal_of : State → Event → Option Reply
 refusal_of s (event.Problem who name tests) = problem_refusal s.problems name tests
@@ -164,4 +173,5 @@ refusal_of s (event.Matrix r) = no_rejudging s.rejudgings r
 refusal_of s (event.Apply who r) = apply_refusal s r
 refusal_of s (event.Cancel who r) = close_refusal s.rejudgings r
 refusal_of s (event.Verify who j) = verify_refusal s j
+refusal_of s (event.Ask who j) = option_map (ask_reply s j) (ask_refusal s.judge.judgings j)
 refusal_of s event.Audit = None

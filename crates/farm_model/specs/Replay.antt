@@ -52,6 +52,7 @@ given_by (event.Matrix r) = None
 given_by (event.Apply who r) = None
 given_by (event.Cancel who r) = None
 given_by (event.Verify who j) = None
+given_by (event.Ask who j) = None
 given_by event.Audit = None
 
 abbrev pub if_counted : Reply → Option (Task × Kind) → Option (Task × Kind)

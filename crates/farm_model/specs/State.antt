@@ -6,6 +6,7 @@ use Rattle.farm_kinds.specs.declared.outcomes.Answer.{Answer}
 use Rattle.farm_kinds.specs.declared.outcomes.Answer.TheVariants.{Final, Pending}
 use Rattle.farm_kinds.specs.declared.outcomes.Mode.{Mode}
 use Rattle.farm_kinds.specs.declared.outcomes.Mode.TheVariants.{Lazy}
+use Rattle.farm_kinds.specs.declared.outcomes.NamedMode.{NamedMode}
 use Rattle.farm_kinds.specs.RuleValue.{RuleValue}
 use Rattle.farm_kinds.specs.Rules.{standard}
 use Rattle.farm_model.specs.declared.records.Problem.{Problem}
@@ -26,14 +27,19 @@ pub record SettingsValue : Type 0 where
   pub verification : Bool
   -- how many instructions a second of a time limit stands for
   pub ips : ℕ
+  -- the problems that are judged otherwise than the others
+  pub modes : List NamedMode
 
 abbrev pub standard_settings : SettingsValue
-standard_settings = record { rule = standard; mode = Lazy; lease = 60; verification = false; ips = 10000000 }
+standard_settings = record { rule = standard; mode = Lazy; lease = 60; verification = false; ips = 10000000; modes = [] }
 
 -- problems, hosts, submissions, judgings and rejudgings are numbered from 1
 pub record State : Type 0 where
   -- judgings with their rows, leases, and the moment
   pub judge : JudgeState
+  -- how far judgings are judged, but for those of the problems that are judged otherwise
+  pub mode : Mode
+  pub modes : List NamedMode
   -- whether the public sees a judging only once it is verified
   pub verification : Bool
   pub problems : List Problem
@@ -48,7 +54,9 @@ pub record State : Type 0 where
 -- the empty farm
 abbrev pub start : SettingsValue → State
 start s = record {
-  judge = first_state s.rule s.mode s.lease;
+  judge = first_state s.rule s.lease;
+  mode = s.mode;
+  modes = s.modes;
   verification = s.verification;
   problems = [];
   hosts = [];

@@ -63,6 +63,7 @@ event_words (event.Matrix r) = codes "matrix" ∷ decimal r ∷ []
 event_words (event.Apply who r) = codes "apply" ∷ decimal r ∷ []
 event_words (event.Cancel who r) = codes "cancel" ∷ decimal r ∷ []
 event_words (event.Verify who j) = codes "verify" ∷ decimal j ∷ []
+event_words (event.Ask who j) = codes "ask" ∷ decimal j ∷ []
 event_words event.Audit = codes "audit" ∷ []
 
 -- who acts; the jury where the event is none of the jury's

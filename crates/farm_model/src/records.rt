@@ -1,5 +1,5 @@
 use crate::members::Members;
-use farm_kinds::{Name, Task};
+use farm_kinds::{Mode, Name, Task};
 
 /// A problem. Its version rises with each replacement.
 #[derive(Clone, Copy, Debug)]
@@ -9,6 +9,10 @@ pub struct Problem {
     pub version: u32,
     /// How many tests it has, from 1 to 1,000.
     pub tests: u16,
+    /// How far its judgings are judged.
+    pub mode: Mode,
+    /// Whether a judging is asked for from the start: hosts are given no task of another.
+    pub asked: bool,
 }
 
 /// A judgehost, and whether it is up.

@@ -3,6 +3,8 @@ ghost use Rattle.farm_kinds.specs.declared.kinds.Kind.TheVariants.{Correct, Wron
 ghost use Rattle.farm_kinds.specs.declared.outcomes.Verdict.TheVariants.{Tests, CompilerError};
 ghost use Rattle.farm_kinds.specs.declared.outcomes.Answer.TheVariants.{Final, Pending};
 ghost use Rattle.farm_kinds.specs.declared.outcomes.Mode.TheVariants.{Lazy, Full};
+ghost use Rattle.farm_kinds.specs.declared.outcomes.ProblemMode.TheVariants as problem;
+ghost use Rattle.farm_kinds.specs.declared.outcomes.ProblemMode.TheVariants.{OnDemand};
 ghost use Rattle.farm_kinds.specs.declared.outcomes.Class.TheVariants.{Normal, Low};
 ghost use Rattle.farm_kinds.specs.declared.events.Event.TheVariants as event;
 ghost use Rattle.farm_kinds.specs.Names.{jury};
@@ -11,8 +13,9 @@ ghost use Rattle.farm_model.specs.Numbers.{number_of, list_of};
 ghost use Rattle.farm_model.specs.Rows.{answer_of, matters};
 ghost use Rattle.farm_model.specs.Texts.{event_text};
 ghost use Rattle.farm_model.specs.Words.{words};
-ghost use Rattle.farm_model.specs.State.{standard_settings};
-ghost use Rattle.farm_model.specs.Script.{script_output};
+ghost use Rattle.farm_model.specs.State.{standard_settings, start};
+ghost use Rattle.farm_model.specs.Replay.{state_after};
+ghost use Rattle.farm_model.specs.Script.{script_output, events_of};
 
 /// The words and the numbers of lines.
 pub fn words_and_numbers()
@@ -88,6 +91,20 @@ pub fn equal_priorities_later()
 pub fn full_judging()
     ensures { script_output (record standard_settings { mode = Full }) (codes "problem A 2\nsubmit A\nrecord 1 1 run-error\nshow 1\nrecord 1 2 correct\nshow 1\n")
         ≡ codes "problem A version 1\nsubmission 1 judging 1\ncounted\npending\ncounted\nfinal run-error\n" }
+{}
+
+/// Judgings of a problem on demand wait to be asked for, and in a problem that is judged in full every test is judged.
+pub fn problems_with_modes()
+    ensures { script_output (record standard_settings { modes = (record { name = codes "A"; mode = OnDemand }) ∷ (record { name = codes "B"; mode = problem.Full }) ∷ [] }) (codes "problem A 1\nhost h1\nsubmit A\nclaim h1\nask 1\nask 1\nclaim h1\nresult h1 1 1 correct\nrejudge 1\nask 2\nclaim h1\nask 9\nproblem B 2\nsubmit B\nrecord 3 1 run-error\nshow 3\n")
+        ≡ codes "problem A version 1\nhost h1\nsubmission 1 judging 1\nnothing\npending\nalready 1\ntask 1 1 until 60\ncounted\nrejudging 1 judgings 2 to 2\nalready 2\ntask 2 1 until 60\nno-judging 9\nproblem B version 1\nsubmission 2 judging 3\ncounted\npending\n" }
+{}
+
+/// A judging that was dropped is not asked for, and `ask` of the jury is entered in the audit log.
+pub fn asked_judgings()
+    ensures dropped { script_output (record standard_settings { modes = (record { name = codes "A"; mode = OnDemand }) ∷ [] }) (codes "problem A 1\nsubmit A\nrecord 1 1 correct\nrejudge 1\ncancel 1\nask 2\n@ann ask 1\nask 1 1\nask\n")
+        ≡ codes "problem A version 1\nsubmission 1 judging 1\ncounted\nrejudging 1 judgings 2 to 2\ncancelled 1\ndropped\nfinal correct\nbad-line\nbad-line\n" }
+    ensures logged { (state_after (start (record standard_settings { modes = (record { name = codes "A"; mode = OnDemand }) ∷ [] })) (events_of (codes "problem A 1\nsubmit A\n@ann ask 1\nask 1\n"))).texts
+        ≡ codes "jury problem A 1" ∷ codes "ann ask 1" ∷ [] }
 {}
 
 /// A result that comes again or comes otherwise does not count.

@@ -1,21 +1,23 @@
 -- What the entries of `farm.json` set, or the first fault.
-use Rattle.std.specs.Prelude.{◌≡◌, ⊤, ℕ, List, map, Option, Some, None, if◌then◌else◌, Result, Ok, Err}
+use Rattle.std.specs.Prelude.{◌≡◌, ⊤, ℕ, List, [], ◌∷◌, ◌++◌, map, Option, Some, None, if◌then◌else◌, Result, Ok, Err}
 use Rattle.serde_json.specs.Data.{Data, Members, no_members, member}
 use Rattle.serde_json.specs.Find.{as_bool, as_object}
 use Rattle.farm_kinds.specs.declared.kinds.Kind.{Kind}
+use Rattle.farm_kinds.specs.declared.outcomes.NamedMode.{NamedMode}
+use Rattle.farm_kinds.specs.Names.{name_read}
 use Rattle.farm_kinds.specs.Kinds.{kind_named, every_kind}
 use Rattle.farm_kinds.specs.RuleValue.{RuleValue}
 use Rattle.farm_kinds.specs.Rules.{prio_of, remap_of}
 use Rattle.farm_model.specs.Rows.{same_kind}
 use Rattle.farm_model.specs.State.{SettingsValue}
 use Rattle.farm_settings.specs.declared.keys.Setting.{Setting}
-use Rattle.farm_settings.specs.declared.keys.Setting.TheVariants.{InstructionsPerSecond, LazyEvalResults, Lease, ResultsPrio, ResultsRemap, VerificationRequired}
+use Rattle.farm_settings.specs.declared.keys.Setting.TheVariants.{InstructionsPerSecond, LazyEvalResults, Lease, ProblemModes, ResultsPrio, ResultsRemap, VerificationRequired}
 use Rattle.farm_settings.specs.declared.faults.SettingsErr.{SettingsErr}
 use Rattle.farm_settings.specs.declared.faults.SettingsErr.TheVariants.{Bad, NoMemory}
 use Rattle.farm_settings.specs.declared.faults.SettingsFault.{SettingsFault}
 use Rattle.farm_settings.specs.declared.faults.SettingsFault.TheVariants.{UnknownKey, BadValue}
 use Rattle.farm_settings.specs.Keys.{setting_named}
-use Rattle.farm_settings.specs.Values.{whole, kind_of, mode_of}
+use Rattle.farm_settings.specs.Values.{whole, kind_of, mode_of, problem_mode_of}
 
 -- the answer is what was told, or memory was wanting
 abbrev pub IsReading : {A : Type 0} → Result A SettingsFault → Result A SettingsErr → Type 0
@@ -80,6 +82,18 @@ set_remap_of rule (Some kind) name value = set_as (with_remap rule kind) (said_a
 abbrev pub set_remap : RuleValue → List ℕ → Data → Result RuleValue SettingsFault
 set_remap rule name value = set_remap_of rule (kind_named name) name value
 
+-- an entry of `problem_modes`
+abbrev pub mode_entry_of : Option (List ℕ) → List ℕ → Data → Result NamedMode SettingsFault
+mode_entry_of None name value = Err (UnknownKey name)
+mode_entry_of (Some read) name value =
+    set_as (λ mode. record { name = read; mode = mode }) (said_at name (problem_mode_of value))
+
+abbrev pub mode_entry : List ℕ → Data → Result NamedMode SettingsFault
+mode_entry name value = mode_entry_of (name_read name) name value
+
+abbrev pub set_mode : List NamedMode → List ℕ → Data → Result (List NamedMode) SettingsFault
+set_mode modes name value = set_as (λ mode. modes ++ mode ∷ []) (mode_entry name value)
+
 -- the settings with another rule
 abbrev pub with_rule : SettingsValue → RuleValue → SettingsValue
 with_rule settings rule = record settings { rule = rule }
@@ -93,6 +107,9 @@ set_setting s (Some LazyEvalResults) key value =
     set_as (λ lazy. record s { mode = mode_of lazy }) (said_at key (as_bool value))
 set_setting s (Some Lease) key value =
     set_as (λ lease. record s { lease = lease }) (said_at key (whole 1 1000000 value))
+set_setting s (Some ProblemModes) key value =
+    set_then (λ entries. set_as (λ modes. record s { modes = modes }) (each_entry set_mode [] entries))
+    (said_at key (as_object value))
 set_setting s (Some ResultsPrio) key value =
     set_then (λ entries. set_as (with_rule s) (each_entry set_prio s.rule entries)) (said_at key (as_object value))
 set_setting s (Some ResultsRemap) key value =

@@ -10,6 +10,8 @@ pub enum Setting {
     LazyEvalResults,
     /// How long a lease lasts, in seconds.
     Lease,
+    /// How the submissions of single problems are judged.
+    ProblemModes,
     /// The priorities of kinds (DOMjudge manual, `results_prio`).
     ResultsPrio,
     /// The kinds that kinds count as (DOMjudge manual, `results_remap`).
@@ -21,10 +23,11 @@ pub enum Setting {
 
 impl Setting {
     /// The settings in the order of their keys' bytes.
-    pub const ALL: [Setting; 6] = [
+    pub const ALL: [Setting; 7] = [
         Setting::InstructionsPerSecond,
         Setting::LazyEvalResults,
         Setting::Lease,
+        Setting::ProblemModes,
         Setting::ResultsPrio,
         Setting::ResultsRemap,
         Setting::VerificationRequired,
@@ -38,6 +41,7 @@ impl Setting {
             Setting::InstructionsPerSecond => "instructions_per_second",
             Setting::LazyEvalResults => "lazy_eval_results",
             Setting::Lease => "lease",
+            Setting::ProblemModes => "problem_modes",
             Setting::ResultsPrio => "results_prio",
             Setting::ResultsRemap => "results_remap",
             Setting::VerificationRequired => "verification_required",

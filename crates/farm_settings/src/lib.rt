@@ -3,6 +3,7 @@
 
 mod faults;
 mod keys;
+mod modes;
 mod reading;
 mod rules;
 mod settings;

@@ -41,7 +41,7 @@ fn settings_of(alloc: Global, value: &Value) -> Result<Settings, SettingsErr>
 fn settings_by(alloc: Global, entries: &Map<String, Value>) -> Result<Settings, SettingsErr>
     ensures { IsReading (each_entry set_entry standard_settings (members_view entries.now.entries)) result }
 {
-    let mut settings = Settings::standard();
+    let mut settings = Settings::standard(alloc);
     for (key, value) in entries.iter() {
         settings.set(alloc, key.as_str(), value)?;
     }

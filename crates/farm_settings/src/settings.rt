@@ -5,9 +5,10 @@ ghost use Rattle.farm_settings.specs.Entries.{IsSet, set_entry};
 
 use crate::faults::{SettingsErr, unknown_key};
 use crate::keys::Setting;
+use crate::modes::{copy_of, modes_of};
 use crate::rules::{prios_of, remaps_of};
 use crate::values::{entries_at, flag_at, mode_of, number_at};
-use farm_kinds::{Mode, NoMemory, Rule};
+use farm_kinds::{Mode, Modes, NoMemory, Rule};
 use serde_json::Value;
 use std::alloc::Global;
 use std::marker::Model;
@@ -20,6 +21,8 @@ pub struct Settings {
     lease: u64,
     verification: bool,
     ips: u32,
+    modes: Modes,
+    alloc: Global,
 }
 
 impl Model for Settings {
@@ -36,8 +39,9 @@ impl Model for Settings {
 
 impl Settings {
     /// The standard rule, lazy evaluation, leases of 60 seconds, judgings are public without being
-    /// verified, and 10,000,000 instructions stand for a second.
-    pub fn standard() -> Settings
+    /// verified, 10,000,000 instructions stand for a second, and no problem is judged otherwise than the
+    /// others.
+    pub fn standard(alloc: Global) -> Settings
         ensures { result ≡ standard_settings }
     {
         Settings {
@@ -46,6 +50,8 @@ impl Settings {
             lease: 60,
             verification: false,
             ips: 10_000_000,
+            modes: Modes::new(alloc),
+            alloc,
         }
     }
 
@@ -62,6 +68,7 @@ impl Settings {
             }
             Setting::LazyEvalResults => self.mode = mode_of(flag_at(alloc, key, value)?),
             Setting::Lease => self.lease = number_at(alloc, key, value, 1, 1_000_000)?,
+            Setting::ProblemModes => self.modes = modes_of(alloc, entries_at(alloc, key, value)?)?,
             Setting::ResultsPrio => {
                 self.rule = prios_of(alloc, self.rule, entries_at(alloc, key, value)?)?;
             }
@@ -83,6 +90,8 @@ impl Settings {
             lease: self.lease,
             verification: self.verification,
             ips: self.ips,
+            modes: copy_of(self.alloc, &self.modes)?,
+            alloc: self.alloc,
         })
     }
 
@@ -93,11 +102,25 @@ impl Settings {
         self.rule
     }
 
-    /// When a judging is final.
+    /// When a judging is final, but for those of the problems in `modes`.
     pub fn mode(&self) -> Mode
         ensures { result ≡ self.now.mode }
     {
         self.mode
+    }
+
+    /// The problems that are judged otherwise than the others, by their names.
+    pub fn modes(&self) -> &Modes
+        ensures { result.now ≡ self.now.modes }
+    {
+        &self.modes
+    }
+
+    /// Gives the modes of the problems, without taking memory.
+    pub fn into_modes(self) -> Modes
+        ensures { result ≡ self.modes }
+    {
+        self.modes
     }
 
     /// How long a lease lasts, in seconds: from 1 to 1,000,000.

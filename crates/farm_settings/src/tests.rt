@@ -1,6 +1,6 @@
 use crate::worked::{worked_faults, worked_texts, worked_values};
 use crate::{Setting, Settings, SettingsErr, SettingsFault, read_settings};
-use farm_kinds::{Kind, Mode, NoMemory, Rule};
+use farm_kinds::{Kind, Mode, NoMemory, ProblemMode, Rule};
 use std::alloc::{AllocError, Global};
 use std::test::Fail;
 
@@ -25,7 +25,7 @@ fn fault_text(alloc: Global, text: &[u8]) -> Result<Vec<u8>, AllocError> {
     Ok(shown)
 }
 
-const FAULTS: [(&[u8], &[u8]); 51] = [
+const FAULTS: [(&[u8], &[u8]); 57] = [
     (b"", b"not json"),
     (b" ", b"not json"),
     (b"lease", b"not json"),
@@ -95,6 +95,15 @@ const FAULTS: [(&[u8], &[u8]); 51] = [
         b"bad run-error",
     ),
     (b"{\"results_remap\":{\"run-error\":1}}", b"bad run-error"),
+    (b"{\"problem_modes\":[]}", b"bad problem_modes"),
+    (
+        b"{\"problem_modes\":{\"A\":\"on-demand\",\"b-2\":\"full\",\"c_\":\"lazy\"}}",
+        b"none",
+    ),
+    (b"{\"problem_modes\":{\"A\":\"ondemand\"}}", b"bad A"),
+    (b"{\"problem_modes\":{\"A\":null}}", b"bad A"),
+    (b"{\"problem_modes\":{\"A b\":\"lazy\"}}", b"unknown A b"),
+    (b"{\"problem_modes\":{\"\":\"lazy\"}}", b"unknown "),
     (b"{\"lease\":0,\"lease\":60}", b"none"),
     (b"{\"lease\":60,\"lease\":0}", b"bad lease"),
     (
@@ -156,6 +165,7 @@ fn says_nothing(rt: HostRuntime) -> Result<(), Fail> {
     assert_eq!(rt; settings.lease(), 60);
     assert_eq!(rt; settings.verification(), false);
     assert_eq!(rt; settings.ips(), 10_000_000);
+    assert!(rt; settings.modes().as_slice().is_empty());
     for kind in Kind::ALL {
         assert_eq!(rt; settings.rule().prio(kind), Rule::standard().prio(kind));
         assert_eq!(rt; settings.rule().remap(kind), kind);
@@ -168,12 +178,22 @@ fn says_all(rt: HostRuntime) -> Result<(), Fail> {
     let text =
         b"{\"verification_required\": true, \"results_remap\": {\"no-output\": \"wrong-answer\"},
         \"results_prio\": {\"timelimit\": 100, \"correct\": 0}, \"lease\": 5,
+        \"problem_modes\": {\"B\": \"full\", \"A\": \"on-demand\"},
         \"lazy_eval_results\": false, \"instructions_per_second\": 2000}";
     let settings = settings(rt.alloc(), text)?.copy()?;
     assert_eq!(rt; settings.mode(), Mode::Full);
     assert_eq!(rt; settings.lease(), 5);
     assert_eq!(rt; settings.verification(), true);
     assert_eq!(rt; settings.ips(), 2000);
+    let modes = settings.modes().as_slice();
+    assert_eq!(rt; modes.len(), 2);
+    for (mode, (name, want)) in modes
+        .iter()
+        .zip([(b"A", ProblemMode::OnDemand), (b"B", ProblemMode::Full)])
+    {
+        assert_eq!(rt; mode.name.as_bytes(), name.as_slice());
+        assert_eq!(rt; mode.mode, want);
+    }
     let rule = settings.rule();
     for (kind, prio) in Kind::ALL.iter().zip([0, 30, 99, 100, 10, 99, 99, 99]) {
         assert_eq!(rt; rule.prio(*kind), prio);

@@ -1,11 +1,11 @@
 ghost use Rattle.std.specs.Prelude.{◌≡◌, ◌≤◌, Ok, Err, IfOk, IfErr, IfSome};
 ghost use Rattle.serde_json.specs.View.{view, members_view};
 ghost use Rattle.serde_json.specs.Find.{as_bool, as_object};
-ghost use Rattle.farm_settings.specs.Values.{whole, kind_of, mode_of};
+ghost use Rattle.farm_settings.specs.Values.{whole, kind_of, mode_of, problem_mode_named, problem_mode_of};
 ghost use Rattle.farm_settings.specs.Entries.{IsReading, said_at};
 
 use crate::faults::{SettingsErr, bad_value};
-use farm_kinds::{Kind, Mode};
+use farm_kinds::{Kind, Mode, ProblemMode};
 use serde_json::{Map, Value};
 use std::alloc::Global;
 
@@ -28,6 +28,43 @@ fn kind_of(value: &Value) -> Option<Kind>
 {
     let name = value.as_str()?;
     Kind::read(name.as_bytes())
+}
+
+/// The mode of a problem that a word names. None where it names none.
+fn problem_mode_named(word: &[u8]) -> Option<ProblemMode>
+    ensures { result ≡ problem_mode_named word.now }
+{
+    if word == b"lazy".as_slice() {
+        Some(ProblemMode::Lazy)
+    } else if word == b"full".as_slice() {
+        Some(ProblemMode::Full)
+    } else if word == b"on-demand".as_slice() {
+        Some(ProblemMode::OnDemand)
+    } else {
+        None
+    }
+}
+
+/// The mode of a problem that a value names. None where it names none.
+fn problem_mode_of(value: &Value) -> Option<ProblemMode>
+    ensures { result ≡ problem_mode_of (view value.now) }
+{
+    let word = value.as_str()?;
+    problem_mode_named(word.as_bytes())
+}
+
+/// The mode of a problem at the key, which must be one.
+pub(crate) fn problem_mode_at(
+    alloc: Global,
+    key: &str,
+    value: &Value,
+) -> Result<ProblemMode, SettingsErr>
+    ensures { IsReading (said_at key.now (problem_mode_of (view value.now))) result }
+{
+    match problem_mode_of(value) {
+        Some(mode) => Ok(mode),
+        None => Err(bad_value(alloc, key)),
+    }
 }
 
 /// The whole number at the key, which must be in range.

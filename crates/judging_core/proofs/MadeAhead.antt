@@ -1,9 +1,10 @@
 -- Judgings that are made ahead, the next one last.
-use Rattle.std.proofs.Common.{ℕ, ◌≡◌, ◌∙◌, List, [], ◌∷◌, ◌++◌, true, false, refl, sym, ap, arith, map}
+use Rattle.std.proofs.Common.{ℕ, ◌≡◌, ◌∙◌, List, [], ◌∷◌, ◌++◌, Bool, true, false, refl, sym, ap, arith, map}
 use Rattle.std.specs.Prelude.{reverse}
 use Rattle.std.proofs.lemmas.List.{map-append, reverse-append}
 use Rattle.std.proofs.lemmas.Bool.Decides.{nat_tests}
 use Rattle.farm_kinds.specs.declared.outcomes.Class.{Class}
+use Rattle.farm_kinds.specs.declared.outcomes.Mode.{Mode}
 use Rattle.farm_model.specs.Judgings.{Judging, empty_judging}
 use Rattle.judging_core.specs.JudgeValue.{starts_with, left_reserved}
 use Rattle.judging_core.specs.JudgeShape.{judging_value, cell_count, reserved_of, IsPrepared}
@@ -21,9 +22,11 @@ pub next_tests : (all prepared : List KeptJudging) (kept : KeptJudging) (tests :
 next_tests all prepared kept tests e h =
     first_is (cell_count kept) tests (reserved_of prepared) (ap (λ reserved. starts_with reserved tests) (sym (ap reserved_of e ∙ reserved_push prepared kept)) ∙ h)
 
--- the class of what is made ahead is set when it is used
-pub other_class : (kept : KeptJudging) (class : Class) (tests : ℕ) → IsPrepared kept → cell_count kept ≡ tests → judging_value (record kept { class = class }) ≡ empty_judging class tests
-other_class kept class tests h e = ap (λ (j : Judging). record j { class = class }) h.empty ∙ ap (empty_judging class) e
+-- the class and the mode of what is made ahead, and whether it is asked for, are set when it is used
+pub used_as : (kept : KeptJudging) (class : Class) (tests : ℕ) (mode : Mode) (asked : Bool) → IsPrepared kept → cell_count kept ≡ tests
+    → judging_value (record kept { class = class; mode = mode; asked = asked }) ≡ empty_judging class tests mode asked
+used_as kept class tests mode asked h e =
+    ap (λ (j : Judging). record j { class = class; mode = mode; asked = asked }) h.empty ∙ ap (λ n. empty_judging class n mode asked) e
 
 pub none_left : (reserved : List ℕ) (tests : ℕ) → starts_with reserved tests ≡ false → left_reserved reserved tests ≡ []
 none_left [] tests h = refl

@@ -14,7 +14,7 @@ use Rattle.farm_kinds.specs.RuleValue.{RuleValue}
 use Rattle.farm_model.specs.declared.records.Lease.{Lease}
 use Rattle.farm_model.specs.Numbered.{item_of}
 use Rattle.farm_model.specs.Judgings.{Judging, task_of}
-use Rattle.farm_model.specs.Open.{same_class, is_free, is_empty_cell, is_wanted, open_in, open_in_class, open_tasks}
+use Rattle.farm_model.specs.Open.{same_class, is_free, is_empty_cell, is_wanted, is_active, open_in, open_in_class, open_tasks}
 use Rattle.task_tree.specs.Shown.{JudgingTasks, is_shown, is_shown_test, shown_in, shown_in_class, shown_tasks, first_shown}
 use Rattle.judging_core.specs.Listed.{is_open, is_open_in, is_open_cell, judging_classes, listed_classes, Begins, IsListed}
 
@@ -93,23 +93,23 @@ both false true h = let f = h refl in cc
 both false false h = refl
 
 -- the open tasks of a judging are those of the shown ones that pass the test
-abbrev opens : RuleValue → Mode → List Lease → ℕ → Judging → ℕ → Bool
-opens rule mode leases n judging test = is_open_in rule mode test (Some judging) && is_free leases (task_of n test)
+abbrev opens : RuleValue → List Lease → ℕ → Judging → ℕ → Bool
+opens rule leases n judging test = is_open_in rule test (Some judging) && is_free leases (task_of n test)
 
-open_numbers : (rule : RuleValue) (mode : Mode) (leases : List Lease) (n : ℕ) (judging : Judging) (i : ℕ) → judging.dropped ≡ false → i < length judging.row
-    → (is_empty_cell judging.row (1 + i) && (is_wanted rule mode judging.row (1 + i) && is_free leases (task_of n (1 + i)))) ≡ opens rule mode leases n judging (1 + i)
-open_numbers rule mode leases n judging i live l =
+open_numbers : (rule : RuleValue) (leases : List Lease) (n : ℕ) (judging : Judging) (i : ℕ) → is_active judging ≡ true → i < length judging.row
+    → (is_empty_cell judging.row (1 + i) && (is_wanted rule judging.mode judging.row (1 + i) && is_free leases (task_of n (1 + i)))) ≡ opens rule leases n judging (1 + i)
+open_numbers rule leases n judging i live l =
     let cell = get_some judging.row i l in
     let place : 1 + i - 1 ≡ i = omega arith in
     let item : item_of judging.row (1 + i) ≡ Some cell.0 = item_next judging.row i ∙ cell.1 in
     let empty : is_empty_cell judging.row (1 + i) ≡ is_none cell.0 = ap (λ m. is_none (slice_index_or judging.row m None)) place ∙ ap is_none (read_or judging.row i None ∙ ap (λ o. unwrap_or o None) cell.1) in
     rw (empty, item) (by_cell cell.0) where
-      by_cell : (c : Option Kind) → (is_none c && (is_wanted rule mode judging.row (1 + i) && is_free leases (task_of n (1 + i)))) ≡ (is_open_cell rule mode judging (1 + i) (Some c) && is_free leases (task_of n (1 + i)))
+      by_cell : (c : Option Kind) → (is_none c && (is_wanted rule judging.mode judging.row (1 + i) && is_free leases (task_of n (1 + i)))) ≡ (is_open_cell rule judging (1 + i) (Some c) && is_free leases (task_of n (1 + i)))
       by_cell (Some k) = refl
       by_cell None = rw live refl
 
-past_closed : (rule : RuleValue) (mode : Mode) (leases : List Lease) (n : ℕ) (judging : Judging) (i : ℕ) → length judging.row ≤ i → opens rule mode leases n judging (1 + i) ≡ false
-past_closed rule mode leases n judging i l = rw (item_next judging.row i ∙ get_past judging.row i l) refl
+past_closed : (rule : RuleValue) (leases : List Lease) (n : ℕ) (judging : Judging) (i : ℕ) → length judging.row ≤ i → opens rule leases n judging (1 + i) ≡ false
+past_closed rule leases n judging i l = rw (item_next judging.row i ∙ get_past judging.row i l) refl
 
 -- the test of a judging is shown
 abbrev shows : JudgingTasks → ℕ → Bool
@@ -123,23 +123,23 @@ shows_as tasks i =
 shows_past : (tasks : JudgingTasks) (i : ℕ) → length tasks.shown ≤ i → shows tasks (1 + i) ≡ false
 shows_past tasks i l = ap (λ (o : Option Bool). unwrap_or o false) (item_next tasks.shown i ∙ get_past tasks.shown i l)
 
-one_judging : (rule : RuleValue) (mode : Mode) (leases : List Lease) (n : ℕ) (judging : Judging) (tasks : JudgingTasks) (test : Task → Bool)
-    → ((t : ℕ) → test (task_of n t) ≡ opens rule mode leases n judging t) → ((t : ℕ) → opens rule mode leases n judging t ≡ true → shows tasks t ≡ true) → judging.dropped ≡ false
-    → open_in rule mode leases (n, judging) ≡ filter test (shown_in (n, tasks))
-one_judging rule mode leases n judging tasks test h shown live =
-    let p : ℕ → Bool = λ t. is_empty_cell judging.row t && (is_wanted rule mode judging.row t && is_free leases (task_of n t)) in
+one_judging : (rule : RuleValue) (leases : List Lease) (n : ℕ) (judging : Judging) (tasks : JudgingTasks) (test : Task → Bool)
+    → ((t : ℕ) → test (task_of n t) ≡ opens rule leases n judging t) → ((t : ℕ) → opens rule leases n judging t ≡ true → shows tasks t ≡ true) → is_active judging ≡ true
+    → open_in rule leases (n, judging) ≡ filter test (shown_in (n, tasks))
+one_judging rule leases n judging tasks test h shown live =
+    let p : ℕ → Bool = λ t. is_empty_cell judging.row t && (is_wanted rule judging.mode judging.row t && is_free leases (task_of n t)) in
     let q : ℕ → Bool = λ t. is_shown_test tasks.shown t && test (task_of n t) in
-    let seen : (i : ℕ) → q (1 + i) ≡ opens rule mode leases n judging (1 + i) = λ i.
-    ap (λ b. b && test (task_of n (1 + i))) (shows_as tasks i) ∙ ap (λ b. shows tasks (1 + i) && b) (h (1 + i)) ∙ both (shows tasks (1 + i)) (opens rule mode leases n judging (1 + i)) (shown (1 + i)) in
-    fused (is_empty_cell judging.row) (is_wanted rule mode judging.row) (is_free leases) (task_of n) (range_with_len 1 (length judging.row))
+    let seen : (i : ℕ) → q (1 + i) ≡ opens rule leases n judging (1 + i) = λ i.
+    ap (λ b. b && test (task_of n (1 + i))) (shows_as tasks i) ∙ ap (λ b. shows tasks (1 + i) && b) (h (1 + i)) ∙ both (shows tasks (1 + i)) (opens rule leases n judging (1 + i)) (shown (1 + i)) in
+    fused (is_empty_cell judging.row) (is_wanted rule judging.mode judging.row) (is_free leases) (task_of n) (range_with_len 1 (length judging.row))
     ∙ ap (map (task_of n)) (same_in p q 1 (length judging.row) (length tasks.shown)
-    (λ i l k. open_numbers rule mode leases n judging i live l ∙ sym (seen i))
-    (λ i l k. open_numbers rule mode leases n judging i live k ∙ not_shown i l)
-    (λ i l k. seen i ∙ past_closed rule mode leases n judging i l))
+    (λ i l k. open_numbers rule leases n judging i live l ∙ sym (seen i))
+    (λ i l k. open_numbers rule leases n judging i live k ∙ not_shown i l)
+    (λ i l k. seen i ∙ past_closed rule leases n judging i l))
     ∙ sym (fused_shown (is_shown_test tasks.shown) test (task_of n) (range_with_len 1 (length tasks.shown))) where
-      not_shown : (i : ℕ) → length tasks.shown ≤ i → opens rule mode leases n judging (1 + i) ≡ false
-      not_shown i l = by_bool (opens rule mode leases n judging (1 + i)) refl where
-        by_bool : (b : Bool) → opens rule mode leases n judging (1 + i) ≡ b → b ≡ false
+      not_shown : (i : ℕ) → length tasks.shown ≤ i → opens rule leases n judging (1 + i) ≡ false
+      not_shown i l = by_bool (opens rule leases n judging (1 + i)) refl where
+        by_bool : (b : Bool) → opens rule leases n judging (1 + i) ≡ b → b ≡ false
         by_bool true e = let a = shown (1 + i) e in let b = shows_past tasks i l in cc
         by_bool false e = refl
 
@@ -153,94 +153,94 @@ none_of test n (t ∷ ts) h = rw (h t) (none_of test n ts h)
 
 -- ---- the judgings of a class
 
-abbrev open_from : RuleValue → Mode → List Lease → Class → ℕ → List Judging → List Task
-open_from rule mode leases class n judgings =
-    flat_map (open_in rule mode leases) (filter (λ p. same_class p.1.class class) (filter (λ p. not p.1.dropped) (enumerate_from n judgings)))
+abbrev open_from : RuleValue → List Lease → Class → ℕ → List Judging → List Task
+open_from rule leases class n judgings =
+    flat_map (open_in rule leases) (filter (λ p. same_class p.1.class class) (filter (λ p. is_active p.1) (enumerate_from n judgings)))
 
 abbrev shown_from : Class → ℕ → List JudgingTasks → List Task
 shown_from class n tasks = flat_map shown_in (filter (λ p. same_class p.1.class class) (enumerate_from n tasks))
 
 -- how the test of tasks and the shown tasks of a judging belong together
-record IsTestOf (rule : RuleValue) (mode : Mode) (leases : List Lease) (n : ℕ) (judging : Option Judging) (tasks : JudgingTasks) (test : Task → Bool) : Type 0 where
-  opens : (t : ℕ) → test (task_of n t) ≡ (is_open_in rule mode t judging && is_free leases (task_of n t))
+record IsTestOf (rule : RuleValue) (leases : List Lease) (n : ℕ) (judging : Option Judging) (tasks : JudgingTasks) (test : Task → Bool) : Type 0 where
+  opens : (t : ℕ) → test (task_of n t) ≡ (is_open_in rule t judging && is_free leases (task_of n t))
   shown : (t : ℕ) → test (task_of n t) ≡ true → shows tasks t ≡ true
 
-dropped_closed : (rule : RuleValue) (mode : Mode) (leases : List Lease) (n : ℕ) (judging : Judging) (t : ℕ) → judging.dropped ≡ true → opens rule mode leases n judging t ≡ false
-dropped_closed rule mode leases n judging t gone = by_item (item_of judging.row t) where
-  by_item : (o : Option (Option Kind)) → (is_open_cell rule mode judging t o && is_free leases (task_of n t)) ≡ false
+inactive_closed : (rule : RuleValue) (leases : List Lease) (n : ℕ) (judging : Judging) (t : ℕ) → is_active judging ≡ false → opens rule leases n judging t ≡ false
+inactive_closed rule leases n judging t gone = by_item (item_of judging.row t) where
+  by_item : (o : Option (Option Kind)) → (is_open_cell rule judging t o && is_free leases (task_of n t)) ≡ false
   by_item None = refl
   by_item (Some (Some k)) = refl
   by_item (Some None) = rw gone refl
 
-in_judging : (rule : RuleValue) (mode : Mode) (leases : List Lease) (n : ℕ) (judging : Judging) (tasks : JudgingTasks) (test : Task → Bool)
-    → IsTestOf rule mode leases n (Some judging) tasks test → (b : Bool) → judging.dropped ≡ b
-    → cond (not b) (open_in rule mode leases (n, judging)) [] ≡ filter test (shown_in (n, tasks))
-in_judging rule mode leases n judging tasks test h false live =
-    one_judging rule mode leases n judging tasks test h.opens (λ t o. h.shown t (h.opens t ∙ o)) live
-in_judging rule mode leases n judging tasks test h true gone =
-    sym (none_of test n (filter (is_shown_test tasks.shown) (range_with_len 1 (length tasks.shown))) (λ t. h.opens t ∙ dropped_closed rule mode leases n judging t gone))
+in_judging : (rule : RuleValue) (leases : List Lease) (n : ℕ) (judging : Judging) (tasks : JudgingTasks) (test : Task → Bool)
+    → IsTestOf rule leases n (Some judging) tasks test → (b : Bool) → is_active judging ≡ b
+    → cond b (open_in rule leases (n, judging)) [] ≡ filter test (shown_in (n, tasks))
+in_judging rule leases n judging tasks test h true live =
+    one_judging rule leases n judging tasks test h.opens (λ t o. h.shown t (h.opens t ∙ o)) live
+in_judging rule leases n judging tasks test h false gone =
+    sym (none_of test n (filter (is_shown_test tasks.shown) (range_with_len 1 (length tasks.shown))) (λ t. h.opens t ∙ inactive_closed rule leases n judging t gone))
 
 -- one judging before others
-put_before : (rule : RuleValue) (mode : Mode) (leases : List Lease) (class : Class) (n : ℕ) (judging : Judging) (tasks : JudgingTasks) (test : Task → Bool) (js : List (ℕ × Judging)) (ts : List (ℕ × JudgingTasks)) (d s : Bool)
-    → cond (not d) (open_in rule mode leases (n, judging)) [] ≡ filter test (shown_in (n, tasks))
+put_before : (rule : RuleValue) (leases : List Lease) (class : Class) (n : ℕ) (judging : Judging) (tasks : JudgingTasks) (test : Task → Bool) (js : List (ℕ × Judging)) (ts : List (ℕ × JudgingTasks)) (a s : Bool)
+    → cond a (open_in rule leases (n, judging)) [] ≡ filter test (shown_in (n, tasks))
     → same_class judging.class class ≡ s
-    → flat_map (open_in rule mode leases) (filter (λ p. same_class p.1.class class) js) ≡ filter test (flat_map shown_in ts)
-    → flat_map (open_in rule mode leases) (filter (λ p. same_class p.1.class class) (cond (not d) ((n, judging) ∷ js) js)) ≡ filter test (flat_map shown_in (cond s ((n, tasks) ∷ ts) ts))
-put_before rule mode leases class n judging tasks test js ts false true h e rest =
-    rw e (ap (λ xs. xs ++ flat_map (open_in rule mode leases) (filter (λ p. same_class p.1.class class) js)) h ∙ ap (λ ys. filter test (shown_in (n, tasks)) ++ ys) rest ∙ sym (filter-append test (shown_in (n, tasks)) (flat_map shown_in ts)))
-put_before rule mode leases class n judging tasks test js ts false false h e rest = rw e rest
-put_before rule mode leases class n judging tasks test js ts true true h e rest =
+    → flat_map (open_in rule leases) (filter (λ p. same_class p.1.class class) js) ≡ filter test (flat_map shown_in ts)
+    → flat_map (open_in rule leases) (filter (λ p. same_class p.1.class class) (cond a ((n, judging) ∷ js) js)) ≡ filter test (flat_map shown_in (cond s ((n, tasks) ∷ ts) ts))
+put_before rule leases class n judging tasks test js ts true true h e rest =
+    rw e (ap (λ xs. xs ++ flat_map (open_in rule leases) (filter (λ p. same_class p.1.class class) js)) h ∙ ap (λ ys. filter test (shown_in (n, tasks)) ++ ys) rest ∙ sym (filter-append test (shown_in (n, tasks)) (flat_map shown_in ts)))
+put_before rule leases class n judging tasks test js ts true false h e rest = rw e rest
+put_before rule leases class n judging tasks test js ts false true h e rest =
     rest ∙ ap (λ xs. xs ++ filter test (flat_map shown_in ts)) h ∙ sym (filter-append test (shown_in (n, tasks)) (flat_map shown_in ts))
-put_before rule mode leases class n judging tasks test js ts true false h e rest = rest
+put_before rule leases class n judging tasks test js ts false false h e rest = rest
 
 -- no task of a judging that is not there is open
-none_behind : (rule : RuleValue) (mode : Mode) (leases : List Lease) (class : Class) (n : ℕ) (all : List JudgingTasks) (test : Task → Bool)
-    → ((i : ℕ) (tasks : JudgingTasks) → slice_get all i ≡ Some tasks → IsTestOf rule mode leases (n + i) None tasks test) → [] ≡ filter test (shown_from class n all)
-none_behind rule mode leases class n [] test h = refl
-none_behind rule mode leases class n (tasks ∷ all) test h =
+none_behind : (rule : RuleValue) (leases : List Lease) (class : Class) (n : ℕ) (all : List JudgingTasks) (test : Task → Bool)
+    → ((i : ℕ) (tasks : JudgingTasks) → slice_get all i ≡ Some tasks → IsTestOf rule leases (n + i) None tasks test) → [] ≡ filter test (shown_from class n all)
+none_behind rule leases class n [] test h = refl
+none_behind rule leases class n (tasks ∷ all) test h =
     let at : n + 0 ≡ n = omega arith in
     let first = (h 0 tasks refl).opens in
     let here : filter test (shown_in (n, tasks)) ≡ [] = none_of test n (filter (is_shown_test tasks.shown) (range_with_len 1 (length tasks.shown))) (λ t. ap (λ m. test (task_of m t)) (sym at) ∙ first t) in
-    let rest = none_behind rule mode leases class (n + 1) all test (λ i x e. ap_test (h (suc i) x e) (omega arith)) in
+    let rest = none_behind rule leases class (n + 1) all test (λ i x e. ap_test (h (suc i) x e) (omega arith)) in
     by_class (same_class tasks.class class) here rest where
-      ap_test : {m k : ℕ} {x : JudgingTasks} → IsTestOf rule mode leases m None x test → m ≡ k → IsTestOf rule mode leases k None x test
-      ap_test {m} {k} {x} a e = subst (λ (j : ℕ). IsTestOf rule mode leases j None x test) e a
+      ap_test : {m k : ℕ} {x : JudgingTasks} → IsTestOf rule leases m None x test → m ≡ k → IsTestOf rule leases k None x test
+      ap_test {m} {k} {x} a e = subst (λ (j : ℕ). IsTestOf rule leases j None x test) e a
 
       by_class : (s : Bool) → filter test (shown_in (n, tasks)) ≡ [] → [] ≡ filter test (shown_from class (n + 1) all)
           → [] ≡ filter test (flat_map shown_in (cond s ((n, tasks) ∷ filter (λ p. same_class p.1.class class) (enumerate_from (n + 1) all)) (filter (λ p. same_class p.1.class class) (enumerate_from (n + 1) all))))
       by_class true here rest = rest ∙ ap (λ xs. xs ++ filter test (shown_from class (n + 1) all)) (sym here) ∙ sym (filter-append test (shown_in (n, tasks)) (shown_from class (n + 1) all))
       by_class false here rest = rest
 
-of_class : (rule : RuleValue) (mode : Mode) (leases : List Lease) (class : Class) (n : ℕ) (judgings : List Judging) (all : List JudgingTasks) (test : Task → Bool)
+of_class : (rule : RuleValue) (leases : List Lease) (class : Class) (n : ℕ) (judgings : List Judging) (all : List JudgingTasks) (test : Task → Bool)
     → Begins (judging_classes judgings) (listed_classes all)
-    → ((i : ℕ) (tasks : JudgingTasks) → slice_get all i ≡ Some tasks → IsTestOf rule mode leases (n + i) (slice_get judgings i) tasks test)
-    → open_from rule mode leases class n judgings ≡ filter test (shown_from class n all)
-of_class rule mode leases class n [] all test b h = none_behind rule mode leases class n all test h
-of_class rule mode leases class n (judging ∷ judgings) [] test b h = absurd b
-of_class rule mode leases class n (judging ∷ judgings) (tasks ∷ all) test b h =
+    → ((i : ℕ) (tasks : JudgingTasks) → slice_get all i ≡ Some tasks → IsTestOf rule leases (n + i) (slice_get judgings i) tasks test)
+    → open_from rule leases class n judgings ≡ filter test (shown_from class n all)
+of_class rule leases class n [] all test b h = none_behind rule leases class n all test h
+of_class rule leases class n (judging ∷ judgings) [] test b h = absurd b
+of_class rule leases class n (judging ∷ judgings) (tasks ∷ all) test b h =
     let at : n + 0 ≡ n = omega arith in
-    let first : IsTestOf rule mode leases n (Some judging) tasks test = subst (λ (m : ℕ). IsTestOf rule mode leases m (Some judging) tasks test) at (h 0 tasks refl) in
+    let first : IsTestOf rule leases n (Some judging) tasks test = subst (λ (m : ℕ). IsTestOf rule leases m (Some judging) tasks test) at (h 0 tasks refl) in
     let same : same_class judging.class class ≡ same_class tasks.class class = ap (λ c. same_class c class) (sym b.0) in
-    put_before rule mode leases class n judging tasks test (filter (λ p. not p.1.dropped) (enumerate_from (n + 1) judgings)) (filter (λ p. same_class p.1.class class) (enumerate_from (n + 1) all)) judging.dropped (same_class tasks.class class)
-    (in_judging rule mode leases n judging tasks test first judging.dropped refl) same
-    (of_class rule mode leases class (n + 1) judgings all test b.1 (λ i x e. subst (λ (m : ℕ). IsTestOf rule mode leases m (slice_get judgings i) x test) (omega arith) (h (suc i) x e)))
+    put_before rule leases class n judging tasks test (filter (λ p. is_active p.1) (enumerate_from (n + 1) judgings)) (filter (λ p. same_class p.1.class class) (enumerate_from (n + 1) all)) (is_active judging) (same_class tasks.class class)
+    (in_judging rule leases n judging tasks test first (is_active judging) refl) same
+    (of_class rule leases class (n + 1) judgings all test b.1 (λ i x e. subst (λ (m : ℕ). IsTestOf rule leases m (slice_get judgings i) x test) (omega arith) (h (suc i) x e)))
 
 -- ---- all of them
 
-tests_of : (rule : RuleValue) (mode : Mode) (judgings : List Judging) (leases : List Lease) (tasks : List JudgingTasks) → IsListed rule mode judgings leases tasks
-    → (i : ℕ) (x : JudgingTasks) → slice_get tasks i ≡ Some x → IsTestOf rule mode leases (1 + i) (slice_get judgings i) x (is_open rule mode judgings leases)
-tests_of rule mode judgings leases tasks h i x e = record {
-  opens = λ t. ap (λ o. is_open_in rule mode t o && is_free leases (task_of (1 + i) t)) (item_next judgings i);
+tests_of : (rule : RuleValue) (judgings : List Judging) (leases : List Lease) (tasks : List JudgingTasks) → IsListed rule judgings leases tasks
+    → (i : ℕ) (x : JudgingTasks) → slice_get tasks i ≡ Some x → IsTestOf rule leases (1 + i) (slice_get judgings i) x (is_open rule judgings leases)
+tests_of rule judgings leases tasks h i x e = record {
+  opens = λ t. ap (λ o. is_open_in rule t o && is_free leases (task_of (1 + i) t)) (item_next judgings i);
   shown = λ t o. shown_there t (h.shown (task_of (1 + i) t) o);
 } where
   shown_there : (t : ℕ) → is_shown tasks (task_of (1 + i) t) ≡ true → shows x t ≡ true
   shown_there t s = let item : item_of tasks (1 + i) ≡ Some x = item_next tasks i ∙ e in rw item at s
 
-pub all_open : (rule : RuleValue) (mode : Mode) (judgings : List Judging) (leases : List Lease) (tasks : List JudgingTasks) → IsListed rule mode judgings leases tasks
-    → open_tasks rule mode judgings leases ≡ filter (is_open rule mode judgings leases) (shown_tasks tasks)
-all_open rule mode judgings leases tasks h =
-    let test = is_open rule mode judgings leases in
-    let class : (c : Class) → open_in_class rule mode judgings leases c ≡ filter test (shown_in_class tasks c) = λ c. of_class rule mode leases c 1 judgings tasks test h.classes (tests_of rule mode judgings leases tasks h) in
+pub all_open : (rule : RuleValue) (judgings : List Judging) (leases : List Lease) (tasks : List JudgingTasks) → IsListed rule judgings leases tasks
+    → open_tasks rule judgings leases ≡ filter (is_open rule judgings leases) (shown_tasks tasks)
+all_open rule judgings leases tasks h =
+    let test = is_open rule judgings leases in
+    let class : (c : Class) → open_in_class rule judgings leases c ≡ filter test (shown_in_class tasks c) = λ c. of_class rule leases c 1 judgings tasks test h.classes (tests_of rule judgings leases tasks h) in
     rw (class High, class Normal, class Low)
     (sym (filter-append test (shown_in_class tasks High ++ shown_in_class tasks Normal) (shown_in_class tasks Low) ∙ ap (λ xs. xs ++ filter test (shown_in_class tasks Low)) (filter-append test (shown_in_class tasks High) (shown_in_class tasks Normal))))
 
@@ -256,13 +256,13 @@ no_first [] e = refl
 no_first (x ∷ xs) e = cc
 
 -- the first listed task is the first open one, if it is open
-pub first_is_open : (rule : RuleValue) (mode : Mode) (judgings : List Judging) (leases : List Lease) (tasks : List JudgingTasks) (task : Task) → IsListed rule mode judgings leases tasks
-    → Some task ≡ first_shown tasks → is_open rule mode judgings leases task ≡ true → Some task ≡ slice_get (open_tasks rule mode judgings leases) 0
-first_is_open rule mode judgings leases tasks task h e o =
-    sym (ap (λ xs. slice_get xs 0) (all_open rule mode judgings leases tasks h) ∙ first_kept (is_open rule mode judgings leases) (shown_tasks tasks) task (sym e) o)
+pub first_is_open : (rule : RuleValue) (judgings : List Judging) (leases : List Lease) (tasks : List JudgingTasks) (task : Task) → IsListed rule judgings leases tasks
+    → Some task ≡ first_shown tasks → is_open rule judgings leases task ≡ true → Some task ≡ slice_get (open_tasks rule judgings leases) 0
+first_is_open rule judgings leases tasks task h e o =
+    sym (ap (λ xs. slice_get xs 0) (all_open rule judgings leases tasks h) ∙ first_kept (is_open rule judgings leases) (shown_tasks tasks) task (sym e) o)
 
 -- where nothing is listed nothing is open
-pub none_is_open : (rule : RuleValue) (mode : Mode) (judgings : List Judging) (leases : List Lease) (tasks : List JudgingTasks) → IsListed rule mode judgings leases tasks
-    → None ≡ first_shown tasks → None ≡ slice_get (open_tasks rule mode judgings leases) 0
-none_is_open rule mode judgings leases tasks h e =
-    sym (ap (λ xs. slice_get xs 0) (all_open rule mode judgings leases tasks h ∙ ap (filter (is_open rule mode judgings leases)) (no_first (shown_tasks tasks) (sym e))))
+pub none_is_open : (rule : RuleValue) (judgings : List Judging) (leases : List Lease) (tasks : List JudgingTasks) → IsListed rule judgings leases tasks
+    → None ≡ first_shown tasks → None ≡ slice_get (open_tasks rule judgings leases) 0
+none_is_open rule judgings leases tasks h e =
+    sym (ap (λ xs. slice_get xs 0) (all_open rule judgings leases tasks h ∙ ap (filter (is_open rule judgings leases)) (no_first (shown_tasks tasks) (sym e))))

@@ -13,7 +13,6 @@ abbrev pub judge_state : Inside → JudgeState
 judge_state a =
     record {
       rule = a.rule;
-      mode = a.mode;
       lease = a.lease;
       now = a.moment;
       judgings = judging_values a.judgings.items;
@@ -41,6 +40,6 @@ pub record IsJudgeLayout (a : Inside) : Type 0 where
   -- room for all that is made ahead
   pub spare : vec_len a.judgings + vec_len a.prepared ≤ vec_capacity a.judgings
   -- each open task is listed
-  pub listed : IsListed a.rule a.mode (judging_values a.judgings.items) a.leases.leases a.tasks
+  pub listed : IsListed a.rule (judging_values a.judgings.items) a.leases.leases a.tasks
   -- the list has room for all that is made ahead, as far as there can be judgings
   pub ahead : (k : ℕ) → k ≤ length a.judgings.items + length a.prepared.items → k ≤ max_judgings → k ≤ length a.tasks

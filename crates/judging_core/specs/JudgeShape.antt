@@ -8,8 +8,14 @@ use Rattle.lazy_stop.specs.Matters.{IsPossible}
 use Rattle.judging_core.specs.declared.judgings.KeptJudging.{KeptJudging}
 
 abbrev pub judging_value : KeptJudging → Judging
-judging_value kept =
-    record { class = kept.class; row = kept.row.cells; handed = kept.handed.items; dropped = kept.dropped }
+judging_value kept = record {
+  class = kept.class;
+  mode = kept.mode;
+  asked = kept.asked;
+  row = kept.row.cells;
+  handed = kept.handed.items;
+  dropped = kept.dropped;
+}
 
 abbrev pub judging_values : List KeptJudging → List Judging
 judging_values judgings = map judging_value judgings
@@ -36,6 +42,10 @@ CanHold kind kept = IsPossible kept.row.rule kind
 abbrev pub CanAllHold : Kind → List KeptJudging → Type 0
 CanAllHold kind judgings = All (CanHold kind) judgings
 
+-- how many cells the row has
+abbrev pub row_length : Judging → ℕ
+row_length judging = length judging.row
+
 -- Judgings that are made ahead, the next one last
 
 abbrev pub cell_count : KeptJudging → ℕ
@@ -47,7 +57,7 @@ reserved_of prepared = reverse (map cell_count prepared)
 
 -- nothing of it was handed out or judged
 pub record IsPrepared (kept : KeptJudging) : Type 0 where
-  pub empty : judging_value kept ≡ empty_judging kept.class (cell_count kept)
+  pub empty : judging_value kept ≡ empty_judging kept.class (cell_count kept) kept.mode kept.asked
   pub short : IsWellKept kept
 
 abbrev pub ArePrepared : List KeptJudging → Type 0

@@ -15,8 +15,8 @@ pub record JudgeValue : Type 0 where
   pub reserved : List ℕ
 
 -- no judgings and no hosts, and nothing is made ahead
-abbrev pub first_judge : RuleValue → Mode → ℕ → JudgeValue
-first_judge rule mode lease = record { state = first_state rule mode lease; hosts = 0; reserved = [] }
+abbrev pub first_judge : RuleValue → ℕ → JudgeValue
+first_judge rule lease = record { state = first_state rule lease; hosts = 0; reserved = [] }
 
 -- the judge in another state, with the hosts and the judgings made ahead that it has
 abbrev pub in_state : JudgeValue → JudgeState → JudgeValue
@@ -33,8 +33,8 @@ left_reserved [] tests = []
 left_reserved (next ∷ reserved) tests = if next == tests then reserved else []
 
 -- the judge with one judging more
-abbrev pub with_judging : JudgeValue → Class → ℕ → JudgeValue
-with_judging judge class tests = record judge {
-  state = add_judging judge.state class tests;
+abbrev pub with_judging : JudgeValue → Class → ℕ → Mode → Bool → JudgeValue
+with_judging judge class tests mode asked = record judge {
+  state = add_judging judge.state class tests mode asked;
   reserved = left_reserved judge.reserved tests;
 }

@@ -1,5 +1,5 @@
 -- Which tasks a judge lists for claims: at least each open one.
-use Rattle.std.specs.Prelude.{◌≡◌, ℕ, ◌<◌, ◌≤◌, List, [], ◌∷◌, map, length, All, Option, Some, None, IsSome, Bool, true, false, not, ◌&&◌}
+use Rattle.std.specs.Prelude.{◌≡◌, ◌≢◌, ℕ, ◌<◌, ◌≤◌, List, [], ◌∷◌, map, length, All, Option, Some, None, IsSome, Bool, true, false, not, ◌&&◌}
 use Rattle.farm_kinds.specs.declared.kinds.Kind.{Kind}
 use Rattle.farm_kinds.specs.declared.outcomes.Class.{Class}
 use Rattle.farm_kinds.specs.declared.outcomes.Mode.{Mode}
@@ -9,26 +9,26 @@ use Rattle.farm_model.specs.Limits.{max_tests}
 use Rattle.farm_model.specs.declared.records.Lease.{Lease}
 use Rattle.farm_model.specs.Numbered.{item_of}
 use Rattle.farm_model.specs.Leases.{lease_on}
-use Rattle.farm_model.specs.Judgings.{Judging, cell_of}
-use Rattle.farm_model.specs.Open.{is_free, is_wanted}
+use Rattle.farm_model.specs.Judgings.{Judging, task_of, cell_of}
+use Rattle.farm_model.specs.Open.{is_free, is_wanted, is_active}
 use Rattle.task_tree.specs.Shown.{JudgingTasks, is_shown}
 use Rattle.judging_core.specs.JudgeShape.{judging_values}
 use Rattle.judging_core.specs.declared.judgings.KeptJudging.{KeptJudging}
 
--- the cell is there, empty and wanted, in a judging that takes results
-abbrev pub is_open_cell : RuleValue → Mode → Judging → ℕ → Option (Option Kind) → Bool
-is_open_cell rule mode judging test None = false
-is_open_cell rule mode judging test (Some (Some kind)) = false
-is_open_cell rule mode judging test (Some None) = not judging.dropped && is_wanted rule mode judging.row test
+-- the cell is there, empty and wanted, in a judging that was asked for and takes results
+abbrev pub is_open_cell : RuleValue → Judging → ℕ → Option (Option Kind) → Bool
+is_open_cell rule judging test None = false
+is_open_cell rule judging test (Some (Some kind)) = false
+is_open_cell rule judging test (Some None) = is_active judging && is_wanted rule judging.mode judging.row test
 
-abbrev pub is_open_in : RuleValue → Mode → ℕ → Option Judging → Bool
-is_open_in rule mode test None = false
-is_open_in rule mode test (Some judging) = is_open_cell rule mode judging test (item_of judging.row test)
+abbrev pub is_open_in : RuleValue → ℕ → Option Judging → Bool
+is_open_in rule test None = false
+is_open_in rule test (Some judging) = is_open_cell rule judging test (item_of judging.row test)
 
 -- the task is open
-abbrev pub is_open : RuleValue → Mode → List Judging → List Lease → Task → Bool
-is_open rule mode judgings leases task =
-    is_open_in rule mode task.test (item_of judgings task.judging) && is_free leases task
+abbrev pub is_open : RuleValue → List Judging → List Lease → Task → Bool
+is_open rule judgings leases task =
+    is_open_in rule task.test (item_of judgings task.judging) && is_free leases task
 
 abbrev pub judging_classes : List Judging → List Class
 judging_classes judgings = map (λ judging. judging.class) judgings
@@ -54,12 +54,19 @@ Begins (class ∷ classes) [] = ⊥
 Begins (class ∷ classes) (other ∷ others) = (other ≡ class) × Begins classes others
 
 -- each open task is listed, by the class of its judging; behind the judgings nothing is
-pub record IsListed (rule : RuleValue) (mode : Mode) (judgings : List Judging) (leases : List Lease)
+pub record IsListed (rule : RuleValue) (judgings : List Judging) (leases : List Lease)
     (tasks : List JudgingTasks) : Type 0 where
-  pub shown : (task : Task) → is_open rule mode judgings leases task ≡ true → is_shown tasks task ≡ true
+  pub shown : (task : Task) → is_open rule judgings leases task ≡ true → is_shown tasks task ≡ true
   pub classes : Begins (judging_classes judgings) (listed_classes tasks)
   pub wide : AreWide tasks
   pub rest : (task : Task) → length (judging_classes judgings) < task.judging → is_shown tasks task ≡ false
+
+-- the first tests of a judging are listed; what else is listed, the classes and the room are as they were
+pub record AreTestsShown (judging tests : ℕ) (old new : List JudgingTasks) : Type 0 where
+  pub shown : (test : ℕ) → 1 ≤ test → test ≤ tests → is_shown new (task_of judging test) ≡ true
+  pub others : (task : Task) → task.judging ≢ judging → is_shown new task ≡ is_shown old task
+  pub classes : listed_classes new ≡ listed_classes old
+  pub widths : widths new ≡ widths old
 
 -- no row has more cells than a judging can have tests
 pub record AreShort (judgings : List Judging) : Type 0 where

@@ -2,20 +2,21 @@ ghost use Rattle.std.specs.Prelude.{◌≡◌, Some, None, ◌+◌, ◌≤◌, �
 ghost use Rattle.farm_kinds.specs.Rules.{remap_of};
 ghost use Rattle.farm_model.specs.Leases.{is_held_by};
 ghost use Rattle.farm_model.specs.Limits.{max_tests, max_hosts, max_judgings};
-ghost use Rattle.farm_model.specs.Judge.{answer_of_judging, counted, judge_claim, judge_enter, judge_result, judge_renew, judge_tick, judge_down, drop_judging, renew_refusal};
+ghost use Rattle.farm_model.specs.Judge.{answer_of_judging, counted, judge_claim, judge_enter, judge_result, judge_renew, judge_tick, judge_down, judge_ask, drop_judging, renew_refusal};
 ghost use Rattle.lazy_stop.specs.Matters.{IsPossible};
-ghost use Rattle.farm_model.specs.Judgings.{cell_of, is_dropped};
+ghost use Rattle.farm_model.specs.Judgings.{cell_of, is_asked, is_dropped};
 ghost use Rattle.judging_core.specs.JudgeValue.{first_judge, in_state, with_judging, starts_with};
 
 use crate::judgings::{
-    KeptJudging, answer_of, cell_at, empty_judging, entry_refusal, fill, judging_at, mark_dropped,
-    mark_handed, result_refusal,
+    KeptJudging, answer_of, ask_refusal, cell_at, empty_judging, entry_refusal, fill, judging_at,
+    mark_asked, mark_dropped, mark_handed, result_refusal, test_count,
 };
-use crate::listing::{end_due, end_host, list_judging, make_room, unlist_judging};
+use crate::listing::{end_due, end_host, list_judging, make_room, show_tests, unlist_judging};
 use crate::open::first_open;
 use crate::prepared::{is_next, prepared_judgings, take_prepared};
 use farm_kinds::{
-    Answer, Claim, Class, Count, Kind, MAX_HELD, Mode, NoMemory, Numbers, Renewed, Rule, Task,
+    Answer, AskEnd, Claim, Class, Count, Kind, MAX_HELD, Mode, NoMemory, Numbers, Renewed, Rule,
+    Task,
 };
 use lazy_stop::remapped_is_possible;
 use lease_book::LeaseBook;
@@ -26,13 +27,12 @@ use task_tree::TaskTree;
 /// The moment past which time does not go on, in seconds: 10^18 - 1.
 const LAST_MOMENT: u64 = 999_999_999_999_999_999;
 
-/// The judgings and the hosts, both numbered from 1, the leases of the hosts, and the rule and the mode by
-/// which the judgings are judged.
+/// The judgings and the hosts, both numbered from 1, the leases of the hosts, and the rule by which the
+/// judgings are judged.
 #[derive(Drop)]
 pub struct Judge {
     alloc: Global,
     rule: Rule,
-    mode: Mode,
     lease: u64,
     moment: u64,
     judgings: Vec<KeptJudging>,
@@ -56,17 +56,15 @@ impl Model for Judge {
 }
 
 impl Judge {
-    /// A judge of no judgings and no hosts, at moment 0, that judges lazily or in full. The lease is in
-    /// seconds.
-    pub fn new(alloc: Global, rule: Rule, mode: Mode, lease: u64) -> Judge
+    /// A judge of no judgings and no hosts, at moment 0. The lease is in seconds.
+    pub fn new(alloc: Global, rule: Rule, lease: u64) -> Judge
         requires some { 1 ≤ lease }
         requires short { lease ≤ 1000000 }
-        ensures { result ≡ first_judge rule mode lease }
+        ensures { result ≡ first_judge rule lease }
     {
         Judge {
             alloc,
             rule,
-            mode,
             lease,
             moment: 0,
             judgings: Vec::new(alloc),
@@ -98,42 +96,49 @@ impl Judge {
         Ok(())
     }
 
-    /// Adds a judging of this many tests, none for a broken submission, and answers its number. Where the
+    /// Adds a judging of this many tests, none for a broken submission, and answers its number. It is judged
+    /// lazily or in full, and hosts are given its tasks from the start or once it is asked for. Where the
     /// next judging for which there is room has another number of tests, no room is left after it.
-    pub fn add_judging(&mut self, class: Class, tests: u16) -> Result<u32, NoMemory>
+    pub fn add_judging(
+        &mut self,
+        class: Class,
+        tests: u16,
+        mode: Mode,
+        asked: bool,
+    ) -> Result<u32, NoMemory>
         requires few { length self.old.state.judgings < max_judgings }
         requires short { tests ≤ max_tests }
         ensures number { IfOk result (λ j. j ≡ length self.old.state.judgings + 1) }
-        ensures added { IfOk result (λ j. self.new ≡ with_judging self.old class tests) }
+        ensures added { IfOk result (λ j. self.new ≡ with_judging self.old class tests mode asked) }
         ensures kept { IsTrue (starts_with self.old.reserved tests) → IsOk result }
         ensures unchanged { OnErr result (self.new ≡ self.old) }
     {
         if is_next(&self.prepared, tests) {
-            return Ok(self.add_reserved(class, tests));
+            return Ok(self.add_reserved(class, tests, mode, asked));
         }
-        let judging = empty_judging(self.alloc, self.rule, class, tests)?;
+        let judging = empty_judging(self.alloc, self.rule, class, tests, mode, asked)?;
         let number = self.judgings.len() + 1;
         make_room(&mut self.tasks, number)?;
         self.judgings.push(judging).map_err(|_| NoMemory)?;
         self.prepared = Vec::new(self.alloc);
-        list_judging(&mut self.tasks, class, number as u32, tests);
+        list_judging(&mut self.tasks, class, number as u32, tests, asked);
         Ok(number as u32)
     }
 
     /// Adds a judging of this many tests, for which there is room, and answers its number.
-    pub fn add_reserved(&mut self, class: Class, tests: u16) -> u32
+    pub fn add_reserved(&mut self, class: Class, tests: u16, mode: Mode, asked: bool) -> u32
         requires few { length self.old.state.judgings < max_judgings }
         requires short { tests ≤ max_tests }
         requires reserved { IsTrue (starts_with self.old.reserved tests) }
         ensures number { result ≡ length self.old.state.judgings + 1 }
-        ensures added { self.new ≡ with_judging self.old class tests }
+        ensures added { self.new ≡ with_judging self.old class tests mode asked }
     {
-        let Some(judging) = take_prepared(&mut self.prepared, class, tests) else {
+        let Some(judging) = take_prepared(&mut self.prepared, class, tests, mode, asked) else {
             return 0;
         };
         self.judgings.push_reserved(judging);
         let number = self.judgings.len() as u32;
-        list_judging(&mut self.tasks, class, number, tests);
+        list_judging(&mut self.tasks, class, number, tests, asked);
         number
     }
 
@@ -153,8 +158,8 @@ impl Judge {
 
     /// Gives the host the least open task by class, judging and test, and a lease on it.
     ///
-    /// A task is open where its cell is empty and no lease is held on it, in a judging that takes results,
-    /// and lazily only where its result can change the verdict.
+    /// A task is open where its cell is empty and no lease is held on it, in a judging that was asked for and
+    /// takes results, and lazily only where its result can change the verdict.
     pub fn claim(&mut self, host: u32) -> Claim
         requires numbered { 1 ≤ host }
         requires known { host ≤ self.old.hosts }
@@ -164,7 +169,7 @@ impl Judge {
         if self.leases.held(host) >= MAX_HELD {
             return Claim::Holding;
         }
-        let Some(task) = first_open(self.mode, &self.judgings, &self.leases, &mut self.tasks) else {
+        let Some(task) = first_open(&self.judgings, &self.leases, &mut self.tasks) else {
             return Claim::Nothing;
         };
         let until = self.moment + self.lease;
@@ -278,6 +283,29 @@ impl Judge {
         end_host(&mut self.leases, &mut self.tasks, self.judgings.len(), host)
     }
 
+    /// Asks for a judging: hosts are given its tasks from now on.
+    pub fn ask(&mut self, judging: u32) -> AskEnd
+        ensures state { self.new ≡ in_state self.old (judge_ask self.old.state judging).0 }
+        ensures answer { result ≡ (judge_ask self.old.state judging).1 }
+    {
+        if let Some(refusal) = ask_refusal(&self.judgings, judging) {
+            return refusal;
+        }
+        mark_asked(&mut self.judgings, judging);
+        let tests = test_count(&self.judgings, judging);
+        show_tests(&mut self.tasks, judging, tests);
+        AskEnd::Done
+    }
+
+    /// Whether a judging was asked for, from the start or later.
+    pub fn asked(&self, judging: u32) -> bool
+        requires numbered { 1 ≤ judging }
+        requires known { judging ≤ length self.now.state.judgings }
+        ensures { result ≡ is_asked self.now.state.judgings judging }
+    {
+        self.judgings[judging as usize - 1].asked
+    }
+
     /// Drops a judging: it takes no more results, and the leases on its tasks end. Its cells stay.
     pub fn drop_judging(&mut self, judging: u32)
         requires numbered { 1 ≤ judging }
@@ -305,7 +333,7 @@ impl Judge {
         ensures { result ≡ answer_of_judging self.now.state judging }
     {
         let kept = judging_at(&self.judgings, judging)?;
-        Some(answer_of(kept, self.mode))
+        Some(answer_of(kept))
     }
 }
 

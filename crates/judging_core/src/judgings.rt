@@ -3,12 +3,14 @@ ghost use Rattle.std.specs.Prelude.{◌≡◌, ◌≤◌, ◌-◌, length, repli
 ghost use Rattle.farm_kinds.specs.RuleValue.{RuleValue};
 ghost use Rattle.farm_model.specs.Rows.{answer_of};
 ghost use Rattle.farm_model.specs.Numbered.{item_of};
-ghost use Rattle.farm_model.specs.Judgings.{kept_count, cell_of, entry_refusal, result_refusal, with_result, with_handed, with_dropped, empty_judging};
+ghost use Rattle.farm_model.specs.Judge.{ask_refusal};
+ghost use Rattle.farm_model.specs.Judgings.{kept_count, cell_of, entry_refusal, result_refusal, with_result, with_handed, with_asked, with_dropped, empty_judging};
 ghost use Rattle.lazy_stop.specs.Matters.{IsPossible};
 ghost use Rattle.judging_core.specs.Refusals.{cell_refusal, is_never_handed};
-ghost use Rattle.judging_core.specs.JudgeShape.{judging_value, judging_values, IsWellKept, AreWellKept, IsRuledBy, AreRuledBy, CanAllHold};
+ghost use Rattle.std.specs.Option.{option_map};
+ghost use Rattle.judging_core.specs.JudgeShape.{judging_value, judging_values, row_length, IsWellKept, AreWellKept, IsRuledBy, AreRuledBy, CanAllHold};
 
-use farm_kinds::{Answer, Class, Count, Kind, Mode, NoMemory, Rule, Task, Verdict};
+use farm_kinds::{Answer, AskEnd, Class, Count, Kind, Mode, NoMemory, Rule, Task, Verdict};
 use lazy_stop::Row;
 use std::alloc::Global;
 
@@ -17,6 +19,10 @@ use std::alloc::Global;
 pub struct KeptJudging {
     /// Which judgings go before it.
     pub class: Class,
+    /// How far it is judged.
+    pub mode: Mode,
+    /// Whether it was asked for: hosts are given no task of another.
+    pub asked: bool,
     /// One cell per test, in rank order: empty, or the kind of its result after remapping.
     pub row: Row,
     /// For each test whether its task was ever handed out.
@@ -31,9 +37,11 @@ pub fn empty_judging(
     rule: Rule,
     class: Class,
     tests: u16,
+    mode: Mode,
+    asked: bool,
 ) -> Result<KeptJudging, NoMemory>
     requires { tests ≤ max_tests }
-    ensures value { IfOk result (λ kept. judging_value kept ≡ empty_judging class tests) }
+    ensures value { IfOk result (λ kept. judging_value kept ≡ empty_judging class tests mode asked) }
     ensures short { IfOk result (λ kept. IsWellKept kept) }
     ensures ruled { IfOk result (λ kept. IsRuledBy rule kept) }
 {
@@ -41,6 +49,8 @@ pub fn empty_judging(
     let handed = no_marks(alloc, tests)?;
     Ok(KeptJudging {
         class,
+        mode,
+        asked,
         row,
         handed,
         dropped: false,
@@ -207,6 +217,51 @@ pub fn mark_handed(judgings: &mut Vec<KeptJudging>, task: Task)
     kept.handed[task.test as usize - 1] = true;
 }
 
+/// Why a judging cannot be asked for.
+pub fn ask_refusal(judgings: &[KeptJudging], judging: u32) -> Option<AskEnd>
+    requires { AreWellKept judgings.now }
+    ensures refusal { result ≡ ask_refusal (judging_values judgings.now) judging }
+    ensures numbered { IfNone result (1 ≤ judging) }
+    ensures known { IfNone result (judging ≤ length judgings.now) }
+{
+    let Some(kept) = judging_at(judgings, judging) else {
+        return Some(AskEnd::NoJudging);
+    };
+    if kept.dropped {
+        return Some(AskEnd::Dropped);
+    }
+    if kept.asked {
+        return Some(AskEnd::Already);
+    }
+    None
+}
+
+/// Marks the judging as one that was asked for.
+pub fn mark_asked(judgings: &mut Vec<KeptJudging>, judging: u32)
+    requires numbered { 1 ≤ judging }
+    requires known { judging ≤ length judgings.old.items }
+    ensures value { judging_values judgings.new.items ≡ with_asked (judging_values judgings.old.items) judging }
+    ensures short { AreWellKept judgings.old.items → AreWellKept judgings.new.items }
+    ensures ruled { (rule : RuleValue) → AreRuledBy rule judgings.old.items → AreRuledBy rule judgings.new.items }
+    ensures count { length judgings.new.items ≡ length judgings.old.items }
+    ensures len { vec_len judgings.new ≡ vec_len judgings.old }
+    ensures capacity { vec_capacity judgings.new ≡ vec_capacity judgings.old }
+{
+    let kept = &mut judgings[judging as usize - 1];
+    kept.asked = true;
+}
+
+/// How many tests the judging of this number has.
+pub fn test_count(judgings: &[KeptJudging], judging: u32) -> u16
+    requires numbered { 1 ≤ judging }
+    requires known { judging ≤ length judgings.now }
+    requires short { AreWellKept judgings.now }
+    ensures count { option_map row_length (item_of (judging_values judgings.now) judging) ≡ Some result }
+    ensures short { result ≤ max_tests }
+{
+    judgings[judging as usize - 1].handed.len() as u16
+}
+
 /// Marks the judging as dropped: it takes no more results.
 pub fn mark_dropped(judgings: &mut Vec<KeptJudging>, judging: u32)
     requires numbered { 1 ≤ judging }
@@ -223,12 +278,12 @@ pub fn mark_dropped(judgings: &mut Vec<KeptJudging>, judging: u32)
 }
 
 /// What is reported of a judging. One of no tests is of a broken submission.
-pub fn answer_of(kept: &KeptJudging, mode: Mode) -> Answer
+pub fn answer_of(kept: &KeptJudging) -> Answer
     requires { IsWellKept kept.now }
-    ensures { result ≡ answer_of kept.now.row.rule mode kept.now.row.cells }
+    ensures { result ≡ answer_of kept.now.row.rule kept.now.mode kept.now.row.cells }
 {
     if kept.handed.is_empty() {
         return Answer::Final(Verdict::CompilerError);
     }
-    kept.row.answer(mode)
+    kept.row.answer(kept.mode)
 }

@@ -7,7 +7,7 @@ ghost use Rattle.farm_model.specs.Judgings.{Judging, task_of, empty_judging};
 ghost use Rattle.farm_model.specs.Leases.{left_after, ended_at, without_host, held_count, without_task};
 ghost use Rattle.lease_book.specs.Book.{room};
 ghost use Rattle.task_tree.specs.Shown.{is_shown};
-ghost use Rattle.judging_core.specs.Listed.{is_open, IsListed, AreShort, AreWide};
+ghost use Rattle.judging_core.specs.Listed.{is_open, IsListed, AreShort, AreWide, AreTestsShown};
 
 use farm_kinds::{Class, MAX_JUDGINGS, MAX_TESTS, NoMemory, Task};
 use lease_book::LeaseBook;
@@ -18,8 +18,8 @@ use task_tree::TaskTree;
 pub fn make_room(tasks: &mut TaskTree, count: usize) -> Result<(), NoMemory>
     ensures enough { OnOk result ((k : ℕ) → k ≤ count → k ≤ max_judgings → k ≤ length tasks.new) }
     ensures grows { length tasks.old ≤ length tasks.new }
-    ensures listed { (rule : RuleValue) (mode : Mode) (judgings : List Judging) (leases : List Lease)
-        → IsListed rule mode judgings leases tasks.old → IsListed rule mode judgings leases tasks.new }
+    ensures listed { (rule : RuleValue) (judgings : List Judging) (leases : List Lease)
+        → IsListed rule judgings leases tasks.old → IsListed rule judgings leases tasks.new }
 {
     let wanted = count.min(MAX_JUDGINGS as usize);
     while tasks.judging_count() < wanted {
@@ -28,19 +28,34 @@ pub fn make_room(tasks: &mut TaskTree, count: usize) -> Result<(), NoMemory>
     Ok(())
 }
 
-/// Lists the tasks of the judging of this number, the next one, for which there is room.
-pub fn list_judging(tasks: &mut TaskTree, class: Class, judging: u32, tests: u16)
+/// Enters the judging of this number, the next one, for which there is room, and lists its tasks if it was
+/// asked for.
+pub fn list_judging(tasks: &mut TaskTree, class: Class, judging: u32, tests: u16, asked: bool)
     requires numbered { 1 ≤ judging }
     requires known { judging ≤ length tasks.old }
     requires short { tests ≤ max_tests }
     requires wide { AreWide tasks.old }
     requires hidden { (test : ℕ) → is_shown tasks.old (task_of judging test) ≡ false }
     ensures listed { (rule : RuleValue) (mode : Mode) (judgings : List Judging) (leases : List Lease)
-        → length judgings + 1 ≡ judging → IsListed rule mode judgings leases tasks.old
-        → IsListed rule mode (judgings ++ empty_judging class tests ∷ []) leases tasks.new }
+        → length judgings + 1 ≡ judging → IsListed rule judgings leases tasks.old
+        → IsListed rule (judgings ++ empty_judging class tests mode asked ∷ []) leases tasks.new }
     ensures count { length tasks.new ≡ length tasks.old }
 {
     tasks.set_class(judging, class);
+    if asked {
+        show_tests(tasks, judging, tests);
+    }
+}
+
+/// Lists the tasks of a judging.
+pub fn show_tests(tasks: &mut TaskTree, judging: u32, tests: u16)
+    requires numbered { 1 ≤ judging }
+    requires known { judging ≤ length tasks.old }
+    requires short { tests ≤ max_tests }
+    requires wide { AreWide tasks.old }
+    ensures shown { AreTestsShown judging tests tasks.old tasks.new }
+    ensures count { length tasks.new ≡ length tasks.old }
+{
     for i in 0..tests {
         tasks.show_task(Task {
             judging,
@@ -55,9 +70,9 @@ pub fn unlist_judging(tasks: &mut TaskTree, judging: u32, tests: u16)
     requires known { judging ≤ length tasks.old }
     requires short { tests ≤ max_tests }
     requires wide { AreWide tasks.old }
-    ensures listed { (rule : RuleValue) (mode : Mode) (judgings : List Judging) (leases : List Lease)
-        → ((test : ℕ) → is_open rule mode judgings leases (task_of judging test) ≡ false)
-        → IsListed rule mode judgings leases tasks.old → IsListed rule mode judgings leases tasks.new }
+    ensures listed { (rule : RuleValue) (judgings : List Judging) (leases : List Lease)
+        → ((test : ℕ) → is_open rule judgings leases (task_of judging test) ≡ false)
+        → IsListed rule judgings leases tasks.old → IsListed rule judgings leases tasks.new }
     ensures count { length tasks.new ≡ length tasks.old }
 {
     for i in 0..tests {
@@ -70,9 +85,9 @@ pub fn unlist_judging(tasks: &mut TaskTree, judging: u32, tests: u16)
 
 /// Lists the task, on which a lease has ended, where it is one of so many judgings.
 pub fn list_again(tasks: &mut TaskTree, judgings: usize, task: Task)
-    ensures listed { (rule : RuleValue) (mode : Mode) (all : List Judging) (leases : List Lease)
-        → length all ≡ judgings → judgings ≤ length tasks.old → AreShort all → IsListed rule mode all leases tasks.old
-        → IsListed rule mode all (without_task leases task) tasks.new }
+    ensures listed { (rule : RuleValue) (all : List Judging) (leases : List Lease)
+        → length all ≡ judgings → judgings ≤ length tasks.old → AreShort all → IsListed rule all leases tasks.old
+        → IsListed rule all (without_task leases task) tasks.new }
     ensures count { length tasks.new ≡ length tasks.old }
 {
     if task.judging as usize <= judgings && tasks.has_task(task) {
@@ -85,9 +100,9 @@ pub fn end_due(leases: &mut LeaseBook, tasks: &mut TaskTree, judgings: usize, no
     ensures leases { leases.new.leases ≡ left_after leases.old.leases now }
     ensures count { result ≡ length (ended_at leases.old.leases now) }
     ensures room { room leases.new ≡ room leases.old }
-    ensures listed { (rule : RuleValue) (mode : Mode) (all : List Judging)
-        → length all ≡ judgings → judgings ≤ length tasks.old → AreShort all → IsListed rule mode all leases.old.leases tasks.old
-        → IsListed rule mode all leases.new.leases tasks.new }
+    ensures listed { (rule : RuleValue) (all : List Judging)
+        → length all ≡ judgings → judgings ≤ length tasks.old → AreShort all → IsListed rule all leases.old.leases tasks.old
+        → IsListed rule all leases.new.leases tasks.new }
     ensures judgings { length tasks.new ≡ length tasks.old }
 {
     let held = leases.len();
@@ -102,9 +117,9 @@ pub fn end_host(leases: &mut LeaseBook, tasks: &mut TaskTree, judgings: usize, h
     ensures leases { leases.new.leases ≡ without_host leases.old.leases host }
     ensures count { result ≡ held_count leases.old.leases host }
     ensures room { room leases.new ≡ room leases.old }
-    ensures listed { (rule : RuleValue) (mode : Mode) (all : List Judging)
-        → length all ≡ judgings → judgings ≤ length tasks.old → AreShort all → IsListed rule mode all leases.old.leases tasks.old
-        → IsListed rule mode all leases.new.leases tasks.new }
+    ensures listed { (rule : RuleValue) (all : List Judging)
+        → length all ≡ judgings → judgings ≤ length tasks.old → AreShort all → IsListed rule all leases.old.leases tasks.old
+        → IsListed rule all leases.new.leases tasks.new }
     ensures judgings { length tasks.new ≡ length tasks.old }
 {
     let held = leases.len();

@@ -15,27 +15,26 @@ use std::sync::ledger::{Blank, Ledger};
 use task_tree::{Steps, TaskTree};
 
 /// The least open task by class, judging and test: one on an empty cell, which lazily can change the
-/// verdict, with no lease. Tasks that are listed and not open are taken off the list on the way, so that
+/// verdict, with no lease, in a judging that was asked for. Tasks that are listed and not open are taken off the list on the way, so that
 /// each is looked at once for each time it was listed.
 pub fn first_open(
-    mode: Mode,
     judgings: &[KeptJudging],
     leases: &LeaseBook,
     tasks: &mut TaskTree,
 ) -> Option<Task>
     requires short { AreWellKept judgings.now }
     ensures first { (rule : RuleValue) → AreRuledBy rule judgings.now
-        → IsListed rule mode (judging_values judgings.now) leases.now.leases tasks.old
-        → result ≡ slice_get (open_tasks rule mode (judging_values judgings.now) leases.now.leases) 0 }
+        → IsListed rule (judging_values judgings.now) leases.now.leases tasks.old
+        → result ≡ slice_get (open_tasks rule (judging_values judgings.now) leases.now.leases) 0 }
     ensures listed { (rule : RuleValue) → AreRuledBy rule judgings.now
-        → IsListed rule mode (judging_values judgings.now) leases.now.leases tasks.old
-        → IsListed rule mode (judging_values judgings.now) leases.now.leases tasks.new }
+        → IsListed rule (judging_values judgings.now) leases.now.leases tasks.old
+        → IsListed rule (judging_values judgings.now) leases.now.leases tasks.new }
     ensures count { length tasks.new ≡ length tasks.old }
     ensures facts { IfSome result (IsOpenTask judgings.now leases.now.leases) }
     ensures there { IfSome result (HasTask tasks.new) }
 {
     while let Some(task) = first_listed(tasks) {
-        if is_open(mode, judgings, leases, task) {
+        if is_open(judgings, leases, task) {
             return Some(task);
         }
         tasks.hide_task(task);
@@ -65,12 +64,12 @@ fn first_listed_from<L: Ledger>(tasks: &TaskTree, blank: Blank) -> Option<Task>
     tasks.first(&mut steps)
 }
 
-/// Whether the task is there, its cell is empty and wanted, its judging takes results, and no lease is held
-/// on it.
-fn is_open(mode: Mode, judgings: &[KeptJudging], leases: &LeaseBook, task: Task) -> bool
+/// Whether the task is there, its cell is empty and wanted, its judging was asked for and takes results, and
+/// no lease is held on it.
+fn is_open(judgings: &[KeptJudging], leases: &LeaseBook, task: Task) -> bool
     requires short { AreWellKept judgings.now }
     ensures open_ { (rule : RuleValue) → AreRuledBy rule judgings.now
-        → result ≡ is_open rule mode (judging_values judgings.now) leases.now.leases task }
+        → result ≡ is_open rule (judging_values judgings.now) leases.now.leases task }
     ensures facts { result ≡ true → IsOpenTask judgings.now leases.now.leases task }
 {
     let Some(kept) = judging_at(judgings, task.judging) else {
@@ -79,7 +78,7 @@ fn is_open(mode: Mode, judgings: &[KeptJudging], leases: &LeaseBook, task: Task)
     let Some(None) = cell_at(kept, task.test as u32) else {
         return false;
     };
-    if kept.dropped || !is_wanted(mode, &kept.row, task.test) {
+    if kept.dropped || !kept.asked || !is_wanted(kept.mode, &kept.row, task.test) {
         return false;
     }
     leases.find(task).is_none()

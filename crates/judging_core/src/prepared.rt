@@ -6,7 +6,7 @@ ghost use Rattle.judging_core.specs.JudgeValue.{starts_with, left_reserved};
 ghost use Rattle.judging_core.specs.JudgeShape.{judging_value, IsWellKept, IsRuledBy, AreRuledBy, reserved_of, ArePrepared};
 
 use crate::judgings::{KeptJudging, empty_judging};
-use farm_kinds::{Class, NoMemory, Rule};
+use farm_kinds::{Class, Mode, NoMemory, Rule};
 use std::alloc::Global;
 
 /// Makes judgings of these numbers of tests ahead. The first of them comes last, where it is taken.
@@ -43,16 +43,18 @@ fn prepare(
     ensures prepared { OnOk result (ArePrepared prepared.new.items) }
     ensures ruled { OnOk result (AreRuledBy rule prepared.new.items) }
 {
-    let judging = empty_judging(alloc, rule, Class::Normal, tests)?;
+    let judging = empty_judging(alloc, rule, Class::Normal, tests, Mode::Lazy, true)?;
     prepared.push(judging).map_err(|_| NoMemory)
 }
 
-/// Takes the next judging that is made ahead, for a judging of this class, where it has this number of
-/// tests.
+/// Takes the next judging that is made ahead, for a judging of this class and mode, where it has this number
+/// of tests.
 pub fn take_prepared(
     prepared: &mut Vec<KeptJudging>,
     class: Class,
     tests: u16,
+    mode: Mode,
+    asked: bool,
 ) -> Option<KeptJudging>
     requires { ArePrepared prepared.old.items }
     ensures other { IfNone result (starts_with (reserved_of prepared.old.items) tests ≡ false) }
@@ -61,7 +63,7 @@ pub fn take_prepared(
     ensures count { OnSome result (vec_len prepared.new + 1 ≡ vec_len prepared.old) }
     ensures prepared { OnSome result (ArePrepared prepared.new.items) }
     ensures ruled { (rule : RuleValue) → AreRuledBy rule prepared.old.items → OnSome result (AreRuledBy rule prepared.new.items) }
-    ensures value { IfSome result (λ kept. judging_value kept ≡ empty_judging class tests) }
+    ensures value { IfSome result (λ kept. judging_value kept ≡ empty_judging class tests mode asked) }
     ensures short { IfSome result (λ kept. IsWellKept kept) }
     ensures ruled_itself { (rule : RuleValue) → AreRuledBy rule prepared.old.items → IfSome result (λ kept. IsRuledBy rule kept) }
 {
@@ -70,6 +72,8 @@ pub fn take_prepared(
     }
     let mut kept = prepared.pop()?;
     kept.class = class;
+    kept.mode = mode;
+    kept.asked = asked;
     Some(kept)
 }
 

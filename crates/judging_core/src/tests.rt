@@ -2,7 +2,8 @@ ghost use Rattle.std.specs.Prelude.{◌≡◌, ◌∷◌, [], ◌≤◌, ◌<◌
 
 use crate::Judge;
 use farm_kinds::{
-    Answer, Claim, Class, Count, Kind, Mode, NoMemory, Numbers, Renewed, Rule, Task, Verdict,
+    Answer, AskEnd, Claim, Class, Count, Kind, Mode, NoMemory, Numbers, Renewed, Rule, Task,
+    Verdict,
 };
 use std::alloc::Global;
 use std::process::Abort;
@@ -17,6 +18,12 @@ enum Step {
     AddHost(u32),
     /// The number of a judging of the class normal that is added, with so many tests.
     Add(u16, u32),
+    /// The number of a judging that is added and waits to be asked for, with so many tests.
+    AddWaiting(u16, u32),
+    /// What becomes of a judging that is asked for.
+    Ask(u32, AskEnd),
+    /// Whether a judging was asked for.
+    Asked(u32, bool),
     /// Room is made ahead for judgings of these numbers of tests.
     Reserve([u16; 3]),
     /// Room is made ahead for judgings of these numbers of tests, and they are added: the first of the class low, the
@@ -102,13 +109,13 @@ fn add_host(judge: &mut Judge, hosts: &mut u32) -> Result<u32, NoMemory>
 }
 
 /// Adds a judging where there are not too many.
-fn add(judge: &mut Judge, tests: u16) -> Result<u32, NoMemory>
+fn add(judge: &mut Judge, tests: u16, mode: Mode, asked: bool) -> Result<u32, NoMemory>
     ensures { judge.new.hosts ≡ judge.old.hosts }
 {
     if judge.judgings() >= 1000 || tests > 1000 {
         return Err(NoMemory);
     }
-    judge.add_judging(Class::Normal, tests)
+    judge.add_judging(Class::Normal, tests, mode, asked)
 }
 
 /// Makes room ahead for judgings of these three numbers of tests.
@@ -137,6 +144,7 @@ fn reserve(
 fn add_reserved(
     alloc: Global,
     judge: &mut Judge,
+    mode: Mode,
     first: u16,
     second: u16,
     third: u16,
@@ -149,13 +157,13 @@ fn add_reserved(
     ensures hosts { judge.new.hosts ≡ judge.old.hosts }
 {
     reserve(alloc, judge, first, second, third)?;
-    if judge.add_judging(Class::Low, first).is_err() {
+    if judge.add_judging(Class::Low, first, mode, true).is_err() {
         return Ok(false);
     }
-    if judge.add_judging(Class::High, second).is_err() {
+    if judge.add_judging(Class::High, second, mode, true).is_err() {
         return Ok(false);
     }
-    Ok(judge.add_judging(Class::Normal, third).is_ok())
+    Ok(judge.add_judging(Class::Normal, third, mode, true).is_ok())
 }
 
 /// Makes room ahead, where the numbers are not too large.
@@ -170,22 +178,24 @@ fn reserve_few(alloc: Global, judge: &mut Judge, tests: [u16; 3]) -> bool
 }
 
 /// Makes room ahead and adds, where there are not too many and the numbers are not too large.
-fn add_few_reserved(alloc: Global, judge: &mut Judge, tests: [u16; 3]) -> bool
+fn add_few_reserved(alloc: Global, judge: &mut Judge, mode: Mode, tests: [u16; 3]) -> bool
     ensures { judge.new.hosts ≡ judge.old.hosts }
 {
     let [first, second, third] = tests;
     if judge.judgings() >= 1000 || first > 1000 || second > 1000 || third > 1000 {
         return false;
     }
-    add_reserved(alloc, judge, first, second, third) == Ok(true)
+    add_reserved(alloc, judge, mode, first, second, third) == Ok(true)
 }
 
 /// Adds a judging of so many tests and two hosts.
-fn set_up(judge: &mut Judge, hosts: &mut u32, tests: u16) -> bool
+fn set_up(judge: &mut Judge, hosts: &mut u32, tests: u16, mode: Mode) -> bool
     requires { judge.old.hosts ≡ hosts.old }
     ensures { judge.new.hosts ≡ hosts.new }
 {
-    add(judge, tests).is_ok() && add_host(judge, hosts).is_ok() && add_host(judge, hosts).is_ok()
+    add(judge, tests, mode, true).is_ok()
+        && add_host(judge, hosts).is_ok()
+        && add_host(judge, hosts).is_ok()
 }
 
 /// Drops a judging, if it is there.
@@ -207,17 +217,28 @@ fn dropped(judge: &Judge, judging: u32) -> Option<bool> {
     Some(judge.dropped(judging))
 }
 
-/// Whether the judge, which has so many hosts, answers the step as it should.
-fn is_answered(alloc: Global, judge: &mut Judge, hosts: &mut u32, step: Step) -> bool
+/// Whether a judging was asked for that is there.
+fn asked(judge: &Judge, judging: u32) -> Option<bool> {
+    if judging == 0 || judging as usize > judge.judgings() {
+        return None;
+    }
+    Some(judge.asked(judging))
+}
+
+/// Whether the judge, which has so many hosts and judges in this mode, answers the step as it should.
+fn is_answered(alloc: Global, judge: &mut Judge, hosts: &mut u32, mode: Mode, step: Step) -> bool
     requires { judge.old.hosts ≡ hosts.old }
     ensures { judge.new.hosts ≡ hosts.new }
 {
     match step {
-        Step::SetUp(tests) => set_up(judge, hosts, tests),
+        Step::SetUp(tests) => set_up(judge, hosts, tests, mode),
         Step::AddHost(wanted) => add_host(judge, hosts) == Ok(wanted),
-        Step::Add(tests, wanted) => add(judge, tests) == Ok(wanted),
+        Step::Add(tests, wanted) => add(judge, tests, mode, true) == Ok(wanted),
+        Step::AddWaiting(tests, wanted) => add(judge, tests, mode, false) == Ok(wanted),
+        Step::Ask(judging, wanted) => judge.ask(judging) == wanted,
+        Step::Asked(judging, wanted) => asked(judge, judging) == Some(wanted),
         Step::Reserve(tests) => reserve_few(alloc, judge, tests),
-        Step::AddReserved(tests) => add_few_reserved(alloc, judge, tests),
+        Step::AddReserved(tests) => add_few_reserved(alloc, judge, mode, tests),
         Step::Claim(host, wanted) => claim(judge, *hosts, host) == Some(wanted),
         Step::Handed(host, judging, test, until) => {
             claim(judge, *hosts, host) == Some(handed(judging, test, until))
@@ -236,20 +257,23 @@ fn is_answered(alloc: Global, judge: &mut Judge, hosts: &mut u32, step: Step) ->
 }
 
 /// Has a judge without hosts take the steps, each of which it should answer as is said there.
-fn play(rt: &impl Abort, alloc: Global, judge: &mut Judge, steps: &[Step])
+fn play(rt: &impl Abort, alloc: Global, judge: &mut Judge, mode: Mode, steps: &[Step])
     requires { judge.old.hosts ≡ 0 }
 {
     let mut hosts = 0;
     for (at, step) in steps.iter().enumerate() {
-        assert!(rt; is_answered(alloc, judge, &mut hosts, *step), "step {at}");
+        assert!(rt;
+            is_answered(alloc, judge, &mut hosts, mode, *step),
+            "step {at}"
+        );
     }
 }
 
 /// Has an empty judge of leases of a minute take the steps. No other function here owns a judge: each way out of one
 /// that does has to be proved to drop it, and so all that it holds.
 fn play_by(rt: &impl Abort, alloc: Global, rule: Rule, mode: Mode, steps: &[Step]) {
-    let mut judge = Judge::new(alloc, rule, mode, 60);
-    play(rt, alloc, &mut judge, steps);
+    let mut judge = Judge::new(alloc, rule, 60);
+    play(rt, alloc, &mut judge, mode, steps);
 }
 
 /// The same by the standard rule, lazily.
@@ -402,6 +426,35 @@ fn with_equal_priorities_the_first_test_decides(rt: HostRuntime) -> Result<(), F
         Kind::ALL,
         OF_EQUAL_PRIORITY.as_slice(),
     )
+}
+
+const ASKED_FOR: [Step; 20] = [
+    Step::SetUp(1),
+    Step::AddWaiting(2, 2),
+    Step::Handed(1, 1, 1, 60),
+    Step::Claim(2, Claim::Nothing),
+    Step::Asked(1, true),
+    Step::Asked(2, false),
+    Step::Ask(3, AskEnd::NoJudging),
+    Step::Ask(1, AskEnd::Already),
+    Step::Answer(2, PENDING),
+    Step::Ask(2, AskEnd::Done),
+    Step::Ask(2, AskEnd::Already),
+    Step::Asked(2, true),
+    Step::Handed(2, 2, 1, 60),
+    Step::Handed(1, 2, 2, 60),
+    // one that is dropped is not asked for, and one that waits takes results from outside
+    Step::AddWaiting(1, 3),
+    Step::Drop(3),
+    Step::Ask(3, AskEnd::Dropped),
+    Step::AddWaiting(1, 4),
+    Step::Enter(4, 1, Kind::Correct, Count::Counted),
+    Step::Answer(4, FINAL_CORRECT),
+];
+
+#[test]
+fn a_judging_waits_until_it_is_asked_for(rt: HostRuntime) {
+    play_in_each_mode(&rt, rt.alloc(), ASKED_FOR.as_slice());
 }
 
 const BROKEN: [Step; 3] = [

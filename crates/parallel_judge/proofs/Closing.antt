@@ -2,6 +2,7 @@
 use Rattle.std.proofs.Common.{◌≡◌, ◌≢◌, ℕ, ◌+◌, ◌≤◌, ◌<◌, Bool, true, false, List, [], ◌∷◌, ◌++◌, Option, Some, None, map, refl, sym, ap, ◌∙◌, subst}
 use Rattle.std.specs.Prelude.{is_some}
 use Rattle.std.proofs.lemmas.List.{append_assoc, append-nil}
+use Rattle.farm_kinds.specs.declared.outcomes.NamedMode.{NamedMode}
 use Rattle.farm_kinds.specs.declared.outcomes.Task.{Task}
 use Rattle.farm_kinds.specs.declared.events.Event.{Event}
 use Rattle.farm_kinds.specs.declared.events.Event.TheVariants as event
@@ -17,7 +18,7 @@ use Rattle.farm_board.specs.declared.entries.Call.{Call}
 use Rattle.farm_board.specs.declared.entries.Entry.{Entry}
 use Rattle.farm_board.specs.declared.entries.Entry.TheVariants as entry
 use Rattle.farm_board.proofs.Histories.{board_after_append}
-use Rattle.parallel_judge.specs.Entering.{NamedProblem, NamedSubmission, problem_event, submission_event, contest_events}
+use Rattle.parallel_judge.specs.Entering.{NamedProblem, NamedSubmission, problem_event, submission_event, ask_event, waiting, contest_events}
 use Rattle.parallel_judge.specs.Hosts.{as_entries, HasEntered, IsBeside}
 use Rattle.parallel_judge.specs.Journal.{events_in, IsJudgingEvent, AreJudging, IsKept, KeepsJournal}
 use Rattle.parallel_judge.specs.UnderWay.{IsUnderWay}
@@ -42,10 +43,15 @@ hosts_judge : (case_at : Task → Option TestCase) (names : List (List ℕ)) →
 hosts_judge case_at [] = tt
 hosts_judge case_at (name ∷ names) = (tt, hosts_judge case_at names)
 
-contest_judges : (case_at : Task → Option TestCase) (ps : List NamedProblem) (xs : List NamedSubmission) (names : List (List ℕ)) → AllJudge case_at (contest_events ps xs ++ map event.Host names)
-contest_judges case_at ps xs names =
-    each_append (IsJudgingEvent case_at) (contest_events ps xs) (map event.Host names)
-    (each_append (IsJudgingEvent case_at) (map problem_event ps) (map submission_event xs) (problems_judge case_at ps) (submissions_judge case_at xs)) (hosts_judge case_at names)
+asks_judge : (case_at : Task → Option TestCase) (ns : List ℕ) → AllJudge case_at (map ask_event ns)
+asks_judge case_at [] = tt
+asks_judge case_at (n ∷ ns) = (tt, asks_judge case_at ns)
+
+contest_judges : (case_at : Task → Option TestCase) (modes : List NamedMode) (ps : List NamedProblem) (xs : List NamedSubmission) (names : List (List ℕ)) → AllJudge case_at (contest_events modes ps xs ++ map event.Host names)
+contest_judges case_at modes ps xs names =
+    let both = each_append (IsJudgingEvent case_at) (map problem_event ps) (map submission_event xs) (problems_judge case_at ps) (submissions_judge case_at xs) in
+    let contest = each_append (IsJudgingEvent case_at) (map problem_event ps ++ map submission_event xs) (map ask_event (waiting modes 1 xs)) both (asks_judge case_at (waiting modes 1 xs)) in
+    each_append (IsJudgingEvent case_at) (contest_events modes ps xs) (map event.Host names) contest (hosts_judge case_at names)
 
 -- ---- calls
 
@@ -102,7 +108,7 @@ journal_is journal seen calls e = cc
 -- the journal is that of the farm
 pub closed_journal : (settings : SettingsValue) (case_at : Task → Option TestCase) (hosts : ℕ) (journal : Bool) (ps : List NamedProblem) (xs : List NamedSubmission) (names : List (List ℕ))
     (entered pass : PassValue) (split : List ℕ) (kept : Option (List Call))
-    → (h : HasEntered (opening_board (start settings) (hosts + 1) journal) (contest_events ps xs ++ map event.Host names) entered)
+    → (h : HasEntered (opening_board (start settings) (hosts + 1) journal) (contest_events settings.modes ps xs ++ map event.Host names) entered)
     → IsBeside case_at (opening_board (start settings) (hosts + 1) journal) h.calls split split pass
     → kept ≡ journal_with_calls pass.start.journal (effective_calls pass.seen) → KeepsJournal settings case_at hosts (board_seen pass).state kept
 closed_journal settings case_at hosts false ps xs names entered pass split kept h b is calls some =
@@ -120,7 +126,7 @@ closed_journal settings case_at hosts true ps xs names entered pass split kept h
       whole = sym (append-nil (effective_calls pass.seen));
       callers = tt;
       answered = answers.0;
-      judging = all_judging case_at opening (contest_events ps xs ++ map event.Host names) entered pass split refl (contest_judges case_at ps xs names) h b;
+      judging = all_judging case_at opening (contest_events settings.modes ps xs ++ map event.Host names) entered pass split refl (contest_judges case_at settings.modes ps xs names) h b;
       stands = ap (λ (s : BoardState). (board_after s pass.seen).state) b.begins ∙ answers.1;
     })
 

@@ -1,7 +1,7 @@
 -- What a farm is once a contest has entered it.
 use Rattle.std.proofs.Common.{ℕ, zero, suc, ◌≡◌, ◌+◌, ◌-◌, ◌<◌, ◌≤◌, List, [], ◌∷◌, ◌++◌, Option, Some, None, Bool, true, false, cond, refl, sym, ap, ◌∙◌, subst, arith, length, map, slice_get, nat_le, nat_lt, take}
 use Rattle.std.specs.Prelude.{not, is_some}
-use Rattle.std.specs.Option.{option_map}
+use Rattle.std.specs.Option.{option_map, unwrap_or}
 use Rattle.std.specs.List.{position, position_or_len, find, cons_option}
 use Rattle.std.specs.Str.{bytes_eq}
 use Rattle.std.proofs.lemmas.List.{append_assoc, append-nil, length-append}
@@ -15,8 +15,8 @@ use Rattle.farm_model.specs.Numbered.{number_or_0}
 use Rattle.farm_model.specs.Limits.{max_problems, max_submissions, max_judgings}
 use Rattle.farm_model.specs.Refusing.{when, unless, first_of, refused_or}
 use Rattle.farm_model.specs.Refusals.{is_test_count, refusal_of}
-use Rattle.farm_model.specs.Changes.{accepted, cells_for, tests_of}
-use Rattle.farm_model.specs.Judgings.{empty_judging}
+use Rattle.farm_model.specs.Changes.{accepted, cells_for, tests_of, mode_for, asked_for, new_problem}
+use Rattle.farm_model.specs.Judgings.{Judging, empty_judging}
 use Rattle.farm_model.specs.Judge.{add_judgings}
 use Rattle.farm_model.specs.State.{State, problem_number}
 use Rattle.farm_model.specs.Farm.{farm_step}
@@ -53,8 +53,8 @@ one_more f s (y ∷ ys) (suc i) x h = one_more f (farm_step s (f y)).0 ys i x h
 
 -- ---- problems
 
-abbrev pub first_version : NamedProblem → Problem
-first_version p = record { name = p.name; version = 1; tests = p.tests }
+abbrev pub first_version : State → NamedProblem → Problem
+first_version s p = new_problem s p.name p.tests
 
 -- none of the problems has its name
 abbrev pub IsNew : List Problem → NamedProblem → Type 0
@@ -83,14 +83,14 @@ none_found test xs h =
 unnumbered : (problems : List Problem) (p : NamedProblem) → IsNew problems p → problem_number problems p.name ≡ None
 unnumbered problems p new = ap (option_map (λ i. i + 1)) (none_found (λ (problem : Problem). bytes_eq problem.name p.name) problems new)
 
-still_new : (problems : List Problem) (p q : NamedProblem) → IsNew problems q → bytes_eq p.name q.name ≡ false → IsNew (problems ++ first_version p ∷ []) q
-still_new problems p q new other =
-    each_append (λ (problem : Problem). bytes_eq problem.name q.name ≡ false) problems (first_version p ∷ []) new (other, tt)
+still_new : (s : State) (problems : List Problem) (p q : NamedProblem) → IsNew problems q → bytes_eq p.name q.name ≡ false → IsNew (problems ++ first_version s p ∷ []) q
+still_new s problems p q new other =
+    each_append (λ (problem : Problem). bytes_eq problem.name q.name ≡ false) problems (first_version s p ∷ []) new (other, tt)
 
-all_still_new : (problems : List Problem) (p : NamedProblem) (qs : List NamedProblem) → Each (IsNew problems) qs
-    → Each (λ (q : NamedProblem). bytes_eq p.name q.name ≡ false) qs → Each (IsNew (problems ++ first_version p ∷ [])) qs
-all_still_new problems p [] new others = tt
-all_still_new problems p (q ∷ qs) new others = (still_new problems p q new.0 others.0, all_still_new problems p qs new.1 others.1)
+all_still_new : (s : State) (problems : List Problem) (p : NamedProblem) (qs : List NamedProblem) → Each (IsNew problems) qs
+    → Each (λ (q : NamedProblem). bytes_eq p.name q.name ≡ false) qs → Each (IsNew (problems ++ first_version s p ∷ [])) qs
+all_still_new s problems p [] new others = tt
+all_still_new s problems p (q ∷ qs) new others = (still_new s problems p q new.0 others.0, all_still_new s problems p qs new.1 others.1)
 
 -- problems were added, and nothing else that judgings see
 pub record HasProblems (s t : State) (more : List Problem) : Type 0 where
@@ -106,20 +106,20 @@ problem_enters s p tests new few =
     (reply.BadTests p.tests) (reply.Known p.name) (reply.Full max_problems) tests (not_there (problem_number s.problems p.name) (unnumbered s.problems p new)) (less_than max_problems (length s.problems) few))
 
 pub problems_enter : (s : State) (ps : List NamedProblem) → Each HasTests ps → Each (IsNew s.problems) ps → Apart ps
-    → length s.problems + length ps ≤ max_problems → HasProblems s (state_after s (map problem_event ps)) (map first_version ps)
+    → length s.problems + length ps ≤ max_problems → HasProblems s (state_after s (map problem_event ps)) (map (first_version s) ps)
 problems_enter s [] tests new apart few = record { judge = refl; hosts = refl; submissions = refl; problems = sym (append-nil s.problems) }
 problems_enter s (p ∷ ps) tests new apart few =
     let one = problem_enters s p tests.0 new.0 (omega (arith, few)) in
     let s1 : State = (accepted s (problem_event p)).0 in
-    let grown : length s1.problems ≡ length s.problems + 1 = length-append s.problems (first_version p ∷ []) in
-    let rest = problems_enter s1 ps tests.1 (all_still_new s.problems p ps new.1 apart.0) apart.1 (omega (arith, few, grown)) in
-    let done : HasProblems s (state_after s1 (map problem_event ps)) (map first_version (p ∷ ps)) = record {
+    let grown : length s1.problems ≡ length s.problems + 1 = length-append s.problems (first_version s p ∷ []) in
+    let rest = problems_enter s1 ps tests.1 (all_still_new s s.problems p ps new.1 apart.0) apart.1 (omega (arith, few, grown)) in
+    let done : HasProblems s (state_after s1 (map problem_event ps)) (map (first_version s) (p ∷ ps)) = record {
       judge = rest.judge;
       hosts = rest.hosts;
       submissions = rest.submissions;
-      problems = rest.problems ∙ append_assoc s.problems (first_version p ∷ []) (map first_version ps);
+      problems = rest.problems ∙ append_assoc s.problems (first_version s p ∷ []) (map (first_version s) ps);
     } in
-    subst (λ (x : State × Reply). HasProblems s (state_after x.0 (map problem_event ps)) (map first_version (p ∷ ps))) (sym one) done
+    subst (λ (x : State × Reply). HasProblems s (state_after x.0 (map problem_event ps)) (map (first_version s) (p ∷ ps))) (sym one) done
 
 -- ---- submissions
 
@@ -129,11 +129,16 @@ IsKnown problems x = is_some (problem_number problems x.problem) ≡ true
 abbrev pub cells_of_named : List Problem → NamedSubmission → ℕ
 cells_of_named problems x = cells_for problems (number_or_0 (problem_number problems x.problem)) x.broken
 
+-- the current judging of a new submission
+abbrev pub judging_named : List Problem → NamedSubmission → Judging
+judging_named problems x = let problem = number_or_0 (problem_number problems x.problem) in
+    empty_judging Normal (cells_for problems problem x.broken) (mode_for problems problem) (asked_for problems problem)
+
 -- submissions were added, each with its judging
-pub record HasSubmissions (s t : State) (cells : List ℕ) : Type 0 where
+pub record HasSubmissions (s t : State) (new : List Judging) : Type 0 where
   pub hosts : t.hosts ≡ s.hosts
   pub problems : t.problems ≡ s.problems
-  pub judge : t.judge ≡ add_judgings s.judge Normal cells
+  pub judge : t.judge ≡ add_judgings s.judge new
 
 pub record HasRoom (s : State) (n : ℕ) : Type 0 where
   pub submissions : length s.submissions + n ≤ max_submissions
@@ -146,7 +151,7 @@ submission_enters s x known room =
     (less_than max_submissions (length s.submissions) (omega (arith, room.submissions))) (less_than max_judgings (length s.judge.judgings) (omega (arith, room.judgings))))
 
 pub submissions_enter : (s : State) (xs : List NamedSubmission) → Each (IsKnown s.problems) xs → HasRoom s (length xs)
-    → HasSubmissions s (state_after s (map submission_event xs)) (map (cells_of_named s.problems) xs)
+    → HasSubmissions s (state_after s (map submission_event xs)) (map (judging_named s.problems) xs)
 submissions_enter s [] known room = record { hosts = refl; problems = refl; judge = ap (λ js. record s.judge { judgings = js }) (sym (append-nil s.judge.judgings)) }
 submissions_enter s (x ∷ xs) known room =
     let one = submission_enters s x known.0 (record { submissions = omega (arith, room.submissions); judgings = omega (arith, room.judgings) }) in
@@ -154,12 +159,12 @@ submissions_enter s (x ∷ xs) known room =
     let more : length s1.submissions ≡ length s.submissions + 1 = length-append s.submissions _ in
     let judged : length s1.judge.judgings ≡ length s.judge.judgings + 1 = length-append s.judge.judgings _ in
     let rest = submissions_enter s1 xs known.1 (record { submissions = omega (arith, room.submissions, more); judgings = omega (arith, room.judgings, judged) }) in
-    let done : HasSubmissions s (state_after s1 (map submission_event xs)) (map (cells_of_named s.problems) (x ∷ xs)) = record {
+    let done : HasSubmissions s (state_after s1 (map submission_event xs)) (map (judging_named s.problems) (x ∷ xs)) = record {
       hosts = rest.hosts;
       problems = rest.problems;
-      judge = rest.judge ∙ ap (λ js. record s.judge { judgings = js }) (append_assoc s.judge.judgings (empty_judging Normal (cells_of_named s.problems x) ∷ []) (map (empty_judging Normal) (map (cells_of_named s.problems) xs)));
+      judge = rest.judge ∙ ap (λ js. record s.judge { judgings = js }) (append_assoc s.judge.judgings (judging_named s.problems x ∷ []) (map (judging_named s.problems) xs));
     } in
-    subst (λ (p : State × Reply). HasSubmissions s (state_after p.0 (map submission_event xs)) (map (cells_of_named s.problems) (x ∷ xs))) (sym one) done
+    subst (λ (p : State × Reply). HasSubmissions s (state_after p.0 (map submission_event xs)) (map (judging_named s.problems) (x ∷ xs))) (sym one) done
 
 -- ---- no results
 
@@ -218,4 +223,14 @@ tests_named problems name p h =
     let place : position_or_len (λ (problem : Problem). bytes_eq problem.name name) problems + 1 - 1 ≡ position_or_len (λ (problem : Problem). bytes_eq problem.name name) problems = omega arith in
     ap (λ o. tests_of problems (number_or_0 o)) (numbered_as problems name p h)
     ∙ ap (λ o. number_or_0 (option_map (λ (q : Problem). q.tests) o))
+    (item_by problems (position_or_len (λ (problem : Problem). bytes_eq problem.name name) problems + 1) p (omega arith) (ap (slice_get problems) place ∙ at.there))
+
+-- whether its judgings are asked for at once
+pub asked_of_named : (problems : List Problem) (name : List ℕ) (p : Problem) → find (λ (problem : Problem). bytes_eq problem.name name) problems ≡ Some p
+    → asked_for problems (number_or_0 (problem_number problems name)) ≡ p.asked
+asked_of_named problems name p h =
+    let at = found_at (λ (problem : Problem). bytes_eq problem.name name) problems p h in
+    let place : position_or_len (λ (problem : Problem). bytes_eq problem.name name) problems + 1 - 1 ≡ position_or_len (λ (problem : Problem). bytes_eq problem.name name) problems = omega arith in
+    ap (λ o. asked_for problems (number_or_0 o)) (numbered_as problems name p h)
+    ∙ ap (λ o. unwrap_or (option_map (λ (q : Problem). q.asked) o) true)
     (item_by problems (position_or_len (λ (problem : Problem). bytes_eq problem.name name) problems + 1) p (omega arith) (ap (slice_get problems) place ∙ at.there))

@@ -45,6 +45,7 @@ use Rattle.parallel_judge.proofs.Contests.{counts_none}
 -- a change that keeps what makes a judging run
 pub record KeepsRunnable (f : Judging → Judging) : Type 0 where
   pub dropped : (g : Judging) → (f g).dropped ≡ g.dropped
+  pub asked : (g : Judging) → (f g).asked ≡ g.asked
   pub row : (g : Judging) → length (f g).row ≡ length g.row
   pub handed : (g : Judging) → length (f g).handed ≡ length g.handed
 
@@ -53,6 +54,7 @@ one_runs case_at j f g k r =
     let row = k.row g in
     record {
       undropped = k.dropped g ∙ r.undropped;
+      asked = k.asked g ∙ r.asked;
       handed = k.handed g ∙ r.handed ∙ sym row;
       cases = λ t l u. r.cases t l (omega (arith, u, row));
     }
@@ -61,7 +63,7 @@ same_some : {X : Type 0} (x y : X) → Some x ≡ Some y → x ≡ y
 same_some x y e = cc
 
 -- the changed judging was there
-changed_was : (judgings : List Judging) (j : ℕ) (f : Judging → Judging) (g : Judging) (o : Option Judging) → item_of judgings j ≡ o → item_of (with_change judgings j f) j ≡ Some g
+pub changed_was : (judgings : List Judging) (j : ℕ) (f : Judging → Judging) (g : Judging) (o : Option Judging) → item_of judgings j ≡ o → item_of (with_change judgings j f) j ≡ Some g
     → (old : Judging) × (item_of judgings j ≡ Some old) × (f old ≡ g)
 changed_was judgings j f g None e h =
     let same : item_of (with_change judgings j f) j ≡ item_of judgings j = ap (λ (o : Option Judging). item_of (Rattle.farm_model.specs.Numbered.change_item judgings j f o) j) e in
@@ -81,10 +83,10 @@ still_runnable case_at judgings j f k all m judging is =
     ] refl
 
 handing_keeps : (test : ℕ) → KeepsRunnable (mark_handed test)
-handing_keeps test = record { dropped = λ g. refl; row = λ g. refl; handed = λ g. length-set g.handed (test - 1) true }
+handing_keeps test = record { dropped = λ g. refl; asked = λ g. refl; row = λ g. refl; handed = λ g. length-set g.handed (test - 1) true }
 
 filling_keeps : (test : ℕ) (kind : Kind) → KeepsRunnable (fill_cell test kind)
-filling_keeps test kind = record { dropped = λ g. refl; row = λ g. length-set g.row (test - 1) (Some kind); handed = λ g. refl }
+filling_keeps test kind = record { dropped = λ g. refl; asked = λ g. refl; row = λ g. length-set g.row (test - 1) (Some kind); handed = λ g. refl }
 
 -- ---- the numbers of hosts
 

@@ -5,6 +5,7 @@ pub mod Turns
 pub mod Contests
 pub mod Entered
 pub mod HostEvents
+pub mod Asking
 pub mod Deaths
 pub mod Starting
 pub mod Shown

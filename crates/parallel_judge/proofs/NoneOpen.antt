@@ -10,7 +10,7 @@ use Rattle.farm_kinds.specs.declared.outcomes.Task.{Task}
 use Rattle.farm_kinds.specs.RuleValue.{RuleValue}
 use Rattle.farm_model.specs.Numbered.{item_of, numbers_to}
 use Rattle.farm_model.specs.Judgings.{Judging, task_of}
-use Rattle.farm_model.specs.Open.{same_class, is_empty_cell, is_wanted, wanted_tests, is_free, open_in, judgings_in, open_in_class, open_tasks}
+use Rattle.farm_model.specs.Open.{same_class, is_empty_cell, is_wanted, wanted_tests, is_free, open_in, judgings_in, open_in_class, open_tasks, is_active}
 use Rattle.farm_laws.proofs.Items.{item_at}
 use Rattle.farm_laws.proofs.Each.{Each}
 
@@ -75,44 +75,44 @@ own_class High = refl
 own_class Normal = refl
 own_class Low = refl
 
-class_empty : (rule : RuleValue) (mode : Mode) (judgings : List Judging) (class : Class) → open_tasks rule mode judgings [] ≡ [] → open_in_class rule mode judgings [] class ≡ []
-class_empty rule mode judgings High h =
-    let both = left_empty (open_in_class rule mode judgings [] High ++ open_in_class rule mode judgings [] Normal) (open_in_class rule mode judgings [] Low) h in
-    left_empty (open_in_class rule mode judgings [] High) (open_in_class rule mode judgings [] Normal) both
-class_empty rule mode judgings Normal h =
-    let both = left_empty (open_in_class rule mode judgings [] High ++ open_in_class rule mode judgings [] Normal) (open_in_class rule mode judgings [] Low) h in
-    right_empty (open_in_class rule mode judgings [] High) (open_in_class rule mode judgings [] Normal) both
-class_empty rule mode judgings Low h =
-    right_empty (open_in_class rule mode judgings [] High ++ open_in_class rule mode judgings [] Normal) (open_in_class rule mode judgings [] Low) h
+class_empty : (rule : RuleValue) (judgings : List Judging) (class : Class) → open_tasks rule judgings [] ≡ [] → open_in_class rule judgings [] class ≡ []
+class_empty rule judgings High h =
+    let both = left_empty (open_in_class rule judgings [] High ++ open_in_class rule judgings [] Normal) (open_in_class rule judgings [] Low) h in
+    left_empty (open_in_class rule judgings [] High) (open_in_class rule judgings [] Normal) both
+class_empty rule judgings Normal h =
+    let both = left_empty (open_in_class rule judgings [] High ++ open_in_class rule judgings [] Normal) (open_in_class rule judgings [] Low) h in
+    right_empty (open_in_class rule judgings [] High) (open_in_class rule judgings [] Normal) both
+class_empty rule judgings Low h =
+    right_empty (open_in_class rule judgings [] High ++ open_in_class rule judgings [] Normal) (open_in_class rule judgings [] Low) h
 
-abbrev WantsNone : RuleValue → Mode → ℕ × Judging → Type 0
-WantsNone rule mode p = wanted_tests rule mode p.1.row ≡ []
+abbrev WantsNone : RuleValue → ℕ × Judging → Type 0
+WantsNone rule p = wanted_tests rule p.1.mode p.1.row ≡ []
 
-wants_none : (rule : RuleValue) (mode : Mode) (p : ℕ × Judging) → open_in rule mode [] p ≡ [] → WantsNone rule mode p
-wants_none rule mode p h =
-    map_empty (task_of p.0) (wanted_tests rule mode p.1.row) (sym (all_free (map (task_of p.0) (wanted_tests rule mode p.1.row))) ∙ h)
+wants_none : (rule : RuleValue) (p : ℕ × Judging) → open_in rule [] p ≡ [] → WantsNone rule p
+wants_none rule p h =
+    map_empty (task_of p.0) (wanted_tests rule p.1.mode p.1.row) (sym (all_free (map (task_of p.0) (wanted_tests rule p.1.mode p.1.row))) ∙ h)
 
--- a judging that is not dropped
-judging_empty : (rule : RuleValue) (mode : Mode) (judgings : List Judging) (j : ℕ) (g : Judging) → open_tasks rule mode judgings [] ≡ []
-    → item_of judgings j ≡ Some g → g.dropped ≡ false → wanted_tests rule mode g.row ≡ []
-judging_empty rule mode judgings j g none there undropped =
+-- a judging that was asked for and is not dropped
+judging_empty : (rule : RuleValue) (judgings : List Judging) (j : ℕ) (g : Judging) → open_tasks rule judgings [] ≡ []
+    → item_of judgings j ≡ Some g → is_active g ≡ true → wanted_tests rule g.mode g.row ≡ []
+judging_empty rule judgings j g none there active =
     let place = item_at judgings j g there in
-    let in_class = each_none (open_in rule mode []) (judgings_in judgings g.class) (class_empty rule mode judgings g.class none) in
-    let of_class = each_unkept (λ p. open_in rule mode [] p ≡ []) (λ p. same_class p.1.class g.class) (filter (λ p. not p.1.dropped) (enumerate_from 1 judgings)) in_class in
-    let all = each_unkept (λ p. same_class p.1.class g.class ≡ true → open_in rule mode [] p ≡ []) (λ p. not p.1.dropped) (enumerate_from 1 judgings) of_class in
-    let this = each_item (λ p. not p.1.dropped ≡ true → same_class p.1.class g.class ≡ true → open_in rule mode [] p ≡ []) judgings 1 (j - 1) g place.1 all in
-    wants_none rule mode (1 + (j - 1), g) (this (ap not undropped) (own_class g.class))
+    let in_class = each_none (open_in rule []) (judgings_in judgings g.class) (class_empty rule judgings g.class none) in
+    let of_class = each_unkept (λ p. open_in rule [] p ≡ []) (λ p. same_class p.1.class g.class) (filter (λ p. is_active p.1) (enumerate_from 1 judgings)) in_class in
+    let all = each_unkept (λ p. same_class p.1.class g.class ≡ true → open_in rule [] p ≡ []) (λ p. is_active p.1) (enumerate_from 1 judgings) of_class in
+    let this = each_item (λ p. is_active p.1 ≡ true → same_class p.1.class g.class ≡ true → open_in rule [] p ≡ []) judgings 1 (j - 1) g place.1 all in
+    wants_none rule (1 + (j - 1), g) (this active (own_class g.class))
 
 -- no empty cell of it is still to be judged
-pub not_wanted : (rule : RuleValue) (mode : Mode) (judgings : List Judging) (j : ℕ) (g : Judging) (test : ℕ) → slice_get (open_tasks rule mode judgings []) 0 ≡ None
-    → item_of judgings j ≡ Some g → g.dropped ≡ false → item_of g.row test ≡ Some None → is_wanted rule mode g.row test ≡ false
-not_wanted rule mode judgings j g test none there undropped empty =
+pub not_wanted : (rule : RuleValue) (judgings : List Judging) (j : ℕ) (g : Judging) (test : ℕ) → slice_get (open_tasks rule judgings []) 0 ≡ None
+    → item_of judgings j ≡ Some g → is_active g ≡ true → item_of g.row test ≡ Some None → is_wanted rule g.mode g.row test ≡ false
+not_wanted rule judgings j g test none there active empty =
     let place = item_at g.row test None empty in
-    let wanted = judging_empty rule mode judgings j g (none_first (open_tasks rule mode judgings []) none) there undropped in
-    let fails = each_fails (is_wanted rule mode g.row) (filter (is_empty_cell g.row) (numbers_to (length g.row))) wanted in
-    let cells = each_unkept (λ t. is_wanted rule mode g.row t ≡ false) (is_empty_cell g.row) (numbers_to (length g.row)) fails in
+    let wanted = judging_empty rule judgings j g (none_first (open_tasks rule judgings []) none) there active in
+    let fails = each_fails (is_wanted rule g.mode g.row) (filter (is_empty_cell g.row) (numbers_to (length g.row))) wanted in
+    let cells = each_unkept (λ t. is_wanted rule g.mode g.row t ≡ false) (is_empty_cell g.row) (numbers_to (length g.row)) fails in
     let inside : test - 1 < length g.row = slice_get_within g.row (test - 1) None place.1 in
-    let this = each_number (λ t. is_empty_cell g.row t ≡ true → is_wanted rule mode g.row t ≡ false) 1 (length g.row) (test - 1) inside cells in
+    let this = each_number (λ t. is_empty_cell g.row t ≡ true → is_wanted rule g.mode g.row t ≡ false) 1 (length g.row) (test - 1) inside cells in
     let number : 1 + (test - 1) ≡ test = omega (arith, place.0) in
-    subst (λ t. is_empty_cell g.row t ≡ true → is_wanted rule mode g.row t ≡ false) number this
+    subst (λ t. is_empty_cell g.row t ≡ true → is_wanted rule g.mode g.row t ≡ false) number this
     (ap is_none (get_or_from_slice_get g.row (test - 1) None None place.1))

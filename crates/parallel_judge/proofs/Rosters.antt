@@ -7,7 +7,7 @@ use Rattle.std.specs.List.Sorted.{IsStrictlySortedBy}
 use Rattle.std.specs.Str.{bytes_eq}
 use Rattle.std.specs.Ordering.{is_eq}
 use Rattle.std.specs.declared.cmp.Ordering.TheVariants.{Less}
-use Rattle.std.proofs.lemmas.List.{length-map, map-append}
+use Rattle.std.proofs.lemmas.List.{length-map, map-append, append-nil}
 use Rattle.std.proofs.lemmas.List.Elements.{All-head, All-tail}
 use Rattle.std.proofs.lemmas.List.{take-map, take_all}
 use Rattle.std.proofs.lemmas.List.FromFn.{length-enumerate_from}
@@ -18,6 +18,7 @@ use Rattle.std.proofs.lemmas.Slice.Eq.{bytes_eq-Decides}
 use Rattle.farm_kinds.specs.Names.{jury}
 use Rattle.farm_kinds.specs.declared.outcomes.Answer.TheVariants.{Final}
 use Rattle.farm_kinds.specs.declared.outcomes.Class.TheVariants.{Normal}
+use Rattle.farm_kinds.specs.declared.outcomes.NamedMode.{NamedMode}
 use Rattle.farm_kinds.specs.declared.outcomes.TableRow.{TableRow}
 use Rattle.farm_kinds.specs.declared.outcomes.Verdict.{Verdict}
 use Rattle.farm_kinds.specs.declared.events.Event.{Event}
@@ -25,9 +26,9 @@ use Rattle.farm_kinds.specs.declared.events.Event.TheVariants as event
 use Rattle.farm_kinds.specs.declared.events.Reply.TheVariants as reply
 use Rattle.farm_model.specs.declared.records.Problem.{Problem as Version}
 use Rattle.farm_model.specs.Numbered.{item_of, number_or_0}
-use Rattle.farm_model.specs.Changes.{tests_of}
+use Rattle.farm_model.specs.Changes.{tests_of, asked_named}
 use Rattle.farm_model.specs.Judgings.{task_of}
-use Rattle.farm_model.specs.State.{State, problem_number}
+use Rattle.farm_model.specs.State.{State, SettingsValue, start, problem_number}
 use Rattle.farm_model.specs.Replay.{reply_to}
 use Rattle.farm_laws.specs.Laws.{reached}
 use Rattle.farm_laws.proofs.Items.{item_at, item_seen}
@@ -43,10 +44,10 @@ use Rattle.contest_folder.specs.RosterValue.{RosterValue}
 use Rattle.contest_folder.specs.RosterShape.{IsContest, IsPlaced, names_of, problem_named}
 use Rattle.contest_folder.specs.JudgingCases.{numbered, case_with, case_in, case_for, case_at}
 use Rattle.case_run.specs.Images.{is_image}
-use Rattle.parallel_judge.specs.Entering.{NamedProblem, problem_event, submission_event}
+use Rattle.parallel_judge.specs.Entering.{NamedProblem, NamedSubmission, problem_event, submission_event, ask_event, waiting}
 use Rattle.parallel_judge.specs.Table.{named_problem, named_submission, tests_for, roster_events, verdict_for, row_for, table_rows}
 use Rattle.parallel_judge.specs.Working.{IsFinished}
-use Rattle.parallel_judge.proofs.Contests.{HasTests, Apart, IsKnown, first_version, cells_of_named, numbered_as, tests_named}
+use Rattle.parallel_judge.proofs.Contests.{HasTests, Apart, IsKnown, first_version, cells_of_named, judging_named, numbered_as, tests_named, asked_of_named}
 use Rattle.parallel_judge.specs.Hosts.{all_hosts, host_names, with_hosts}
 use Rattle.parallel_judge.specs.UnderWay.{IsUnderWay}
 use Rattle.parallel_judge.proofs.Entered.{IsContestOf}
@@ -92,20 +93,20 @@ either_way a b = elim (bytes_eq b a) as (λ x. bytes_eq b a ≡ x → bytes_eq a
   ] refl
 ] refl
 
-abbrev version_of : Problem → Version
-version_of problem = first_version (named_problem problem)
+abbrev version_of : SettingsValue → Problem → Version
+version_of settings problem = first_version (start settings) (named_problem problem)
 
-abbrev versions : List Problem → List Version
-versions problems = map first_version (map named_problem problems)
+abbrev versions : SettingsValue → List Problem → List Version
+versions settings problems = map (first_version (start settings)) (map named_problem problems)
 
-version_named : (problems : List Problem) (name : List ℕ) → find (λ (version : Version). bytes_eq version.name name) (versions problems) ≡ option_map version_of (problem_named problems name)
-version_named [] name = refl
-version_named (problem ∷ problems) name =
-    ap (λ b. cond b (Some (version_of problem)) (find (λ (version : Version). bytes_eq version.name name) (versions problems))) (either_way problem.name name)
-    ∙ elim (bytes_eq name problem.name) as (λ b. cond b (Some (version_of problem)) (find (λ (version : Version). bytes_eq version.name name) (versions problems))
-    ≡ option_map version_of (cond b (Some problem) (problem_named problems name))) [
+version_named : (settings : SettingsValue) (problems : List Problem) (name : List ℕ) → find (λ (version : Version). bytes_eq version.name name) (versions settings problems) ≡ option_map (version_of settings) (problem_named problems name)
+version_named settings [] name = refl
+version_named settings (problem ∷ problems) name =
+    ap (λ b. cond b (Some (version_of settings problem)) (find (λ (version : Version). bytes_eq version.name name) (versions settings problems))) (either_way problem.name name)
+    ∙ elim (bytes_eq name problem.name) as (λ b. cond b (Some (version_of settings problem)) (find (λ (version : Version). bytes_eq version.name name) (versions settings problems))
+    ≡ option_map (version_of settings) (cond b (Some problem) (problem_named problems name))) [
       | true ↦ refl
-      | false ↦ version_named problems name
+      | false ↦ version_named settings problems name
     ]
 
 known_by : (problems : List Problem) (x : Submission) → IsPlaced problems x → (problem : Problem) × (problem_named problems x.problem ≡ Some problem)
@@ -114,32 +115,53 @@ known_by problems x placed = elim (problem_named problems x.problem) as (λ (o :
   | Some problem ↦ λ h. (problem, refl)
 ] placed
 
-found_version : (problems : List Problem) (name : List ℕ) (problem : Problem) → problem_named problems name ≡ Some problem
-    → find (λ (version : Version). bytes_eq version.name name) (versions problems) ≡ Some (version_of problem)
-found_version problems name problem e = version_named problems name ∙ ap (option_map version_of) e
+found_version : (settings : SettingsValue) (problems : List Problem) (name : List ℕ) (problem : Problem) → problem_named problems name ≡ Some problem
+    → find (λ (version : Version). bytes_eq version.name name) (versions settings problems) ≡ Some (version_of settings problem)
+found_version settings problems name problem e = version_named settings problems name ∙ ap (option_map (version_of settings)) e
 
-all_known : (problems : List Problem) (xs : List Submission) → All (IsPlaced problems) xs → Each (IsKnown (versions problems)) (map named_submission xs)
-all_known problems [] h = tt
-all_known problems (x ∷ xs) h =
+all_known : (settings : SettingsValue) (problems : List Problem) (xs : List Submission) → All (IsPlaced problems) xs → Each (IsKnown (versions settings problems)) (map named_submission xs)
+all_known settings problems [] h = tt
+all_known settings problems (x ∷ xs) h =
     let known = known_by problems x (All-head (IsPlaced problems) x xs h) in
-    (ap is_some (numbered_as (versions problems) x.problem (version_of known.0) (found_version problems x.problem known.0 known.1)), all_known problems xs (All-tail (IsPlaced problems) x xs h))
+    (ap is_some (numbered_as (versions settings problems) x.problem (version_of settings known.0) (found_version settings problems x.problem known.0 known.1)), all_known settings problems xs (All-tail (IsPlaced problems) x xs h))
+
+-- what is found has the name
+named_so : (problems : List Problem) (name : List ℕ) (problem : Problem) → problem_named problems name ≡ Some problem → name ≡ problem.name
+named_so [] name problem e = cc
+named_so (p ∷ problems) name problem e =
+    elim (bytes_eq name p.name) as (λ b. bytes_eq name p.name ≡ b → cond b (Some p) (problem_named problems name) ≡ Some problem → name ≡ problem.name) [
+      | true ↦ λ same found. let is : p ≡ problem = cc in (bytes_eq-Decides name p.name).0 same ∙ ap (λ (q : Problem). q.name) is
+      | false ↦ λ other found. named_so problems name problem found
+    ] refl e
+
+-- a judging waits to be asked for where its problem is on demand
+all_wait : (settings : SettingsValue) (problems : List Problem) (xs : List Submission) → All (IsPlaced problems) xs
+    → Each (λ (x : NamedSubmission). (judging_named (versions settings problems) x).asked ≡ asked_named settings.modes x.problem) (map named_submission xs)
+all_wait settings problems [] h = tt
+all_wait settings problems (x ∷ xs) h =
+    let known = known_by problems x (All-head (IsPlaced problems) x xs h) in
+    let name : x.problem ≡ known.0.name = named_so problems x.problem known.0 known.1 in (
+      asked_of_named (versions settings problems) x.problem (version_of settings known.0) (found_version settings problems x.problem known.0 known.1)
+          ∙ ap (asked_named settings.modes) (sym name),
+      all_wait settings problems xs (All-tail (IsPlaced problems) x xs h),
+    )
 
 -- ---- how many cells a judging has
 
-same_tests : (roster : RosterValue) (x : Submission) → IsPlaced roster.problems x → cells_of_named (versions roster.problems) (named_submission x) ≡ tests_for roster x
+same_tests : (roster : RosterValue) (x : Submission) → IsPlaced roster.problems x → cells_of_named (versions roster.settings roster.problems) (named_submission x) ≡ tests_for roster x
 same_tests roster x placed =
     let known = known_by roster.problems x placed in
-    elim (is_image x.image) as (λ b. cond (not b) 0 (tests_of (versions roster.problems) (number_or_0 (problem_number (versions roster.problems) x.problem)))
+    elim (is_image x.image) as (λ b. cond (not b) 0 (tests_of (versions roster.settings roster.problems) (number_or_0 (problem_number (versions roster.settings roster.problems) x.problem)))
     ≡ cond b (number_or_0 (option_map (λ (problem : Problem). length problem.contents.tests) (problem_named roster.problems x.problem))) 0) [
-      | true ↦ tests_named (versions roster.problems) x.problem (version_of known.0) (found_version roster.problems x.problem known.0 known.1)
+      | true ↦ tests_named (versions roster.settings roster.problems) x.problem (version_of roster.settings known.0) (found_version roster.settings roster.problems x.problem known.0 known.1)
           ∙ sym (ap (λ (o : Option Problem). number_or_0 (option_map (λ (problem : Problem). length problem.contents.tests) o)) known.1)
       | false ↦ refl
     ]
 
-all_same_tests : (roster : RosterValue) (xs : List Submission) → All (IsPlaced roster.problems) xs → map (cells_of_named (versions roster.problems)) (map named_submission xs) ≡ map (tests_for roster) xs
+all_same_tests : (roster : RosterValue) (xs : List Submission) → All (IsPlaced roster.problems) xs → map (cells_of_named (versions roster.settings roster.problems)) (map named_submission xs) ≡ map (tests_for roster) xs
 all_same_tests roster [] h = refl
 all_same_tests roster (x ∷ xs) h =
-    ap (λ n. n ∷ map (cells_of_named (versions roster.problems)) (map named_submission xs)) (same_tests roster x (All-head (IsPlaced roster.problems) x xs h))
+    ap (λ n. n ∷ map (cells_of_named (versions roster.settings roster.problems)) (map named_submission xs)) (same_tests roster x (All-head (IsPlaced roster.problems) x xs h))
     ∙ ap (λ ns. tests_for roster x ∷ ns) (all_same_tests roster xs (All-tail (IsPlaced roster.problems) x xs h))
 
 -- ---- each test has a case
@@ -188,7 +210,7 @@ all_cases roster j n there test low high =
 
 -- a roster can enter a farm
 pub contest_of_roster : (roster : RosterValue) → IsContest roster
-    → IsContestOf (case_at roster) (map (tests_for roster) roster.submissions) (map named_problem roster.problems) (map named_submission roster.submissions)
+    → IsContestOf roster.settings (case_at roster) (map (tests_for roster) roster.submissions) (map named_problem roster.problems) (map named_submission roster.submissions)
 contest_of_roster roster is =
     let problems : length (map named_problem roster.problems) ≡ length roster.problems = length-map roster.problems named_problem in
     let submissions : length (map named_submission roster.submissions) ≡ length roster.submissions = length-map roster.submissions named_submission in
@@ -198,9 +220,10 @@ contest_of_roster roster is =
       tests = all_have_tests roster.problems is.packages;
       apart = all_apart roster.problems is.rising;
       few_problems = omega (arith, few_problems, problems);
-      known = all_known roster.problems roster.submissions is.placed;
+      known = all_known roster.settings roster.problems roster.submissions is.placed;
       few = omega (arith, few, submissions);
       lengths = all_same_tests roster roster.submissions is.placed;
+      asked = all_wait roster.settings roster.problems roster.submissions is.placed;
       cases = all_cases roster;
     }
 
@@ -258,6 +281,61 @@ submission_events xs i r told =
     ∙ ap (map submission_event) (map-append named_submission (take i xs) (x.0 ∷ []))
     ∙ map-append submission_event (map named_submission (take i xs)) (named_submission x.0 ∷ [])
     ∙ ap (λ (y : RosterSubmission). map submission_event (map named_submission (take i xs)) ++ event.Submit y.problem Normal y.broken ∷ []) x.2
+
+-- one submission more may wait
+waiting_more : (modes : List NamedMode) (n : ℕ) (xs : List NamedSubmission) (x : NamedSubmission)
+    → waiting modes n (xs ++ x ∷ []) ≡ waiting modes n xs ++ cond (asked_named modes x.problem) [] ((n + length xs) ∷ [])
+waiting_more modes n [] x =
+    let here : n ≡ n + 0 = omega arith in
+    elim (asked_named modes x.problem) as (λ b. cond b [] (n ∷ []) ≡ cond b [] ((n + 0) ∷ [])) [ true ↦ refl | false ↦ ap (λ m. m ∷ []) here ]
+waiting_more modes n (y ∷ xs) x =
+    let place : n + 1 + length xs ≡ n + length (y ∷ xs) = omega arith in
+    let rest : waiting modes (n + 1) (xs ++ x ∷ []) ≡ waiting modes (n + 1) xs ++ cond (asked_named modes x.problem) [] ((n + length (y ∷ xs)) ∷ []) =
+    waiting_more modes (n + 1) xs x ∙ ap (λ m. waiting modes (n + 1) xs ++ cond (asked_named modes x.problem) [] (m ∷ [])) place in
+    elim (asked_named modes y.problem) as (λ b. cond b (waiting modes (n + 1) (xs ++ x ∷ [])) (n ∷ waiting modes (n + 1) (xs ++ x ∷ []))
+    ≡ cond b (waiting modes (n + 1) xs) (n ∷ waiting modes (n + 1) xs) ++ cond (asked_named modes x.problem) [] ((n + length (y ∷ xs)) ∷ [])) [
+      | true ↦ rest
+      | false ↦ ap (λ ms. n ∷ ms) rest
+    ]
+
+long_enough : {X : Type 0} (xs : List X) (i : ℕ) (x : X) → slice_get xs i ≡ Some x → length (take i xs) ≡ i
+long_enough [] i x h = cc
+long_enough (y ∷ xs) zero x h = refl
+long_enough (y ∷ xs) (suc i) x h = let rest = long_enough xs i x h in omega (arith, rest)
+
+-- the events that ask for what waits, with one more submission
+ask_events : (modes : List NamedMode) (xs : List Submission) (i : ℕ) (r : RosterSubmission) → option_map told_submission (slice_get xs (i + 1 - 1)) ≡ Some r
+    → map ask_event (waiting modes 1 (map named_submission (take (i + 1) xs)))
+    ≡ map ask_event (waiting modes 1 (map named_submission (take i xs))) ++ cond (asked_named modes r.problem) [] (ask_event (i + 1) ∷ [])
+ask_events modes xs i r told =
+    let x = told_as xs i r told in
+    let number : 1 + length (map named_submission (take i xs)) ≡ i + 1 = let a = length-map (take i xs) named_submission in let b = long_enough xs i x.0 x.1 in omega (arith, a, b) in
+    let problem : x.0.problem ≡ r.problem = ap (λ (y : RosterSubmission). y.problem) x.2 in
+    ap (λ ys. map ask_event (waiting modes 1 (map named_submission ys))) (one_taken xs i x.0 x.1)
+    ∙ ap (λ ys. map ask_event (waiting modes 1 ys)) (map-append named_submission (take i xs) (x.0 ∷ []))
+    ∙ ap (map ask_event) (waiting_more modes 1 (map named_submission (take i xs)) (named_submission x.0)
+    ∙ ap (λ m. waiting modes 1 (map named_submission (take i xs)) ++ cond (asked_named modes x.0.problem) [] (m ∷ [])) number
+    ∙ ap (λ name. waiting modes 1 (map named_submission (take i xs)) ++ cond (asked_named modes name) [] ((i + 1) ∷ [])) problem)
+    ∙ map-append ask_event (waiting modes 1 (map named_submission (take i xs))) (cond (asked_named modes r.problem) [] ((i + 1) ∷ []))
+    ∙ ap (λ es. map ask_event (waiting modes 1 (map named_submission (take i xs))) ++ es) (elim (asked_named modes r.problem) as (λ b. map ask_event (cond b [] ((i + 1) ∷ [])) ≡ cond b [] (ask_event (i + 1) ∷ [])) [ true ↦ refl | false ↦ refl ])
+
+-- what was asked for from the start is not asked for again
+pub ask_none : (modes : List NamedMode) (xs : List Submission) (i : ℕ) (r : RosterSubmission) → option_map told_submission (slice_get xs (i + 1 - 1)) ≡ Some r
+    → asked_named modes r.problem ≡ true
+    → map ask_event (waiting modes 1 (map named_submission (take (i + 1) xs))) ≡ map ask_event (waiting modes 1 (map named_submission (take i xs)))
+ask_none modes xs i r told asked =
+    ask_events modes xs i r told
+    ∙ ap (λ b. map ask_event (waiting modes 1 (map named_submission (take i xs))) ++ cond b [] (ask_event (i + 1) ∷ [])) asked
+    ∙ append-nil (map ask_event (waiting modes 1 (map named_submission (take i xs))))
+
+-- what waits is asked for
+pub ask_one : (modes : List NamedMode) (xs : List Submission) (i : ℕ) (who : List ℕ) (r : RosterSubmission) → who ≡ jury → option_map told_submission (slice_get xs (i + 1 - 1)) ≡ Some r
+    → asked_named modes r.problem ≡ false
+    → map ask_event (waiting modes 1 (map named_submission (take (i + 1) xs))) ≡ map ask_event (waiting modes 1 (map named_submission (take i xs))) ++ event.Ask who (i + 1) ∷ []
+ask_one modes xs i who r by_jury told waits =
+    ask_events modes xs i r told
+    ∙ ap (λ b. map ask_event (waiting modes 1 (map named_submission (take i xs))) ++ cond b [] (ask_event (i + 1) ∷ [])) waits
+    ∙ ap (λ (w : List ℕ). map ask_event (waiting modes 1 (map named_submission (take i xs))) ++ event.Ask w (i + 1) ∷ []) (sym by_jury)
 
 -- the events of one more host
 pub host_events : (hosts i : ℕ) (name : List ℕ) → i < hosts → slice_get all_hosts (i + 1 - 1) ≡ Some name

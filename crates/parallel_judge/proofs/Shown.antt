@@ -1,10 +1,11 @@
 -- What is reported once no task is open: what running every test in rank order on one thread gives.
-use Rattle.std.proofs.Common.{ℕ, ◌≡◌, List, [], slice_get, Option, Some, None, true, false, refl, sym, ap, ◌∙◌, subst, length}
-use Rattle.std.specs.Prelude.{IsSome, is_some}
+use Rattle.std.proofs.Common.{ℕ, ◌≡◌, List, [], slice_get, Option, Some, None, Bool, true, false, inl, ◌&&◌, refl, sym, ap, ◌∙◌, subst, length}
+use Rattle.std.specs.Prelude.{IsSome, is_some, not}
 use Rattle.std.specs.Option.{option_map, unwrap_or}
 use Rattle.farm_kinds.specs.declared.outcomes.Answer.{Answer}
 use Rattle.farm_kinds.specs.declared.outcomes.Answer.TheVariants.{Final, Pending}
 use Rattle.farm_kinds.specs.declared.outcomes.Mode.{Mode}
+use Rattle.farm_kinds.specs.declared.outcomes.Mode.TheVariants.{Lazy}
 use Rattle.farm_kinds.specs.declared.outcomes.Task.{Task}
 use Rattle.farm_kinds.specs.declared.outcomes.Verdict.{Verdict}
 use Rattle.farm_kinds.specs.declared.events.Event.{Event}
@@ -14,12 +15,12 @@ use Rattle.farm_kinds.specs.RuleValue.{RuleValue}
 use Rattle.farm_model.specs.Numbered.{item_of}
 use Rattle.farm_model.specs.Refusing.{unless, refused_or}
 use Rattle.farm_model.specs.Rows.{Row}
-use Rattle.farm_model.specs.Open.{is_wanted, open_tasks}
+use Rattle.farm_model.specs.Open.{is_wanted, is_active, open_tasks}
 use Rattle.farm_model.specs.Judgings.{Judging, task_of}
 use Rattle.farm_model.specs.Judge.{first_open}
 use Rattle.farm_model.specs.State.{State, SettingsValue, start, answer_at}
 use Rattle.farm_model.specs.Replay.{reply_to, IsHonest, KnowsAll, one_thread_verdict}
-use Rattle.farm_laws.specs.Laws.{reached, row_in, replayed_row}
+use Rattle.farm_laws.specs.Laws.{reached, row_in, mode_in, replayed_row}
 use Rattle.farm_laws.proofs.Runs.{runs}
 use Rattle.farm_laws.proofs.Reporting.{keeps_promise}
 use Rattle.case_run.specs.Cases.{TestCase}
@@ -44,17 +45,20 @@ row_there s j g there = ap (λ (o : Option Judging). unwrap_or (option_map (λ j
 
 none_wanted : (settings : SettingsValue) (case_at : Task → Option TestCase) (host : List ℕ) (es : List Event) (j : ℕ) (g : Judging) (test : ℕ)
     → IsReady case_at host (reached settings es) → first_open (reached settings es).judge ≡ None → item_of (reached settings es).judge.judgings j ≡ Some g
-    → item_of (replayed_row settings es j) test ≡ Some None → is_wanted settings.rule settings.mode (replayed_row settings es j) test ≡ false
+    → item_of (replayed_row settings es j) test ≡ Some None → is_wanted settings.rule (mode_in (reached settings es) j) (replayed_row settings es j) test ≡ false
 none_wanted settings case_at host es j g test ready none there empty =
     let s = reached settings es in
     let run = runs (start settings) es in
     let row : replayed_row settings es j ≡ g.row = sym ((keeps_promise settings es).row_is_replayed j (ap is_some there)) ∙ row_there s j g there in
-    subst (λ (r : Row). is_wanted settings.rule settings.mode r test ≡ false) (sym row)
-    (subst (λ (rule : RuleValue). is_wanted rule settings.mode g.row test ≡ false) run.rule
-    (subst (λ (mode : Mode). is_wanted s.judge.rule mode g.row test ≡ false) run.mode
-    (not_wanted s.judge.rule s.judge.mode s.judge.judgings j g test
-    (subst (λ leases. slice_get (open_tasks s.judge.rule s.judge.mode s.judge.judgings leases) 0 ≡ None) ready.free none)
-    there (ready.runnable j g there).undropped (ap (λ (r : Row). item_of r test) (sym row) ∙ empty))))
+    let mode : mode_in s j ≡ g.mode = ap (λ (o : Option Judging). unwrap_or (option_map (λ judging. judging.mode) o) Lazy) there in
+    let runnable = ready.runnable j g there in
+    let active : is_active g ≡ true = ap (λ (dropped : Bool). not dropped && g.asked) runnable.undropped ∙ runnable.asked in
+    subst (λ (r : Row). is_wanted settings.rule (mode_in s j) r test ≡ false) (sym row)
+    (subst (λ (rule : RuleValue). is_wanted rule (mode_in s j) g.row test ≡ false) run.rule
+    (subst (λ (m : Mode). is_wanted s.judge.rule m g.row test ≡ false) (sym mode)
+    (not_wanted s.judge.rule s.judge.judgings j g test
+    (subst (λ leases. slice_get (open_tasks s.judge.rule s.judge.judgings leases) 0 ≡ None) ready.free none)
+    there active (ap (λ (r : Row). item_of r test) (sym row) ∙ empty))))
 
 is_final_as : (settings : SettingsValue) (case_at : Task → Option TestCase) (host : List ℕ) (es : List Event) (j : ℕ) (g : Judging) (a : Answer)
     → IsHonest (start settings) es (truth_of case_at) → IsReady case_at host (reached settings es) → first_open (reached settings es).judge ≡ None
@@ -62,13 +66,13 @@ is_final_as : (settings : SettingsValue) (case_at : Task → Option TestCase) (h
     → a ≡ Final (one_thread_verdict settings.rule (truth_of case_at) j (length g.row))
 is_final_as settings case_at host es j g Pending honest ready none there told =
     let promise = (keeps_promise settings es).each_step (event.Show j) in
-    let wanted = (promise.pending_is_exact j refl (ap is_some there)).0 told in
+    let wanted = (promise.pending_is_exact j (inl refl) (ap is_some there)).0 told in
     absurd (let no : true ≡ false = sym wanted.1.1 ∙ none_wanted settings case_at host es j g wanted.0 ready none there wanted.1.0 in cc)
 is_final_as settings case_at host es j g (Final v) honest ready none there told =
     let promise = (keeps_promise settings es).each_step (event.Show j) in
     let row = ap (λ (r : Row). length r) (row_there (reached settings es) j g there) in
     let knows_all : KnowsAll (truth_of case_at) j (length (row_in (reached settings es) j)) = subst (KnowsAll (truth_of case_at) j) (sym row) (knows case_at j g (ready.runnable j g there)) in
-    ap (λ (w : Verdict). Final w) (promise.equals_one_thread (truth_of case_at) j v refl honest knows_all told
+    ap (λ (w : Verdict). Final w) (promise.equals_one_thread (truth_of case_at) j v (inl refl) honest knows_all told
     ∙ ap (one_thread_verdict settings.rule (truth_of case_at) j) row)
 
 shows_reached : (settings : SettingsValue) (case_at : Task → Option TestCase) (host : List ℕ) (es : List Event) (j : ℕ) (g : Judging)

@@ -4,12 +4,12 @@ use Rattle.std.specs.Prelude.{not, ◌&&◌, All}
 use Rattle.std.specs.Str.{bytes_eq}
 use Rattle.std.proofs.lemmas.List.{append_assoc, append-nil, length-append}
 use Rattle.std.proofs.lemmas.List.Elements.{All-nil}
+use Rattle.farm_kinds.specs.declared.outcomes.NamedMode.{NamedMode}
 use Rattle.farm_kinds.specs.declared.outcomes.Task.{Task}
 use Rattle.farm_kinds.specs.declared.events.Event.{Event}
 use Rattle.farm_kinds.specs.declared.events.Event.TheVariants as event
 use Rattle.farm_model.specs.declared.records.Host.{Host}
 use Rattle.farm_model.specs.Limits.{max_hosts}
-use Rattle.farm_model.specs.Judge.{JudgeState}
 use Rattle.farm_model.specs.State.{State, SettingsValue, start}
 use Rattle.farm_model.specs.Farm.{farm_step}
 use Rattle.farm_model.specs.Replay.{state_after, given_by, counted_in, AgreesWith}
@@ -17,13 +17,13 @@ use Rattle.farm_laws.specs.Laws.{reached}
 use Rattle.farm_laws.proofs.Each.{Each, each_append}
 use Rattle.farm_laws.proofs.Outputs.{state_after-append}
 use Rattle.case_run.specs.Cases.{TestCase}
-use Rattle.parallel_judge.specs.Entering.{NamedProblem, NamedSubmission, problem_event, submission_event, contest_events}
+use Rattle.parallel_judge.specs.Entering.{NamedProblem, NamedSubmission, problem_event, submission_event, ask_event, waiting, contest_events}
 use Rattle.parallel_judge.specs.Hosts.{all_hosts, host_names}
 use Rattle.parallel_judge.specs.UnderWay.{AreHeldAfter, IsUnderWay}
 use Rattle.parallel_judge.specs.Working.{truth_of, AreRunnable, row_lengths}
 use Rattle.parallel_judge.proofs.Contests.{counts_none, problems_give_none, submissions_give_none}
 use Rattle.parallel_judge.proofs.Deaths.{IsOther, ups, one_more_host, host_dies}
-use Rattle.parallel_judge.proofs.Entered.{IsContestOf, contest_enters, all_run, empty_lengths}
+use Rattle.parallel_judge.proofs.Entered.{IsContestOf, contest_enters}
 
 -- ---- the names of hosts
 
@@ -95,34 +95,38 @@ hosts_give_none : (names : List (List ℕ)) → Each (λ e. given_by e ≡ None)
 hosts_give_none [] = tt
 hosts_give_none (name ∷ names) = (refl, hosts_give_none names)
 
-none_given : (ps : List NamedProblem) (xs : List NamedSubmission) (names : List (List ℕ)) → Each (λ e. given_by e ≡ None) (contest_events ps xs ++ map event.Host names)
-none_given ps xs names =
-    each_append (λ e. given_by e ≡ None) (contest_events ps xs) (map event.Host names)
-    (each_append (λ e. given_by e ≡ None) (map problem_event ps) (map submission_event xs) (problems_give_none ps) (submissions_give_none xs)) (hosts_give_none names)
+asks_give_none : (ns : List ℕ) → Each (λ e. given_by e ≡ None) (map ask_event ns)
+asks_give_none [] = tt
+asks_give_none (n ∷ ns) = (refl, asks_give_none ns)
+
+none_given : (modes : List NamedMode) (ps : List NamedProblem) (xs : List NamedSubmission) (names : List (List ℕ)) → Each (λ e. given_by e ≡ None) (contest_events modes ps xs ++ map event.Host names)
+none_given modes ps xs names =
+    let both = each_append (λ e. given_by e ≡ None) (map problem_event ps) (map submission_event xs) (problems_give_none ps) (submissions_give_none xs) in
+    let contest = each_append (λ e. given_by e ≡ None) (map problem_event ps ++ map submission_event xs) (map ask_event (waiting modes 1 xs)) both (asks_give_none (waiting modes 1 xs)) in
+    each_append (λ e. given_by e ≡ None) (contest_events modes ps xs) (map event.Host names) contest (hosts_give_none names)
 
 -- the contest is under way
 pub starts : (settings : SettingsValue) (case_at : Task → Option TestCase) (cells : List ℕ) (names : List (List ℕ)) (ps : List NamedProblem) (xs : List NamedSubmission)
-    → IsContestOf case_at cells ps xs → AreNew [] names → length names < max_hosts
-    → IsUnderWay settings case_at cells [] names (reached settings (contest_events ps xs ++ map event.Host names))
+    → IsContestOf settings case_at cells ps xs → AreNew [] names → length names < max_hosts
+    → IsUnderWay settings case_at cells [] names (reached settings (contest_events settings.modes ps xs ++ map event.Host names))
 starts settings case_at cells names ps xs c new few =
     let contest = contest_enters settings case_at cells ps xs c in
-    let s = reached settings (contest_events ps xs) in
-    let es = contest_events ps xs ++ map event.Host names in
+    let s = reached settings (contest_events settings.modes ps xs) in
+    let es = contest_events settings.modes ps xs ++ map event.Host names in
     let whole : reached settings es ≡ record s { hosts = ups names } =
-    state_after-append (start settings) (contest_events ps xs) (map event.Host names) ∙ hosts_enter s [] names contest.1 new (omega (arith, few)) in
-    let none : counted_in (start settings) es ≡ [] = counts_none (start settings) es (none_given ps xs names) in
+    state_after-append (start settings) (contest_events settings.modes ps xs) (map event.Host names) ∙ hosts_enter s [] names contest.hosts new (omega (arith, few)) in
+    let none : counted_in (start settings) es ≡ [] = counts_none (start settings) es (none_given settings.modes ps xs names) in
     record {
-      runnable = subst (λ (t : State). AreRunnable case_at t.judge.judgings) (sym whole)
-          (subst (λ (j : JudgeState). AreRunnable case_at j.judgings) (sym contest.0) (all_run case_at cells c.cases));
+      runnable = subst (λ (t : State). AreRunnable case_at t.judge.judgings) (sym whole) contest.runnable;
       honest = record {
         events = es;
         stands = refl;
         honest = subst (All (AgreesWith settings.rule (truth_of case_at))) (sym none) (All-nil (AgreesWith settings.rule (truth_of case_at)));
       };
-      lengths = ap row_lengths whole ∙ ap (λ (j : JudgeState). map (λ judging. length judging.row) j.judgings) contest.0 ∙ empty_lengths cells;
+      lengths = ap row_lengths whole ∙ contest.lengths;
       hosts = ap (λ (t : State). t.hosts) whole;
       held = subst (λ (t : State). AreHeldAfter 0 (length names) t.judge.leases) (sym whole)
-          (subst (λ (j : JudgeState). AreHeldAfter 0 (length names) j.leases) (sym contest.0) tt);
+          (subst (AreHeldAfter 0 (length names)) (sym contest.leases) tt);
     }
 
 -- ---- hosts die

@@ -145,6 +145,7 @@ turned_runs case_at task g kind r =
     let row : length (turned task kind g).row ≡ length g.row = length-set g.row (task.test - 1) (Some kind) in
     record {
       undropped = r.undropped;
+      asked = r.asked;
       handed = length-set g.handed (task.test - 1) true ∙ r.handed ∙ sym row;
       cases = λ t l u. r.cases t l (omega (arith, u, row));
     }
@@ -217,7 +218,7 @@ claims_first s host task up free some = claims s host up free ∙ ap (λ o. by_j
 pub first_is : (case_at : Task → Option TestCase) (s : State) (host : List ℕ) (task : Task) → IsReady case_at host s → first_open s.judge ≡ Some task
     → (g : Judging) × IsToTurn s task g
 first_is case_at s host task ready first =
-    let open_task : IsOpen s.judge.rule s.judge.mode s.judge.judgings task =
+    let open_task : IsOpen s.judge.rule s.judge.judgings task =
     hands_open s (event.Claim host) task (lease_end s.judge) (ap (λ (p : State × Reply). p.1) (claims_first s host task ready.up ready.free first)) in
     let runnable = ready.runnable task.judging open_task.judging open_task.there in
     (open_task.judging, record { there = open_task.there; empty = open_task.empty; undropped = runnable.undropped; handed = runnable.handed })

@@ -43,6 +43,7 @@ IsJudgingEvent case_at (event.Host name) = Unit {0}
 IsJudgingEvent case_at (event.Submit problem class broken) = Unit {0}
 IsJudgingEvent case_at (event.Claim host) = Unit {0}
 IsJudgingEvent case_at (event.Result host j test kind) = truth_of case_at (task_of j test) ≡ Some kind
+IsJudgingEvent case_at (event.Ask who j) = Unit {0}
 IsJudgingEvent case_at (event.Down host) = Unit {0}
 IsJudgingEvent case_at (event.Show j) = Unit {0}
 IsJudgingEvent case_at e = ⊥

@@ -24,7 +24,8 @@ named_submission submission = record { problem = submission.problem; broken = no
 
 -- the events by which a contest enters a farm
 abbrev pub roster_events : RosterValue → List Event
-roster_events roster = contest_events (map named_problem roster.problems) (map named_submission roster.submissions)
+roster_events roster =
+    contest_events roster.settings.modes (map named_problem roster.problems) (map named_submission roster.submissions)
 
 -- how many tests a submission is judged by: those of its problem, or none where it is broken
 abbrev pub tests_for : RosterValue → Submission → ℕ

@@ -1,5 +1,5 @@
 -- A farm at which a host works off the tasks that are open.
-use Rattle.std.specs.Prelude.{◌≡◌, ℕ, ◌+◌, ◌<◌, ◌≤◌, false, if◌then◌else◌, is_none, List, [], ◌∷◌, map, length, Option, Some, None, IsSome}
+use Rattle.std.specs.Prelude.{◌≡◌, ℕ, ◌+◌, ◌<◌, ◌≤◌, true, false, if◌then◌else◌, is_none, List, [], ◌∷◌, map, length, Option, Some, None, IsSome}
 use Rattle.std.specs.Option.{option_map}
 use Rattle.farm_kinds.specs.declared.kinds.Kind.{Kind}
 use Rattle.farm_kinds.specs.declared.outcomes.Task.{Task}
@@ -18,9 +18,10 @@ use Rattle.case_run.specs.Values.{case_value}
 abbrev pub truth_of : (Task → Option TestCase) → Truth
 truth_of case_at task = option_map case_value (case_at task)
 
--- a judging that can be run: it takes results, and each of its tests has a case
+-- a judging that can be run: it takes results, it was asked for, and each of its tests has a case
 pub record IsRunnable (case_at : Task → Option TestCase) (j : ℕ) (judging : Judging) : Type 0 where
   pub undropped : judging.dropped ≡ false
+  pub asked : judging.asked ≡ true
   pub handed : length judging.handed ≡ length judging.row
   pub cases : (test : ℕ) → 1 ≤ test → test ≤ length judging.row → IsSome (case_at (task_of j test))
 

@@ -22,6 +22,7 @@ impl Contest {
             Event::Apply { rejudging, .. } => self.apply_refusal(*rejudging),
             Event::Cancel { rejudging, .. } => self.close_refusal(*rejudging),
             Event::Verify { judging, .. } => self.verify_refusal(*judging),
+            Event::Ask { judging, .. } => self.ask_refusal(*judging),
             // No other event is the jury's.
             _ => None,
         }
@@ -43,6 +44,7 @@ impl Contest {
             Event::Apply { rejudging, .. } => Ok(self.apply(*rejudging)),
             Event::Cancel { rejudging, .. } => Ok(self.cancel(*rejudging)),
             Event::Verify { judging, .. } => Ok(self.verify(*judging)),
+            Event::Ask { judging, .. } => Ok(self.ask(*judging)),
             // No other event is the jury's.
             _ => Err(NoMemory),
         }

@@ -8,6 +8,7 @@ ghost use Rattle.farm_model.specs.Changes.{with_problem, with_version};
 ghost use Rattle.farm_core.specs.FarmShape.{HadMemory};
 
 use super::Contest;
+use crate::modes::{is_asked_at_once, judged_mode, mode_named};
 use farm_kinds::{MAX_PROBLEMS, MAX_TESTS, MAX_VERSIONS, Name, NoMemory, Reply};
 use farm_model::Problem;
 
@@ -50,10 +51,13 @@ impl Contest {
     {
         self.problems.reserve(1)?;
         self.problem_names.reserve()?;
+        let named = mode_named(self.modes.as_slice(), &name);
         self.problems.push_reserved(Problem {
             name,
             version: 1,
             tests: tests as u16,
+            mode: judged_mode(named, self.mode),
+            asked: is_asked_at_once(named),
         });
         self.problem_names.push_reserved(name);
         Ok(Reply::Problem { name, version: 1 })
@@ -94,6 +98,8 @@ impl Contest {
             name: kept.name,
             version,
             tests: tests as u16,
+            mode: kept.mode,
+            asked: kept.asked,
         };
         Reply::Problem { name, version }
     }

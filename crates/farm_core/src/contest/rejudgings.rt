@@ -130,7 +130,7 @@ impl Contest {
         self.judge.reserve(&tests)?;
         self.details.reserve(list.len())?;
         let first = self.judge.judgings() as u32 + 1;
-        add_judgings(&mut self.judge, tests.as_slice());
+        add_judgings(&mut self.judge, &self.problems, &self.submissions, list);
         let number = self.book.prepare_reserved(list, olds.as_slice(), first);
         add_details(&mut self.details, number, list);
         Ok(Reply::Rejudging {

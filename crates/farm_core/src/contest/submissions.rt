@@ -5,6 +5,7 @@ ghost use Rattle.farm_model.specs.Changes.{submitted};
 ghost use Rattle.farm_model.specs.Farm.{Stepped};
 
 use super::Contest;
+use crate::modes::{asked_for, mode_for};
 use crate::places::cells_for;
 use farm_kinds::{Class, MAX_JUDGINGS, MAX_SUBMISSIONS, Name, NoMemory, Reply};
 use farm_model::{JudgingDetails, Submission};
@@ -49,7 +50,9 @@ impl Contest {
         self.details.reserve(1)?;
         self.book.reserve_submission()?;
         let cells = cells_for(&self.problems, problem, broken);
-        let current = self.judge.add_judging(class, cells)?;
+        let mode = mode_for(&self.problems, problem);
+        let asked = asked_for(&self.problems, problem);
+        let current = self.judge.add_judging(class, cells, mode, asked)?;
         self.submissions.push_reserved(Submission {
             problem,
             broken,

@@ -11,9 +11,9 @@ abbrev pub invariant-loop-lease : goal.invariant-loop-lease
 invariant-loop-lease l = record {
   left : left_after l.leases.leases l.now ≡ left_after l.fn.leases.leases l.now;
   room : room l.leases ≡ room l.fn.leases;
-  listed : (rule : RuleValue) (mode : Mode) (all : List Judging)
-      → length all ≡ l.judgings → l.judgings ≤ length l.fn.tasks → AreShort all → IsListed rule mode all l.fn.leases.leases l.fn.tasks
-      → IsListed rule mode all l.leases.leases l.tasks;
+  listed : (rule : RuleValue) (all : List Judging)
+      → length all ≡ l.judgings → l.judgings ≤ length l.fn.tasks → AreShort all → IsListed rule all l.fn.leases.leases l.fn.tasks
+      → IsListed rule all l.leases.leases l.tasks;
   judgings : length l.tasks ≡ length l.fn.tasks;
 }
 

@@ -11,9 +11,9 @@ abbrev pub invariant-loop-task : goal.invariant-loop-task
 invariant-loop-task l = record {
   left : without_host l.leases.leases l.host ≡ without_host l.fn.leases.leases l.host;
   room : room l.leases ≡ room l.fn.leases;
-  listed : (rule : RuleValue) (mode : Mode) (all : List Judging)
-      → length all ≡ l.judgings → l.judgings ≤ length l.fn.tasks → AreShort all → IsListed rule mode all l.fn.leases.leases l.fn.tasks
-      → IsListed rule mode all l.leases.leases l.tasks;
+  listed : (rule : RuleValue) (all : List Judging)
+      → length all ≡ l.judgings → l.judgings ≤ length l.fn.tasks → AreShort all → IsListed rule all l.fn.leases.leases l.fn.tasks
+      → IsListed rule all l.leases.leases l.tasks;
   judgings : length l.tasks ≡ length l.fn.tasks;
 }
 

@@ -1,24 +1,25 @@
-use Rattle.std.proofs.Common.{◌+◌, arith, subst, ℕ}
-use Rattle.judging_core.proofs.Listed.{IsEntered, entered_first, room_for, entered_more, entered_listed}
-use Rattle.judging_core.proofs.Shown.{same_size}
+use Rattle.std.proofs.Common.{ℕ, List, Bool, false, sym, subst}
+use Rattle.std.specs.List.{All}
+use Rattle.task_tree.specs.Shown.{JudgingTasks, with_class}
+use Rattle.judging_core.specs.Listed.{IsWide, AreTestsShown}
+use Rattle.judging_core.proofs.Listed.{IsEntered, entered_class, entered_shown, entered_listed}
+use Rattle.judging_core.proofs.Shown.{widths_classed}
 use Rattle.judging_core.proofs.listing.list_judging.Goals as goal
 
-pub loop-i-init : goal.loop-i-init
-loop-i-init c = rw c.set_class.ensures (entered_first c.args.class c.args.judging c.args.tasks.now c.requires.numbered c.requires.known)
+pub show_tests-requires-clause-wide : goal.show_tests-requires-clause-wide
+show_tests-requires-clause-wide c = rw c.set_class.ensures (subst (λ (ns : List ℕ). All IsWide ns) (sym (widths_classed c.args.tasks.now c.args.judging c.args.class)) c.requires.wide)
 
-pub show_task-requires : goal.show_task-requires
-show_task-requires c =
-    room_for c.args.judging (c.loop-i.i + 1) c.args.tests c.args.tasks.now c.loop-i.tasks c.loop-i.invariant.widths c.requires.wide c.requires.numbered c.requires.known (omega arith) (omega (arith, c.loop-i-test.true)) c.requires.short
+pub returns-then-asked-clause-listed : goal.returns-then-asked-clause-listed
+returns-then-asked-clause-listed c = λ rule mode judgings leases here h.
+    let shown : AreTestsShown c.args.judging c.args.tests (with_class c.args.tasks.now c.args.judging c.args.class) c.show_tests.new.tasks =
+    subst (λ (ts : List JudgingTasks). AreTestsShown c.args.judging c.args.tests ts c.show_tests.new.tasks) c.set_class.ensures c.show_tests.ensures.shown in
+    let entered = entered_shown c.args.class c.args.judging c.args.tests c.args.tasks.now c.show_tests.new.tasks c.requires.numbered c.requires.known shown in
+    entered_listed rule judgings leases c.args.tasks.now c.show_tests.new.tasks c.args.class mode c.args.asked c.args.judging c.args.tests h here c.requires.known
+    (subst (λ (asked : Bool). IsEntered c.args.class asked c.args.judging c.args.tests c.args.tasks.now c.show_tests.new.tasks) (sym c.if-asked.true) entered)
 
-pub loop-i-preserved : goal.loop-i-preserved
-loop-i-preserved c =
-    rw c.show_task.ensures (entered_more c.args.class c.args.judging c.loop-i.i c.args.tasks.now c.loop-i.tasks c.loop-i.invariant
-    (room_for c.args.judging (c.loop-i.i + 1) c.args.tests c.args.tasks.now c.loop-i.tasks c.loop-i.invariant.widths c.requires.wide c.requires.numbered c.requires.known (omega arith) (omega (arith, c.loop-i-test.true)) c.requires.short))
-
-pub returns-clause-listed : goal.returns-clause-listed
-returns-clause-listed c = λ rule mode judgings leases here h.
-    entered_listed rule mode judgings leases c.args.tasks.now c.loop-i.tasks c.args.class c.args.judging c.args.tests h here c.requires.known
-    (subst (λ (n : ℕ). IsEntered c.args.class c.args.judging n c.args.tasks.now c.loop-i.tasks) (let low = c.loop-i-test.false in let high = c.loop-i.auto.i-end in omega (arith, low, high)) c.loop-i.invariant)
-
-pub returns-clause-count : goal.returns-clause-count
-returns-clause-count c = same_size c.args.tasks.now c.loop-i.tasks c.loop-i.invariant.widths
+pub returns-else-asked-clause-listed : goal.returns-else-asked-clause-listed
+returns-else-asked-clause-listed c = λ rule mode judgings leases here h.
+    let entered = entered_class c.args.class c.args.judging c.args.tests c.args.tasks.now c.requires.numbered c.requires.known in
+    let same : IsEntered c.args.class false c.args.judging c.args.tests c.args.tasks.now c.set_class.new.self = rw c.set_class.ensures entered in
+    entered_listed rule judgings leases c.args.tasks.now c.set_class.new.self c.args.class mode c.args.asked c.args.judging c.args.tests h here c.requires.known
+    (subst (λ (asked : Bool). IsEntered c.args.class asked c.args.judging c.args.tests c.args.tasks.now c.set_class.new.self) (sym c.if-asked.false) same)

@@ -13,10 +13,10 @@ loop-tasks-preserved c =
     let more : length c.add.new.self ≡ length at + 1 = ap length added ∙ length_push at (hidden Normal 1000) in
     record {
       grows = omega (arith, more, c.loop-tasks.invariant.grows);
-      listed = λ rule mode judgings leases h.
-          subst (λ (tasks : List JudgingTasks). IsListed rule mode judgings leases tasks) (sym added) (room_listed rule mode judgings leases at Normal (c.loop-tasks.invariant.listed rule mode judgings leases h));
+      listed = λ rule judgings leases h.
+          subst (λ (tasks : List JudgingTasks). IsListed rule judgings leases tasks) (sym added) (room_listed rule judgings leases at Normal (c.loop-tasks.invariant.listed rule judgings leases h));
     }
 
 pub returns-in_err-add-clause-listed : goal.returns-in_err-add-clause-listed
-returns-in_err-add-clause-listed c = λ rule mode judgings leases h.
-    subst (λ (tasks : List JudgingTasks). IsListed rule mode judgings leases tasks) (sym c.in_err-add.ensures.unchanged) (c.loop-tasks.invariant.listed rule mode judgings leases h)
+returns-in_err-add-clause-listed c = λ rule judgings leases h.
+    subst (λ (tasks : List JudgingTasks). IsListed rule judgings leases tasks) (sym c.in_err-add.ensures.unchanged) (c.loop-tasks.invariant.listed rule judgings leases h)

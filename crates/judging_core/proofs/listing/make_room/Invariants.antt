@@ -9,8 +9,8 @@ use Rattle.judging_core.proofs.listing.make_room.Given as goal
 abbrev pub invariant-loop-tasks : goal.invariant-loop-tasks
 invariant-loop-tasks l = record {
   grows : length l.fn.tasks ≤ length l.tasks;
-  listed : (rule : RuleValue) (mode : Mode) (judgings : List Judging) (leases : List Lease)
-      → IsListed rule mode judgings leases l.fn.tasks → IsListed rule mode judgings leases l.tasks;
+  listed : (rule : RuleValue) (judgings : List Judging) (leases : List Lease)
+      → IsListed rule judgings leases l.fn.tasks → IsListed rule judgings leases l.tasks;
 }
 
 abbrev pub decreases-loop-tasks : goal.decreases-loop-tasks

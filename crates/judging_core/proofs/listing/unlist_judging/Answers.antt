@@ -15,8 +15,8 @@ loop-i-preserved c =
     let there : HasTask c.loop-i.tasks task =
     room_for c.args.judging (c.loop-i.i + 1) c.args.tests c.args.tasks.now c.loop-i.tasks c.loop-i.invariant.widths c.requires.wide c.requires.numbered c.requires.known (omega arith) (omega (arith, c.loop-i-test.true)) c.requires.short in
     record {
-      listed = λ rule mode judgings leases closed h.
-          rw c.hide_task.ensures (closed_hidden rule mode judgings leases c.loop-i.tasks task (c.loop-i.invariant.listed rule mode judgings leases closed h) there (closed (c.loop-i.i + 1)));
+      listed = λ rule judgings leases closed h.
+          rw c.hide_task.ensures (closed_hidden rule judgings leases c.loop-i.tasks task (c.loop-i.invariant.listed rule judgings leases closed h) there (closed (c.loop-i.i + 1)));
       widths = rw c.hide_task.ensures (widths_shown c.loop-i.tasks task false ∙ c.loop-i.invariant.widths);
     }
 

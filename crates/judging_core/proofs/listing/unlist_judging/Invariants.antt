@@ -8,8 +8,8 @@ use Rattle.judging_core.proofs.listing.unlist_judging.Given as goal
 
 abbrev pub invariant-loop-i : goal.invariant-loop-i
 invariant-loop-i l = record {
-  listed : (rule : RuleValue) (mode : Mode) (judgings : List Judging) (leases : List Lease)
-      → ((test : ℕ) → is_open rule mode judgings leases (task_of l.judging test) ≡ false)
-      → IsListed rule mode judgings leases l.fn.tasks → IsListed rule mode judgings leases l.tasks;
+  listed : (rule : RuleValue) (judgings : List Judging) (leases : List Lease)
+      → ((test : ℕ) → is_open rule judgings leases (task_of l.judging test) ≡ false)
+      → IsListed rule judgings leases l.fn.tasks → IsListed rule judgings leases l.tasks;
   widths : widths l.tasks ≡ widths l.fn.tasks;
 }

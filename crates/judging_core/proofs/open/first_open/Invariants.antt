@@ -8,8 +8,8 @@ use Rattle.judging_core.proofs.open.first_open.Given as goal
 abbrev pub invariant-loop-task : goal.invariant-loop-task
 invariant-loop-task l = record {
   listed : (rule : RuleValue) → AreRuledBy rule l.judgings
-      → IsListed rule l.mode (judging_values l.judgings) l.leases.leases l.fn.tasks
-      → IsListed rule l.mode (judging_values l.judgings) l.leases.leases l.tasks;
+      → IsListed rule (judging_values l.judgings) l.leases.leases l.fn.tasks
+      → IsListed rule (judging_values l.judgings) l.leases.leases l.tasks;
   count : length l.tasks ≡ length l.fn.tasks;
 }
 

@@ -3,7 +3,7 @@ use Rattle.std.proofs.Common.{◌≡◌, Some, true}
 use Rattle.std.proofs.lemmas.List.Elements.{All-pop}
 use Rattle.judging_core.specs.JudgeValue.{starts_with}
 use Rattle.judging_core.specs.JudgeShape.{reserved_of, IsPrepared}
-use Rattle.judging_core.proofs.MadeAhead.{next_tests, other_class}
+use Rattle.judging_core.proofs.MadeAhead.{next_tests, used_as}
 use Rattle.judging_core.proofs.prepared.take_prepared.Goals as goal
 
 pub returns-clause-value : goal.returns-clause-value
@@ -12,7 +12,7 @@ returns-clause-value c =
     let kept = c.in_ok-kept.kept in
     let starts : starts_with (reserved_of at) c.args.tests ≡ true = cc in
     let popped : IsPrepared kept = (All-pop IsPrepared at c.pop.new.self.items (Some kept) c.in_ok-kept.ensures.items c.requires).1 in
-    other_class kept c.args.class c.args.tests popped (next_tests at c.pop.new.self.items kept c.args.tests c.in_ok-kept.ensures.items starts)
+    used_as kept c.args.class c.args.tests c.args.mode c.args.asked popped (next_tests at c.pop.new.self.items kept c.args.tests c.in_ok-kept.ensures.items starts)
 
 pub returns-clause-short : goal.returns-clause-short
 returns-clause-short c =

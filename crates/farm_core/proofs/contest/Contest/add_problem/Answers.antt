@@ -15,7 +15,7 @@ push_reserved-requires-2-clause-unknown c =
 pub invariant_of-self-2 : goal.invariant_of-self-2
 invariant_of-self-2 c =
     let before = c.self.inside.problems.items in
-    let added : Problem = record { name = c.args.name; version = 1; tests = c.args.tests } in
+    let added : Problem = record { name = c.args.name; version = 1; tests = c.args.tests; mode = c.judged_mode.result; asked = c.is_asked_at_once.result } in
     let after : c.push_reserved.new.self.items ≡ before ++ added ∷ [] = search rules in
     record {
       short = subst AreShort (sym after) (All-push (λ problem. problem.tests ≤ max_tests) before added c.self.invariant.short c.requires.few_tests);

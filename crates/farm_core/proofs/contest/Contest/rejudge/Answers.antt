@@ -13,9 +13,8 @@ invariant_of-self-2 c =
     let list = c.args.list.now in
     let submissions = length a.submissions.items in
     let judgings = length a.judge.state.judgings in
-    let tests : length c.as_slice.result.now ≡ length list = ap length c.as_slice.ensures ∙ search rules in
     let judge : length c.reserve.new.self.state.judgings ≡ judgings = search rules in
-    let count : length c.add_judgings.new.judge.state.judgings ≡ judgings + length list = omega (arith, c.add_judgings.ensures.count, judge, tests) in
+    let count : length c.add_judgings.new.judge.state.judgings ≡ judgings + length list = omega (arith, c.add_judgings.ensures.count, judge) in
     let next : c.judgings.result + 1 ≡ judgings + 1 = search rules in
     let room : judgings + length list ≤ 400000 = subst (λ (s : State). length s.judge.judgings + length list ≤ 400000) (sym c.self.view_is) c.requires.room in
     let known : AreKnown submissions list = subst (λ (s : State). AreKnown (length s.submissions) list) (sym c.self.view_is) c.requires.known in
@@ -29,6 +28,6 @@ invariant_of-self-2 c =
       submissions = c.self.invariant.submissions;
       booked = search rules;
       rejudgings = subst (λ (b : Book). AreKept submissions (length c.add_judgings.new.judge.state.judgings) b.rejudgings) (sym c.prepare_reserved-number.ensures.prepared)
-          (prepared_kept submissions judgings (length c.add_judgings.new.judge.state.judgings) (c.judgings.result + 1) c.reserve_members.new.self.rejudgings list c.as_slice-2.result.now
+          (prepared_kept submissions judgings (length c.add_judgings.new.judge.state.judgings) (c.judgings.result + 1) c.reserve_members.new.self.rejudgings list c.as_slice.result.now
           (subst (λ (rs : List Rejudging). AreKept submissions judgings rs) (sym c.reserve_members.ensures.rejudgings) c.self.invariant.rejudgings) known next count (omega arith));
     }

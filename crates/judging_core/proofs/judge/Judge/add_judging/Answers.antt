@@ -28,7 +28,7 @@ small judgings judge e few = omega (arith, few, count_is judgings, ap length e)
 pub invariant_of-self : goal.invariant_of-self
 invariant_of-self c =
     let at = c.self.inside in
-    let listed : IsListed at.rule at.mode (judging_values at.judgings.items) at.leases.leases c.make_room.new.tasks = c.make_room.ensures.listed at.rule at.mode (judging_values at.judgings.items) at.leases.leases c.self.invariant.listed in
+    let listed : IsListed at.rule (judging_values at.judgings.items) at.leases.leases c.make_room.new.tasks = c.make_room.ensures.listed at.rule (judging_values at.judgings.items) at.leases.leases c.self.invariant.listed in
     let ahead : (k : ℕ) → k ≤ length at.judgings.items + length at.prepared.items → k ≤ 400000 → k ≤ length c.make_room.new.tasks =
     ahead_kept (length at.judgings.items + length at.prepared.items) (length at.judgings.items + length at.prepared.items) (length at.tasks) (length c.make_room.new.tasks) c.self.invariant.ahead (omega arith) c.make_room.ensures.grows in
     search rules
@@ -38,7 +38,7 @@ invariant_of-self-in_err-map_err c =
     let at = c.self.inside in
     let failed : is_ok c.push.result ≡ false = sym c.map_err.ensures.variant ∙ ap is_ok c.in_err-map_err.was in
     let same : c.push.new.self.items ≡ at.judgings.items = c.push.ensures.items ∙ ap (λ (b : Bool). if b then at.judgings.items ++ c.in_ok-judging.judging ∷ [] else at.judgings.items) failed in
-    let listed : IsListed at.rule at.mode (judging_values c.push.new.self.items) at.leases.leases c.make_room.new.tasks = rw same (c.make_room.ensures.listed at.rule at.mode (judging_values at.judgings.items) at.leases.leases c.self.invariant.listed) in
+    let listed : IsListed at.rule (judging_values c.push.new.self.items) at.leases.leases c.make_room.new.tasks = rw same (c.make_room.ensures.listed at.rule (judging_values at.judgings.items) at.leases.leases c.self.invariant.listed) in
     let size : length c.push.new.self.items ≡ length at.judgings.items = ap length same in
     let ahead : (k : ℕ) → k ≤ length c.push.new.self.items + length at.prepared.items → k ≤ 400000 → k ≤ length c.make_room.new.tasks =
     ahead_kept (length at.judgings.items + length at.prepared.items) (length c.push.new.self.items + length at.prepared.items) (length at.tasks) (length c.make_room.new.tasks) c.self.invariant.ahead (omega (arith, size)) c.make_room.ensures.grows in
@@ -57,13 +57,13 @@ list_judging-requires-clause-known c =
 pub list_judging-requires-clause-wide : goal.list_judging-requires-clause-wide
 list_judging-requires-clause-wide c =
     let at = c.self.inside in
-    (c.make_room.ensures.listed at.rule at.mode (judging_values at.judgings.items) at.leases.leases c.self.invariant.listed).wide
+    (c.make_room.ensures.listed at.rule (judging_values at.judgings.items) at.leases.leases c.self.invariant.listed).wide
 
 pub list_judging-requires-clause-hidden : goal.list_judging-requires-clause-hidden
 list_judging-requires-clause-hidden c = λ test.
     let at = c.self.inside in
     let n = c.len-number.ensures in
-    (c.make_room.ensures.listed at.rule at.mode (judging_values at.judgings.items) at.leases.leases c.self.invariant.listed).rest (task_of (c.len-number.result + 1) test)
+    (c.make_room.ensures.listed at.rule (judging_values at.judgings.items) at.leases.leases c.self.invariant.listed).rest (task_of (c.len-number.result + 1) test)
     (omega (arith, n, at.judgings.ok, count_is at.judgings.items, length-map (judging_values at.judgings.items) (λ (j : Judging). j.class)))
 
 pub invariant_of-self-2 : goal.invariant_of-self-2
@@ -77,12 +77,12 @@ invariant_of-self-2 c =
     let inside = c.self.inside in
     let ok : is_ok c.push.result ≡ true = sym c.map_err.ensures.variant ∙ ap is_ok c.in_ok-map_err.was in
     let pushed : c.push.new.self.items ≡ at ++ judging ∷ [] = c.push.ensures.items ∙ ap (λ (b : Bool). if b then at ++ judging ∷ [] else at) ok in
-    let value : judging_values c.push.new.self.items ≡ judging_values at ++ empty_judging c.args.class c.args.tests ∷ [] =
+    let value : judging_values c.push.new.self.items ≡ judging_values at ++ empty_judging c.args.class c.args.tests c.args.mode c.args.asked ∷ [] =
     ap judging_values pushed ∙ map_push judging_value at judging ∙ ap (λ (j : Judging). judging_values at ++ j ∷ []) c.in_ok-judging.ensures.value in
     let n = c.len-number.ensures in
     let here : length (judging_values at) + 1 ≡ c.len-number.result + 1 = omega (arith, n, inside.judgings.ok, count_is at) in
-    let listed : IsListed inside.rule inside.mode (judging_values c.push.new.self.items) inside.leases.leases c.list_judging.new.tasks =
-    rw value (c.list_judging.ensures.listed inside.rule inside.mode (judging_values at) inside.leases.leases here (c.make_room.ensures.listed inside.rule inside.mode (judging_values at) inside.leases.leases c.self.invariant.listed)) in
+    let listed : IsListed inside.rule (judging_values c.push.new.self.items) inside.leases.leases c.list_judging.new.tasks =
+    rw value (c.list_judging.ensures.listed inside.rule c.args.mode (judging_values at) inside.leases.leases here (c.make_room.ensures.listed inside.rule (judging_values at) inside.leases.leases c.self.invariant.listed)) in
     let size = c.list_judging.ensures.count in
     let more : length c.push.new.self.items ≡ length at + 1 = ap length pushed ∙ length_push at judging in
     let none : length c.new.result.items ≡ 0 = ap length c.new.ensures.items in
@@ -101,9 +101,9 @@ returns-clause-added c =
     let ok : is_ok c.push.result ≡ true = sym c.map_err.ensures.variant ∙ ap is_ok c.in_ok-map_err.was in
     let pushed : c.push.new.self.items ≡ at ++ c.in_ok-judging.judging ∷ [] = c.push.ensures.items ∙ ap (λ (b : Bool). if b then at ++ c.in_ok-judging.judging ∷ [] else at) ok in
     let other : starts_with start.reserved tests ≡ false = cc in
-    let seen : judging_values c.push.new.self.items ≡ judging_values at ++ empty_judging class tests ∷ [] =
+    let seen : judging_values c.push.new.self.items ≡ judging_values at ++ empty_judging class tests c.args.mode c.args.asked ∷ [] =
     ap judging_values pushed ∙ map-append judging_value at (c.in_ok-judging.judging ∷ []) ∙ ap (λ (judging : Judging). judging_values at ++ judging ∷ []) c.in_ok-judging.ensures.value in
     ap (λ (prepared : List KeptJudging). record start { state = record start.state { judgings = judging_values c.push.new.self.items }; reserved = reserved_of prepared }) c.new.ensures.items
     ∙ ap (λ (judgings : List Judging). record start { state = record start.state { judgings = judgings }; reserved = [] }) seen
-    ∙ ap (λ (left : List ℕ). record start { state = add_judging start.state class tests; reserved = left }) (sym (none_left start.reserved tests other))
-    ∙ ap (λ (v : JudgeValue). with_judging v class tests) c.self.view_is
+    ∙ ap (λ (left : List ℕ). record start { state = add_judging start.state class tests c.args.mode c.args.asked; reserved = left }) (sym (none_left start.reserved tests other))
+    ∙ ap (λ (v : JudgeValue). with_judging v class tests c.args.mode c.args.asked) c.self.view_is

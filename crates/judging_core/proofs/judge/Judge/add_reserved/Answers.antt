@@ -46,10 +46,10 @@ invariant_of-self-2 c =
     let others : ArePrepared c.take_prepared.new.prepared.items = c.in-Some.ensures.prepared in
     let few : length c.push_reserved.new.self.items ≤ 400000 = rw c.push_reserved.ensures.items (one_more 400000 true at judging (small at c.args.self.now (ap (λ (v : JudgeValue). v.state.judgings) c.self.view_is) c.requires.few)) in
     let here : length (judging_values at) + 1 ≡ c.len-number.result = omega (arith, n, l, inside.judgings.ok, count_is at) in
-    let value : judging_values c.push_reserved.new.self.items ≡ judging_values at ++ empty_judging c.args.class c.args.tests ∷ [] =
+    let value : judging_values c.push_reserved.new.self.items ≡ judging_values at ++ empty_judging c.args.class c.args.tests c.args.mode c.args.asked ∷ [] =
     ap judging_values c.push_reserved.ensures.items ∙ map_push judging_value at judging ∙ ap (λ (j : Judging). judging_values at ++ j ∷ []) c.in-Some.ensures.value in
-    let listed : IsListed inside.rule inside.mode (judging_values c.push_reserved.new.self.items) inside.leases.leases c.list_judging.new.tasks =
-    rw value (c.list_judging.ensures.listed inside.rule inside.mode (judging_values at) inside.leases.leases here c.self.invariant.listed) in
+    let listed : IsListed inside.rule (judging_values c.push_reserved.new.self.items) inside.leases.leases c.list_judging.new.tasks =
+    rw value (c.list_judging.ensures.listed inside.rule c.args.mode (judging_values at) inside.leases.leases here c.self.invariant.listed) in
     let less : length c.push_reserved.new.self.items + length c.take_prepared.new.prepared.items ≤ length at + length inside.prepared.items =
     omega (arith, l, p, inside.judgings.ok, inside.prepared.ok, c.push_reserved.new.self.ok, c.take_prepared.new.prepared.ok) in
     let size = c.list_judging.ensures.count in

@@ -23,18 +23,18 @@ pub grant-requires-clause-few : goal.grant-requires-clause-few
 grant-requires-clause-few c = omega (arith, few_in_all c.self.inside.hosts c.self.inside.leases.leases c.self.invariant.held)
 
 -- the judgings are seen through a slice
-listed_seen : (rule : RuleValue) (mode : Mode) (seen js : List KeptJudging) (leases : List Lease) (old new : List JudgingTasks) → seen ≡ js
-    → ((r : RuleValue) → AreRuledBy r seen → IsListed r mode (judging_values seen) leases old → IsListed r mode (judging_values seen) leases new)
-    → AreRuledBy rule js → IsListed rule mode (judging_values js) leases old → IsListed rule mode (judging_values js) leases new
-listed_seen rule mode seen js leases old new e kept ruled h =
-    subst (λ (xs : List KeptJudging). IsListed rule mode (judging_values xs) leases new) e
-    (kept rule (subst (AreRuledBy rule) (sym e) ruled) (subst (λ (xs : List KeptJudging). IsListed rule mode (judging_values xs) leases old) (sym e) h))
+listed_seen : (rule : RuleValue) (seen js : List KeptJudging) (leases : List Lease) (old new : List JudgingTasks) → seen ≡ js
+    → ((r : RuleValue) → AreRuledBy r seen → IsListed r (judging_values seen) leases old → IsListed r (judging_values seen) leases new)
+    → AreRuledBy rule js → IsListed rule (judging_values js) leases old → IsListed rule (judging_values js) leases new
+listed_seen rule seen js leases old new e kept ruled h =
+    subst (λ (xs : List KeptJudging). IsListed rule (judging_values xs) leases new) e
+    (kept rule (subst (AreRuledBy rule) (sym e) ruled) (subst (λ (xs : List KeptJudging). IsListed rule (judging_values xs) leases old) (sym e) h))
 
 pub invariant_of-self : goal.invariant_of-self
 invariant_of-self c =
     let at = c.self.inside in
-    let listed : IsListed at.rule at.mode (judging_values at.judgings.items) at.leases.leases c.first_open.new.tasks =
-    listed_seen at.rule at.mode c.deref.result.now at.judgings.items at.leases.leases at.tasks c.first_open.new.tasks c.deref.ensures.value c.first_open.ensures.listed c.self.invariant.ruled c.self.invariant.listed in
+    let listed : IsListed at.rule (judging_values at.judgings.items) at.leases.leases c.first_open.new.tasks =
+    listed_seen at.rule c.deref.result.now at.judgings.items at.leases.leases at.tasks c.first_open.new.tasks c.deref.ensures.value c.first_open.ensures.listed c.self.invariant.ruled c.self.invariant.listed in
     let ahead : (k : ℕ) → k ≤ length at.judgings.items + length at.prepared.items → k ≤ 400000 → k ≤ length c.first_open.new.tasks = ahead_kept (length at.judgings.items + length at.prepared.items) (length at.judgings.items + length at.prepared.items) (length at.tasks) (length c.first_open.new.tasks) c.self.invariant.ahead (omega (arith, c.first_open.ensures.count)) (omega (arith, c.first_open.ensures.count)) in
     search rules
 
@@ -46,10 +46,10 @@ invariant_of-self-2 c =
     let ruled : AreRuledBy at.rule c.mark_handed.new.judgings.items = c.mark_handed.ensures.ruled at.rule c.self.invariant.ruled in
     let task = c.in-Some.task in
     let until = at.moment + at.lease in
-    let before : IsListed at.rule at.mode (judging_values at.judgings.items) at.leases.leases c.first_open.new.tasks =
-    listed_seen at.rule at.mode c.deref.result.now at.judgings.items at.leases.leases at.tasks c.first_open.new.tasks c.deref.ensures.value c.first_open.ensures.listed c.self.invariant.ruled c.self.invariant.listed in
-    let listed : IsListed at.rule at.mode (judging_values c.mark_handed.new.judgings.items) c.grant.new.self.leases c.hide_task.new.self =
-    rw (c.mark_handed.ensures.value, c.grant.ensures.leases, c.hide_task.ensures) (handed_hidden at.rule at.mode (judging_values at.judgings.items) at.leases.leases c.first_open.new.tasks task c.args.host until before c.in-Some.ensures.there) in
+    let before : IsListed at.rule (judging_values at.judgings.items) at.leases.leases c.first_open.new.tasks =
+    listed_seen at.rule c.deref.result.now at.judgings.items at.leases.leases at.tasks c.first_open.new.tasks c.deref.ensures.value c.first_open.ensures.listed c.self.invariant.ruled c.self.invariant.listed in
+    let listed : IsListed at.rule (judging_values c.mark_handed.new.judgings.items) c.grant.new.self.leases c.hide_task.new.self =
+    rw (c.mark_handed.ensures.value, c.grant.ensures.leases, c.hide_task.ensures) (handed_hidden at.rule (judging_values at.judgings.items) at.leases.leases c.first_open.new.tasks task c.args.host until before c.in-Some.ensures.there) in
     let size : length c.hide_task.new.self ≡ length at.tasks = ap length c.hide_task.ensures ∙ size_shown c.first_open.new.tasks task false ∙ c.first_open.ensures.count in
     let ahead : (k : ℕ) → k ≤ length c.mark_handed.new.judgings.items + length at.prepared.items → k ≤ 400000 → k ≤ length c.hide_task.new.self = ahead_kept (length at.judgings.items + length at.prepared.items) (length c.mark_handed.new.judgings.items + length at.prepared.items) (length at.tasks) (length c.hide_task.new.self) c.self.invariant.ahead (omega (arith, c.mark_handed.ensures.count)) (omega (arith, size)) in
     search rules

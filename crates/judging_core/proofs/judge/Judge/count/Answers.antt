@@ -32,9 +32,9 @@ invariant_of-self c =
     let possible : IsPossible at.rule c.args.given = subst (λ (v : JudgeValue). IsPossible v.state.rule c.args.given) (sym c.self.view_is) c.requires.possible in
     let task = task_of c.args.judging c.args.test in
     let there : HasTask at.tasks task = cell_in_room at.judgings.items at.tasks c.args.judging c.args.test c.self.invariant.rows c.self.invariant.listed.wide (c.self.invariant.ahead (length at.judgings.items) (omega arith) c.self.invariant.few) empty in
-    let closed = result_closed at.rule at.mode (judging_values at.judgings.items) (without_task at.leases.leases task) c.args.judging c.args.test c.args.given empty in
+    let closed = result_closed at.rule (judging_values at.judgings.items) (without_task at.leases.leases task) c.args.judging c.args.test c.args.given empty in
     let size : length c.hide_task.new.self ≡ length at.tasks = ap length c.hide_task.ensures ∙ size_shown at.tasks task false in
-    let listed : IsListed at.rule at.mode (judging_values c.fill.new.judgings.items) c.end.new.self.leases c.hide_task.new.self =
-    rw (c.fill.ensures.value, c.end.ensures.leases, c.hide_task.ensures) (closed_hidden at.rule at.mode (with_result (judging_values at.judgings.items) c.args.judging c.args.test c.args.given) (without_task at.leases.leases task) at.tasks task (result_listed at.rule at.mode (judging_values at.judgings.items) at.leases.leases at.tasks c.args.judging c.args.test c.args.given c.self.invariant.listed empty possible) there closed) in
+    let listed : IsListed at.rule (judging_values c.fill.new.judgings.items) c.end.new.self.leases c.hide_task.new.self =
+    rw (c.fill.ensures.value, c.end.ensures.leases, c.hide_task.ensures) (closed_hidden at.rule (with_result (judging_values at.judgings.items) c.args.judging c.args.test c.args.given) (without_task at.leases.leases task) at.tasks task (result_listed at.rule (judging_values at.judgings.items) at.leases.leases at.tasks c.args.judging c.args.test c.args.given c.self.invariant.listed empty possible) there closed) in
     let ahead : (k : ℕ) → k ≤ length c.fill.new.judgings.items + length at.prepared.items → k ≤ 400000 → k ≤ length c.hide_task.new.self = ahead_kept (length at.judgings.items + length at.prepared.items) (length c.fill.new.judgings.items + length at.prepared.items) (length at.tasks) (length c.hide_task.new.self) c.self.invariant.ahead (omega (arith, c.fill.ensures.count)) (omega (arith, size)) in
     search rules

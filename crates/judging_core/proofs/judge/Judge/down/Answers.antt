@@ -13,7 +13,7 @@ invariant_of-self c =
     let held : IsHeldWell c.self.inside.hosts c.end_host.new.leases.leases = rw c.end_host.ensures.leases (some_held c.self.inside.hosts (λ x. not (holds c.args.host x)) c.self.inside.leases.leases c.self.invariant.held) in
     let fits : length (judging_values at.judgings.items) ≡ c.len.result = count_is at.judgings.items ∙ (let n = c.len.ensures in omega (arith, n, at.judgings.ok)) in
     let room : c.len.result ≤ length at.tasks = let k = c.self.invariant.ahead (length at.judgings.items) (omega arith) c.self.invariant.few in omega (arith, k, fits, count_is at.judgings.items) in
-    let listed : IsListed at.rule at.mode (judging_values at.judgings.items) c.end_host.new.leases.leases c.end_host.new.tasks =
-    c.end_host.ensures.listed at.rule at.mode (judging_values at.judgings.items) fits room (short_rows at.judgings.items c.self.invariant.rows) c.self.invariant.listed in
+    let listed : IsListed at.rule (judging_values at.judgings.items) c.end_host.new.leases.leases c.end_host.new.tasks =
+    c.end_host.ensures.listed at.rule (judging_values at.judgings.items) fits room (short_rows at.judgings.items c.self.invariant.rows) c.self.invariant.listed in
     let ahead : (k : ℕ) → k ≤ length at.judgings.items + length at.prepared.items → k ≤ 400000 → k ≤ length c.end_host.new.tasks = ahead_kept (length at.judgings.items + length at.prepared.items) (length at.judgings.items + length at.prepared.items) (length at.tasks) (length c.end_host.new.tasks) c.self.invariant.ahead (omega (arith, c.end_host.ensures.judgings)) (omega (arith, c.end_host.ensures.judgings)) in
     search rules

@@ -24,10 +24,10 @@ invariant_of-self c =
     let rows : AreWellKept c.mark_dropped.new.judgings.items = c.mark_dropped.ensures.short c.self.invariant.rows in
     let ruled : AreRuledBy at.rule c.mark_dropped.new.judgings.items = c.mark_dropped.ensures.ruled at.rule c.self.invariant.ruled in
     let few : length c.mark_dropped.new.judgings.items ≤ 400000 = rw c.mark_dropped.ensures.count c.self.invariant.few in
-    let listed : IsListed at.rule at.mode (judging_values c.mark_dropped.new.judgings.items) c.end_judging.new.self.leases c.unlist_judging.new.tasks =
-    c.unlist_judging.ensures.listed at.rule at.mode (judging_values c.mark_dropped.new.judgings.items) c.end_judging.new.self.leases
-    (λ test. rw c.mark_dropped.ensures.value (dropped_closed at.rule at.mode (judging_values at.judgings.items) c.end_judging.new.self.leases c.args.judging test))
-    (rw (c.mark_dropped.ensures.value, c.end_judging.ensures.leases) (dropped_listed at.rule at.mode (judging_values at.judgings.items) at.leases.leases at.tasks c.args.judging c.self.invariant.listed)) in
+    let listed : IsListed at.rule (judging_values c.mark_dropped.new.judgings.items) c.end_judging.new.self.leases c.unlist_judging.new.tasks =
+    c.unlist_judging.ensures.listed at.rule (judging_values c.mark_dropped.new.judgings.items) c.end_judging.new.self.leases
+    (λ test. rw c.mark_dropped.ensures.value (dropped_closed at.rule (judging_values at.judgings.items) c.end_judging.new.self.leases c.args.judging test))
+    (rw (c.mark_dropped.ensures.value, c.end_judging.ensures.leases) (dropped_listed at.rule (judging_values at.judgings.items) at.leases.leases at.tasks c.args.judging c.self.invariant.listed)) in
     let size = c.unlist_judging.ensures.count in
     let ahead : (k : ℕ) → k ≤ length c.mark_dropped.new.judgings.items + length at.prepared.items → k ≤ 400000 → k ≤ length c.unlist_judging.new.tasks = ahead_kept (length at.judgings.items + length at.prepared.items) (length c.mark_dropped.new.judgings.items + length at.prepared.items) (length at.tasks) (length c.unlist_judging.new.tasks) c.self.invariant.ahead (omega (arith, c.mark_dropped.ensures.count)) (omega (arith, size)) in
     search rules

@@ -11,5 +11,5 @@ pub invariant_of-self : goal.invariant_of-self
 invariant_of-self c =
     let at = c.self.inside in
     let held : IsHeldWell at.hosts c.renew.new.self.leases = rw c.renew.ensures.leases (renewed_held at.hosts at.leases.leases (task_of c.args.judging c.args.test) (at.moment + at.lease) c.self.invariant.held) in
-    let listed : IsListed at.rule at.mode (judging_values at.judgings.items) c.renew.new.self.leases at.tasks = rw c.renew.ensures.leases (renewed_listed at.rule at.mode (judging_values at.judgings.items) at.leases.leases at.tasks (task_of c.args.judging c.args.test) (at.moment + at.lease) c.self.invariant.listed) in
+    let listed : IsListed at.rule (judging_values at.judgings.items) c.renew.new.self.leases at.tasks = rw c.renew.ensures.leases (renewed_listed at.rule (judging_values at.judgings.items) at.leases.leases at.tasks (task_of c.args.judging c.args.test) (at.moment + at.lease) c.self.invariant.listed) in
     search rules

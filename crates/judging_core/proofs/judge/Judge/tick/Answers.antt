@@ -13,7 +13,7 @@ invariant_of-self c =
     let held : IsHeldWell at.hosts c.end_due.new.leases.leases = rw c.end_due.ensures.leases (some_held at.hosts (λ lease. not (has_ended c.max-now.result lease)) at.leases.leases c.self.invariant.held) in
     let fits : length (judging_values at.judgings.items) ≡ c.len.result = count_is at.judgings.items ∙ (let n = c.len.ensures in omega (arith, n, at.judgings.ok)) in
     let room : c.len.result ≤ length at.tasks = let k = c.self.invariant.ahead (length at.judgings.items) (omega arith) c.self.invariant.few in omega (arith, k, fits, count_is at.judgings.items) in
-    let listed : IsListed at.rule at.mode (judging_values at.judgings.items) c.end_due.new.leases.leases c.end_due.new.tasks =
-    c.end_due.ensures.listed at.rule at.mode (judging_values at.judgings.items) fits room (short_rows at.judgings.items c.self.invariant.rows) c.self.invariant.listed in
+    let listed : IsListed at.rule (judging_values at.judgings.items) c.end_due.new.leases.leases c.end_due.new.tasks =
+    c.end_due.ensures.listed at.rule (judging_values at.judgings.items) fits room (short_rows at.judgings.items c.self.invariant.rows) c.self.invariant.listed in
     let ahead : (k : ℕ) → k ≤ length at.judgings.items + length at.prepared.items → k ≤ 400000 → k ≤ length c.end_due.new.tasks = ahead_kept (length at.judgings.items + length at.prepared.items) (length at.judgings.items + length at.prepared.items) (length at.tasks) (length c.end_due.new.tasks) c.self.invariant.ahead (omega (arith, c.end_due.ensures.judgings)) (omega (arith, c.end_due.ensures.judgings)) in
     search rules

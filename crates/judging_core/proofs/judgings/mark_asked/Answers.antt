@@ -1,0 +1,11 @@
+use Rattle.std.proofs.Common.{refl, arith}
+use Rattle.farm_model.specs.Judgings.{mark_asked}
+use Rattle.judging_core.specs.JudgeShape.{judging_value}
+use Rattle.judging_core.proofs.Changed.{changed}
+use Rattle.judging_core.proofs.judgings.mark_asked.Goals as goal
+
+pub returns-clause-value : goal.returns-clause-value
+returns-clause-value c =
+    let kept = c.index_mut-kept.result.now in
+    changed judging_value c.args.judgings.now.items c.args.judging kept _ mark_asked
+    (omega (arith, c.requires.numbered)) c.requires.known c.index_mut-kept.ensures.value refl
