@@ -23,6 +23,7 @@ const PAUSE_MILLISECONDS: u64 = 100;
 
 const USAGE: &str = "usage: farm judge FOLDER --hosts N [--journal]
        farm script [--config FILE] < LINES
+       farm make NUMBER PROBLEMS SUBMISSIONS
 
 judge reads the contest in FOLDER (problems/NAME/ for each package,
 submissions.txt, submissions/, farm.json), runs its submissions on N hosts at
@@ -55,6 +56,10 @@ problem, replace, rejudge, apply, cancel, verify and ask may begin with @NAME,
 which says who acts. Empty lines, and lines whose first word begins with #, have
 no reply. FILE holds settings in JSON: priorities, remapping, lazy evaluation,
 modes of problems, leases, verification.
+
+make makes a contest of NUMBER (0 to 4294967295) with 1 to 50 PROBLEMS and 1 to
+2000 SUBMISSIONS, runs it on two hosts, and writes how many submissions have
+each verdict, and the SHA-256 digest of the table that judge would write.
 
 Status: 0 done, 2 usage, 3 bad settings or contest, 4 read fault, 5 write
 fault, 6 no memory, 7 file fault, 9 input limit.
@@ -183,6 +188,7 @@ fn explain(rt: &HostRuntime, exit: Exit, words: &[String]) {
     let _ = match read_command(words) {
         Some(Command::Judge { folder, .. }) => explain_judging(rt, exit, folder),
         Some(Command::Script { config }) => explain_script(rt, exit, config.unwrap_or("")),
+        Some(Command::Make { .. }) => explain_making(rt, exit),
         None => explain_words(rt, exit),
     };
 }
@@ -207,6 +213,18 @@ fn explain_judging(rt: &HostRuntime, exit: Exit, folder: &str) -> io::Result<()>
         ),
         Exit::TreeFault => eprintln!(rt;
             "farm: a file or folder of {folder} could not be read: check their permissions; nothing was judged"
+        ),
+        _ => Ok(()),
+    }
+}
+
+fn explain_making(rt: &HostRuntime, exit: Exit) -> io::Result<()> {
+    match exit {
+        Exit::WriteFault => rt.eprintln(
+            "farm: standard output could not be written (is the disk full, or its reader gone?); lines are missing",
+        ),
+        Exit::Memory => rt.eprintln(
+            "farm: out of memory; nothing was written. Run it again with more memory, or with a smaller contest",
         ),
         _ => Ok(()),
     }

@@ -3,3 +3,5 @@ pub mod Ends
 pub mod Judgings
 pub mod JournalLines
 pub mod Reports
+pub mod Summaries
+pub mod Makings

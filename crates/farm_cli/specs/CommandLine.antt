@@ -3,6 +3,8 @@ use Rattle.std.specs.Prelude.{ℕ, List, [], ◌∷◌, ◌==◌, Bool, true, fa
 use Rattle.std.specs.Option.{option_map, option_and_then}
 use Rattle.std.specs.Str.{bytes_eq}
 use Rattle.farm_model.specs.Numbers.{number_of, at_most}
+use Rattle.farm_cli.specs.MadeSizes.{Size, counted, size_with, made_problem_limit, made_submission_limit}
+use Rattle.farm_cli.specs.declared.made_size.MadeSize.{MadeSize}
 use Rattle.farm_cli.specs.declared.words.Command.{Command}
 use Rattle.farm_cli.specs.declared.words.Command.TheVariants as command
 use Rattle.farm_cli.specs.declared.command_line.JudgeWords.{JudgeWords as ReadWords}
@@ -13,15 +15,22 @@ pub data CommandValue : Type 0 where
   Script : (config : Option (List ℕ)) → CommandValue
   -- the contest in this folder, by so many hosts, and whether a journal is asked for
   Judge : (folder : List ℕ) → (hosts : ℕ) → (journal : Bool) → CommandValue
+  -- the contest that is made of this number, with so many problems and submissions
+  Make : (number : ℕ) → (size : Size) → CommandValue
+
+abbrev pub size_value : MadeSize → Size
+size_value size = record { problems = size.problems; submissions = size.submissions }
 
 abbrev pub command_value : Command → CommandValue
 command_value (command.Script config) = Script (option_map (λ path. path.now) config)
 command_value (command.Judge folder hosts journal) = Judge folder.now hosts.count journal
+command_value (command.Make number size) = Make number (size_value size)
 
 -- the path of the file or the folder that a command reads, where it reads one
 abbrev pub file_of : CommandValue → Option (List ℕ)
 file_of (Script config) = config
 file_of (Judge folder hosts journal) = Some folder
+file_of (Make number size) = None
 
 -- an operand, and a value of an option, is not empty and does not begin with `-`
 abbrev pub value_of : List ℕ → Option (List ℕ)
@@ -126,11 +135,28 @@ said_command said = if said.awaits_hosts then None else judge_command said.folde
 abbrev pub judge_of : List (List ℕ) → Option CommandValue
 judge_of words = option_and_then said_command (with_words no_words words)
 
+-- the contest of this number, where it has as many problems and submissions as one may have
+abbrev pub made_with : Option ℕ → Option Size → Option CommandValue
+made_with (Some number) (Some size) = Some (Make number size)
+made_with number size = None
+
+-- how many problems and submissions two words ask for
+abbrev pub size_of : List ℕ → List ℕ → Option Size
+size_of problems submissions =
+    size_with (option_and_then (counted made_problem_limit) (number_of problems))
+    (option_and_then (counted made_submission_limit) (number_of submissions))
+
+-- what stands behind `make`: a number, how many problems and how many submissions
+abbrev pub make_of : List (List ℕ) → Option CommandValue
+make_of (number ∷ problems ∷ submissions ∷ []) = made_with (number_of number) (size_of problems submissions)
+make_of words = None
+
 -- what stands behind a command
 abbrev pub command_with : List ℕ → List (List ℕ) → Option CommandValue
 command_with word words =
     if bytes_eq word (codes "script") then script_of words
-    else if bytes_eq word (codes "judge") then judge_of words else None
+    else if bytes_eq word (codes "judge") then judge_of words
+    else if bytes_eq word (codes "make") then make_of words else None
 
 -- the first word is the program's name, which is not looked at, and the second is the command
 abbrev pub command_of : List (List ℕ) → Option CommandValue

@@ -12,9 +12,10 @@ use Rattle.script_session.specs.Session.{TookLimit, IsShort}
 use Rattle.farm_cli.specs.declared.config.BadConfig.{BadConfig}
 use Rattle.farm_cli.specs.declared.exit.Exit.{Exit}
 use Rattle.farm_cli.specs.declared.exit.Exit.TheVariants as exit
-use Rattle.farm_cli.specs.CommandLine.{CommandValue, Script, Judge}
+use Rattle.farm_cli.specs.CommandLine.{CommandValue, Script, Judge, Make}
 use Rattle.farm_cli.specs.Config.{config_in, ConfigIs, bad_contest_line}
 use Rattle.farm_cli.specs.Judged.{JudgeEnds, JudgeIsDone}
+use Rattle.farm_cli.specs.Making.{MakeEnds, MakeIsDone}
 
 -- what the input has left and the output holds, as far as these tell, before a command and after it
 pub record Streams : Type 0 where
@@ -110,6 +111,8 @@ abbrev pub CommandEnds : Option (List TreeFile) → CommandValue → Streams →
 CommandEnds files (Script config) old new unread unwritten e = ScriptEnds files config old new unread unwritten e
 CommandEnds files (Judge folder hosts journal) old new unread unwritten e =
     unread × JudgeEnds files folder hosts journal old.held new.held unwritten e
+CommandEnds files (Make number size) old new unread unwritten e =
+    unread × MakeEnds number size old.held new.held unwritten e
 
 -- there is no file of settings, or the tree tells one that gives settings
 abbrev pub HasSettings : Option (List TreeFile) → Option (List ℕ) → Type 0
@@ -125,3 +128,4 @@ ScriptIsDone files config left faultless e =
 abbrev pub CommandIsDone : Option (List TreeFile) → CommandValue → Option (List ℕ) → Type 0 → Exit → Type 0
 CommandIsDone files (Script config) left faultless e = ScriptIsDone files config left faultless e
 CommandIsDone files (Judge folder hosts journal) left faultless e = JudgeIsDone files folder faultless e
+CommandIsDone files (Make number size) left faultless e = MakeIsDone faultless e

@@ -1,7 +1,9 @@
 ghost use Rattle.std.specs.Prelude.{◌≡◌, ◌∷◌, [], map, option_map, string_bytes};
-ghost use Rattle.farm_cli.specs.CommandLine.{command_value, command_of, script_of, value_of, behind, joined_config, split_config, with_config, command_with, judge_of, words_value, no_words, with_words, with_word, with_hosts, with_journal, with_folder, said_command, host_count};
+ghost use Rattle.farm_model.specs.Numbers.{number_of};
+ghost use Rattle.farm_cli.specs.CommandLine.{command_value, command_of, script_of, value_of, behind, joined_config, split_config, with_config, command_with, judge_of, words_value, no_words, with_words, with_word, with_hosts, with_journal, with_folder, said_command, host_count, make_of, made_with, size_of, size_value};
 
 use crate::host_count::HostCount;
+use crate::made_size::MadeSize;
 use crate::words::Command;
 use command_text::read_number;
 
@@ -25,6 +27,9 @@ fn command_with<'a>(word: &str, options: &'a [String]) -> Option<Command<'a>>
     }
     if word == "judge" {
         return judge_command(options);
+    }
+    if word == "make" {
+        return make_command(options);
     }
     None
 }
@@ -206,4 +211,34 @@ fn host_count(word: &str) -> Option<HostCount>
     ensures { option_map (λ hosts. hosts.count) result ≡ host_count word.now }
 {
     HostCount::new(read_number(word.as_bytes())?)
+}
+
+/// Reads what stands behind `make`.
+fn make_command(words: &[String]) -> Option<Command>
+    ensures { option_map command_value result ≡ make_of (map string_bytes words.now) }
+{
+    match words {
+        [number, problems, submissions] => {
+            made_contest(number.as_str(), problems.as_str(), submissions.as_str())
+        }
+        _ => None,
+    }
+}
+
+/// The contest of a number without a sign or leading zeros, of this size.
+fn made_contest<'a>(number: &str, problems: &str, submissions: &str) -> Option<Command<'a>>
+    ensures { option_map command_value result ≡ made_with (number_of number.now) (size_of problems.now submissions.now) }
+{
+    let number = read_number(number.as_bytes())?;
+    let size = made_size(problems, submissions)?;
+    Some(Command::Make { number, size })
+}
+
+/// How many problems and submissions the words ask for.
+fn made_size(problems: &str, submissions: &str) -> Option<MadeSize>
+    ensures { option_map size_value result ≡ size_of problems.now submissions.now }
+{
+    let problems = read_number(problems.as_bytes())?;
+    let submissions = read_number(submissions.as_bytes())?;
+    MadeSize::new(problems, submissions)
 }

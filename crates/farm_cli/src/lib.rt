@@ -9,10 +9,13 @@ mod journal;
 mod judging;
 #[cfg(test)]
 mod judging_tests;
+mod made_size;
+mod making;
 #[cfg(test)]
 mod rejudging_rows;
 #[cfg(test)]
 mod script_rows;
+mod summary;
 #[cfg(test)]
 mod tests;
 mod top;
@@ -21,5 +24,6 @@ mod words;
 pub use command_line::read_command;
 pub use exit::Exit;
 pub use host_count::HostCount;
+pub use made_size::MadeSize;
 pub use top::farm_main;
 pub use words::Command;

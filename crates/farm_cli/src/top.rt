@@ -11,6 +11,7 @@ use crate::command_line::read_command;
 use crate::config::{BadConfig, ConfigEnd, bad_contest_line, read_config};
 use crate::exit::Exit;
 use crate::judging::judge;
+use crate::making::make;
 use crate::words::Command;
 use farm_core::Farm;
 use farm_io::{PutEnd, Sink, Source};
@@ -31,6 +32,9 @@ use std::thread::Threads;
 /// `farm judge` reads the contest in a folder, judges each of its submissions by host threads and the caller, and
 /// writes a line for each with its verdict; where a journal is asked for, then a line for each call by which the
 /// contest was judged. The gate decides at which points a host dies. Who is told of the progress is asked nothing.
+///
+/// `farm make` makes a contest of a number, judges it in the same way by two host threads and the caller, and writes how
+/// many submissions have each verdict, and the digest of its table.
 pub fn farm_main<
     R: Threads + Wait + Sync,
     T: Tree,
@@ -93,6 +97,7 @@ pub fn farm_main<
             gate,
             progress,
         ),
+        Command::Make { number, size } => make(rt, alloc, number, size, out, gate, progress),
     }
 }
 

@@ -1,4 +1,5 @@
 use crate::host_count::HostCount;
+use crate::made_size::MadeSize;
 
 /// What the words of the command line ask for.
 #[derive(Clone, Copy)]
@@ -12,5 +13,10 @@ pub enum Command<'a> {
         folder: &'a str,
         hosts: HostCount,
         journal: bool,
+    },
+    /// The contest that is made of this number, with so many problems and submissions.
+    Make {
+        number: u32,
+        size: MadeSize,
     },
 }

@@ -1,0 +1,25 @@
+-- A made contest among the commands.
+use Rattle.std.proofs.Common.{◌≡◌, ℕ, List, Option, Some, inl, inr, sym, subst}
+use Rattle.std.specs.Prelude.{◌⊎◌, IfSome}
+use Rattle.farm_tree.specs.declared.reads.TreeFile.{TreeFile}
+use Rattle.farm_cli.specs.declared.exit.Exit.{Exit}
+use Rattle.farm_cli.specs.declared.exit.Exit.TheVariants as exit
+use Rattle.farm_cli.specs.CommandLine.{CommandValue, Make}
+use Rattle.farm_cli.specs.MadeSizes.{Size}
+use Rattle.farm_cli.specs.Making.{MakeIsDone}
+use Rattle.farm_cli.specs.Scripted.{CommandIsDone}
+
+-- T, S and K: the tree, the input and the output have failed
+pub make_complete : (files : Option (List TreeFile)) (number : ℕ) (size : Size) (command : Option CommandValue) (left : Option (List ℕ)) (T S K : Type 0) (e : Exit) → Some (Make number size) ≡ command
+    → (e ≡ exit.Done) ⊎ (e ≡ exit.WriteFault) ⊎ (e ≡ exit.Memory) → (e ≡ exit.WriteFault → K)
+    → IfSome command (λ command. CommandIsDone files command left (¬ T × ¬ S × ¬ K) e)
+unfolding MakeIsDone
+make_complete files number size command left T S K e is ends cause =
+    subst (λ (o : Option CommandValue). IfSome o (λ command. CommandIsDone files command left (¬ T × ¬ S × ¬ K) e)) is
+    (λ faultless. elim ends [
+      | inl done ↦ inl done
+      | inr others ↦ elim others [
+        | inl fault ↦ absurd (faultless.2 (cause fault))
+        | inr memory ↦ inr memory
+      ]
+    ])
