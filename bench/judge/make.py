@@ -30,7 +30,6 @@ BUILT = os.path.join(TOP, "bench", "out", "judge", "built")
 FAULTS = ["RIGHT", "WRONG", "TRAP", "STATUS", "SILENT", "LOOP", "FLOOD", "GREEDY"]
 KNOWN = {"LOOP": "timelimit", "FLOOD": "output-limit", "GREEDY": "memory-limit"}
 FORMS = [("O2", "elf"), ("O0", "elf"), ("O2", "rv32"), ("O0", "rv32")]
-SIZES = [0.02, 0.1, 0.3, 0.6, 1.0]
 
 
 def build(name, fault, level):
@@ -58,8 +57,8 @@ def write(path, data):
 
 def write_problem(folder, name, draw):
     write(os.path.join(folder, "problem.yaml"), f"name: {name}\n{problems.MORE.get(name, '')}limits:\n  memory: 4\n  output: 1\n")
-    write(os.path.join(folder, "domjudge-problem.ini"), "timelimit = 2\n")
-    for number, size in enumerate(SIZES):
+    write(os.path.join(folder, "domjudge-problem.ini"), f"timelimit = {problems.SECONDS.get(name, problems.SECONDS_OF_OTHERS)}\n")
+    for number, size in enumerate(problems.SIZES.get(name, problems.SIZES_OF_OTHERS)):
         given, answer = getattr(problems, name)(draw, size)
         test = os.path.join(folder, "data", "secret" if number else "sample", f"{number:02}")
         write(test + ".in", given)

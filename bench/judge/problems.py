@@ -278,6 +278,16 @@ def area(draw, size):
     return lines(len(ring), *ring), f"{twice // 2}.{5 * (twice % 2)}\n"
 
 
+def readings(draw, size):
+    values = [draw.randrange(-10**6, 10**6) for _ in range(1 + int(size * 200_000))]
+    # Some stand twice in a row, so that a run that does not fall is longer than one that rises.
+    for at in draw.sample(range(len(values)), len(values) // 3):
+        values[at] = values[at - 1]
+    falls = [0, *(at for at in range(1, len(values)) if values[at] < values[at - 1]), len(values)]
+    longest = max(b - a for a, b in itertools.pairwise(falls))
+    return lines(len(values), *values), lines((min(values), max(values), sum(values), longest))
+
+
 # A problem's tests are those of its function; what its package says besides stands here.
 MORE = {
     "area": "validator_flags: float_tolerance 1e-9\n",
@@ -286,4 +296,9 @@ MORE = {
     "order": "validation: custom\n",
 }
 NAMES = ["area", "calendar", "distance", "expression", "fractions", "inversions", "islands", "knapsack", "matches", "mixing", "order",
-         "patching", "product", "queens", "recurrence", "route", "words"]
+         "patching", "product", "queens", "readings", "recurrence", "route", "words"]
+# The sizes of a problem's tests, and its time limit in seconds. The readings are as large as a real package's tests are.
+SIZES = {"readings": [0.001, 0.3, 0.5, 0.7, 0.8, 0.9, 1.0, 1.0, 1.0, 1.0, 1.0, 1.0]}
+SIZES_OF_OTHERS = [0.02, 0.1, 0.3, 0.6, 1.0]
+SECONDS = {"readings": 40}
+SECONDS_OF_OTHERS = 2

@@ -24,11 +24,12 @@ sys.dont_write_bytecode = True
 
 import compare  # noqa: E402
 import make  # noqa: E402
+import problems  # noqa: E402
 
 HERE = make.HERE
 OUT = os.path.join(make.TOP, "bench", "out", "judge")
 PAGES = 4 * 256
-INSTRUCTIONS = 20_000_000
+INSTRUCTIONS_A_SECOND = 10_000_000
 OUTPUT = 1 << 20
 
 
@@ -63,9 +64,10 @@ def write_jobs(folder, path):
     """The jobs of the C interpreters, in the order of submissions and ranks."""
     with open(path, "w") as file:
         for number, _, name, image in compare.submissions(folder):
+            instructions = INSTRUCTIONS_A_SECOND * problems.SECONDS.get(name, problems.SECONDS_OF_OTHERS)
             raw = os.path.join(make.BUILT, os.path.splitext(image)[0], f"{name}.rv32")
             for test in tests_of(folder, name):
-                file.write(f"{number} {INSTRUCTIONS} {PAGES} {OUTPUT} {raw} {test}\n")
+                file.write(f"{number} {instructions} {PAGES} {OUTPUT} {raw} {test}\n")
 
 
 def bytes_of(folder):
