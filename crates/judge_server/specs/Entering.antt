@@ -21,7 +21,8 @@ abbrev pub known : {A : Type 0} → (A → Event → Reply → A → Type 0) →
 known {A} step a e r b = step a e r b × (r ≢ reply.NoMemory)
 
 -- an event was entered with this reply, behind the moment where time goes on first, and before what follows from it
-pub record IsEntered {A : Type 0} (step : A → Event → Reply → A → Type 0) (ticks : Bool) (moment : ℕ) (e : Event) (a b : A) (answer : Reply) : Type 0 where
+pub record IsEntered {A : Type 0} (step : A → Event → Reply → A → Type 0) (ticks : Bool) (moment : ℕ) (e : Event)
+    (a b : A) (answer : Reply) : Type 0 where
   pub before : A
   pub behind : A
   pub ticked : AreEntered (known step) a (tick ticks moment) before
@@ -41,6 +42,7 @@ abbrev pub events_with : Bool → ℕ → Event → Reply → List Event
 events_with ticks moment e answer = tick ticks moment ++ e ∷ down_after e answer
 
 -- all events were entered, or a front of them
-abbrev pub Enters : {A : Type 0} → (A → Event → Reply → A → Type 0) → Bool → ℕ → Event → A → A → Result Reply NoMemory → Type 0
+abbrev pub Enters : {A : Type 0} → (A → Event → Reply → A → Type 0) → Bool → ℕ → Event → A → A
+    → Result Reply NoMemory → Type 0
 Enters step ticks moment e a b (Ok answer) = IsEntered step ticks moment e a b answer
 Enters step ticks moment e a b (Err none) = IsBegun step (events_with ticks moment e) a b

@@ -27,7 +27,8 @@ use Rattle.judge_server.specs.Entering.{IsEntered, IsBegun}
 -- One request
 
 -- an event was entered, and the text is the response to its reply
-pub record EventAnswered {A : Type 0} (step : A → Event → Reply → A → Type 0) (ticks : Bool) (moment : ℕ) (e : Event) (a : A) (text : List ℕ) (b : A) : Type 0 where
+pub record EventAnswered {A : Type 0} (step : A → Event → Reply → A → Type 0) (ticks : Bool) (moment : ℕ) (e : Event)
+    (a : A) (text : List ℕ) (b : A) : Type 0 where
   pub answer : Reply
   pub entered : IsEntered step ticks moment e a b answer
   pub told : text ≡ reply_response answer
@@ -38,19 +39,22 @@ AskedAnswered step moment (asked.Event ticks e) a text b = EventAnswered step ti
 AskedAnswered step moment (asked.Refused why) a text b = (b ≡ a) × (text ≡ fault_response why)
 
 -- the request was answered with this text, at a moment that the clock shows
-pub record IsAnswered {A : Type 0} (step : A → Event → Reply → A → Type 0) (shows : ℕ → Bool) (a : A) (r : Request) (text : List ℕ) (b : A) : Type 0 where
+pub record IsAnswered {A : Type 0} (step : A → Event → Reply → A → Type 0) (shows : ℕ → Bool)
+    (a : A) (r : Request) (text : List ℕ) (b : A) : Type 0 where
   pub moment : ℕ
   pub shown : shows moment ≡ true
   pub done : AskedAnswered step moment (asked_of r) a text b
 
 -- of the events of the request a front was entered, at a moment that the clock shows
-pub record IsPartly {A : Type 0} (step : A → Event → Reply → A → Type 0) (shows : ℕ → Bool) (a : A) (r : Request) (b : A) : Type 0 where
+pub record IsPartly {A : Type 0} (step : A → Event → Reply → A → Type 0) (shows : ℕ → Bool)
+    (a : A) (r : Request) (b : A) : Type 0 where
   pub moment : ℕ
   pub shown : shows moment ≡ true
   pub begun : IsBegun step (calls_in (asked_of r) moment) a b
 
 -- what was put of the answer to what is asked
-abbrev pub PutsAnswer : {A : Type 0} → (A → Event → Reply → A → Type 0) → ℕ → Asked → A → A → Option (List ℕ) → Option (List ℕ) → Result (Unit {0}) ResponseFault → Type 0
+abbrev pub PutsAnswer : {A : Type 0} → (A → Event → Reply → A → Type 0) → ℕ → Asked → A → A
+    → Option (List ℕ) → Option (List ℕ) → Result (Unit {0}) ResponseFault → Type 0
 PutsAnswer step moment what a b held held' (Ok u) = (text : List ℕ) × AskedAnswered step moment what a text b × Appends held held' text
 PutsAnswer step moment what a b held held' (Err fault.WriteFault) =
     (text : List ℕ) × (n : ℕ) × AskedAnswered step moment what a text b × Appends held held' (take n text)
