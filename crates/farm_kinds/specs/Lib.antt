@@ -1,4 +1,5 @@
 pub mod Actors
+pub mod FewShape
 pub mod Kinds
 pub mod Limits
 pub mod Names

@@ -1,6 +1,7 @@
 ghost use Rattle.std.specs.Prelude.{◌≡◌};
 ghost use Rattle.farm_kinds.specs.Actors.{jury_actor};
 
+use crate::few::Few;
 use crate::kinds::Kind;
 use crate::lists::{Answers, MatrixRows, Numbers};
 use crate::names::Name;
@@ -36,6 +37,12 @@ pub enum Event {
     Claim {
         host: Name,
     },
+    /// A host asks for this many tasks of one judging at most, from 1 to 16. A number below 1 counts as 1, and one
+    /// over 16 as 16.
+    Fetch {
+        host: Name,
+        most: u8,
+    },
     /// A host's result of a task that was handed out.
     Result {
         host: Name,
@@ -49,7 +56,7 @@ pub enum Event {
         test: u32,
         kind: Kind,
     },
-    /// A host asks to hold the task for longer.
+    /// A host asks to hold the task, and the other tasks of its judging that it holds, for longer.
     Renew {
         host: Name,
         judging: u32,
@@ -65,6 +72,10 @@ pub enum Event {
     },
     /// What the jury sees of a judging.
     Show {
+        judging: u32,
+    },
+    /// Which submission a judging is of.
+    Owner {
         judging: u32,
     },
     /// What the public sees of each submission.
@@ -115,9 +126,10 @@ impl Event {
                 Some(*who)
             }
             Event::Host { .. } | Event::Submit { .. } | Event::Claim { .. } => None,
-            Event::Result { .. } | Event::Entry { .. } | Event::Renew { .. } => None,
-            Event::Tick { .. } | Event::Down { .. } | Event::Show { .. } => None,
-            Event::Board | Event::Matrix { .. } | Event::Audit => None,
+            Event::Fetch { .. } | Event::Result { .. } | Event::Entry { .. } => None,
+            Event::Renew { .. } | Event::Tick { .. } | Event::Down { .. } => None,
+            Event::Show { .. } | Event::Owner { .. } | Event::Board => None,
+            Event::Matrix { .. } | Event::Audit => None,
         }
     }
 }
@@ -126,59 +138,123 @@ impl Event {
 #[derive(Debug, Drop)]
 pub enum Reply {
     /// The problem is known, in this version.
-    Problem { name: Name, version: u32 },
+    Problem {
+        name: Name,
+        version: u32,
+    },
     /// The host is up.
-    Host { name: Name },
+    Host {
+        name: Name,
+    },
     /// The submission and its judging have these numbers.
-    Submitted { submission: u32, judging: u32 },
+    Submitted {
+        submission: u32,
+        judging: u32,
+    },
     /// The host holds the task until this moment, in seconds.
-    Handed { task: Task, until: u64 },
+    Handed {
+        task: Task,
+        until: u64,
+    },
+    /// The host holds these tests of the judging until this moment, in seconds.
+    Batch {
+        judging: u32,
+        tests: Few,
+        until: u64,
+    },
     /// No task is open.
     Nothing,
     /// The result counts.
     Counted,
     /// The cell holds this kind already.
-    Repeat { kept: Kind },
+    Repeat {
+        kept: Kind,
+    },
     /// The cell holds another kind, which stays.
-    Differs { kept: Kind, given: Kind },
+    Differs {
+        kept: Kind,
+        given: Kind,
+    },
     /// The judging was dropped, and takes no more results.
     Dropped,
-    /// The host holds the task until this moment, in seconds.
-    Until { until: u64 },
+    /// The host holds the task, and the other tasks of its judging that it holds, until this moment, in seconds.
+    Until {
+        until: u64,
+    },
     /// So many leases ended.
-    Ended { count: u32 },
+    Ended {
+        count: u32,
+    },
     /// What is reported of the judging.
     Shown(Answer),
+    /// The judging is of this submission.
+    Owned {
+        submission: u32,
+    },
     /// What the public sees of each submission, from the first on.
-    Board { rows: Answers },
+    Board {
+        rows: Answers,
+    },
     /// The rejudging has this number, and its judgings are numbered from `first` to `last`.
-    Rejudging { number: u32, first: u32, last: u32 },
+    Rejudging {
+        number: u32,
+        first: u32,
+        last: u32,
+    },
     /// How often an old answer became a new one, and how many members the rejudging has.
-    Matrix { rows: MatrixRows, members: u32 },
+    Matrix {
+        rows: MatrixRows,
+        members: u32,
+    },
     /// The judgings of so many members are the current ones now.
-    Applied { members: u32 },
+    Applied {
+        members: u32,
+    },
     /// The judgings of so many members were dropped.
-    Cancelled { members: u32 },
+    Cancelled {
+        members: u32,
+    },
     /// The judging is verified.
-    Verified { judging: u32 },
+    Verified {
+        judging: u32,
+    },
     /// The audit log has so many entries, and this is its last digest.
-    Audit { count: u32, head: [u8; 32] },
+    Audit {
+        count: u32,
+        head: [u8; 32],
+    },
     /// A problem has from 1 to 1,000 tests.
-    BadTests { tests: u32 },
+    BadTests {
+        tests: u32,
+    },
     /// The problem's name is known, or the host is up already.
-    Known { name: Name },
+    Known {
+        name: Name,
+    },
     /// No problem has the name.
-    NoProblem { name: Name },
+    NoProblem {
+        name: Name,
+    },
     /// No host that is up has the name.
-    NoHost { name: Name },
+    NoHost {
+        name: Name,
+    },
     /// There are as many as there may be.
-    Full { limit: u32 },
+    Full {
+        limit: u32,
+    },
     /// The host holds as many leases as it may.
-    Holding { limit: u32 },
+    Holding {
+        limit: u32,
+    },
     /// No judging has the number.
-    NoJudging { judging: u32 },
+    NoJudging {
+        judging: u32,
+    },
     /// The judging has no test of this rank.
-    NoTest { test: u32 },
+    NoTest {
+        test: u32,
+    },
     /// The task was never handed out.
     NotHanded,
     /// The host holds no lease on the task.
@@ -186,21 +262,38 @@ pub enum Reply {
     /// A rejudging has at least one submission.
     EmptySet,
     /// No submission has the number.
-    NoSubmission { submission: u32 },
+    NoSubmission {
+        submission: u32,
+    },
     /// The submission stands in the list more than once.
-    Twice { submission: u32 },
+    Twice {
+        submission: u32,
+    },
     /// The current judging of the submission of this number is not final, or the judging of this number.
-    NotFinal { number: u32 },
+    NotFinal {
+        number: u32,
+    },
     /// The submission is in this rejudging, which is open.
-    Busy { submission: u32, rejudging: u32 },
+    Busy {
+        submission: u32,
+        rejudging: u32,
+    },
     /// No rejudging has the number.
-    NoRejudging { rejudging: u32 },
+    NoRejudging {
+        rejudging: u32,
+    },
     /// The rejudging is closed, in this way.
-    Closed { how: How },
+    Closed {
+        how: How,
+    },
     /// This judging of the rejudging is not final.
-    Unfinished { judging: u32 },
+    Unfinished {
+        judging: u32,
+    },
     /// The judging is verified already, or it was asked for already.
-    Already { judging: u32 },
+    Already {
+        judging: u32,
+    },
     /// No memory was left, and the event changed nothing.
     NoMemory,
 }

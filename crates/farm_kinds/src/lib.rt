@@ -3,6 +3,7 @@
 #![tactic(auto)]
 
 mod events;
+mod few;
 mod kinds;
 mod limits;
 mod lists;
@@ -14,16 +15,17 @@ mod tests;
 mod worked;
 
 pub use events::{Event, LineFault, Reply};
+pub use few::Few;
 pub use kinds::Kind;
 pub use limits::{
-    Limits, MAX_HELD, MAX_HOSTS, MAX_JUDGINGS, MAX_PROBLEMS, MAX_REJUDGINGS, MAX_SUBMISSIONS,
-    MAX_TESTS, MAX_VERSIONS, raw_image,
+    Limits, MAX_BATCH, MAX_HELD, MAX_HOSTS, MAX_JUDGINGS, MAX_PROBLEMS, MAX_REJUDGINGS,
+    MAX_SUBMISSIONS, MAX_TESTS, MAX_VERSIONS, raw_image,
 };
 pub use lists::{Answers, MatrixRows, Modes, Numbers, TableRows, Text};
 pub use names::Name;
 pub use outcomes::{
-    Answer, AskEnd, Claim, Class, Count, How, MatrixRow, Mode, NamedMode, NoMemory, ProblemMode,
-    Renewed, TableRow, Task, Verdict,
+    Answer, AskEnd, Claim, Class, Count, Fetched, How, MatrixRow, Mode, NamedMode, NoMemory,
+    ProblemMode, Renewed, TableRow, Task, Verdict,
 };
 pub use rules::{Rule, RuleFault, verdict, verdict_with};
 pub use worked::{worked_images, worked_kinds, worked_names, worked_rules, worked_verdicts};

@@ -31,6 +31,8 @@ pub const MAX_TESTS: u32 = 1_000;
 pub const MAX_HOSTS: u32 = 1_000;
 /// The most leases that a host holds.
 pub const MAX_HELD: u32 = 64;
+/// The most tests that a host fetches at once.
+pub const MAX_BATCH: u32 = 16;
 /// The most submissions of a farm.
 pub const MAX_SUBMISSIONS: u32 = 100_000;
 /// The most judgings of a farm.

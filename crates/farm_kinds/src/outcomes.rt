@@ -1,3 +1,4 @@
+use crate::few::Few;
 use crate::kinds::Kind;
 use crate::names::Name;
 use std::alloc::AllocError;
@@ -109,7 +110,22 @@ pub enum Claim {
     Handed { task: Task, until: u64 },
 }
 
-/// What becomes of the lease that a host asks to hold for longer.
+/// What a host's fetch of tasks is answered.
+#[derive(Clone, Copy, Debug)]
+pub enum Fetched {
+    /// The host holds as many leases as it may.
+    Holding,
+    /// No task is open.
+    Nothing,
+    /// The host holds these tests of the judging until this moment, in seconds.
+    Batch {
+        judging: u32,
+        tests: Few,
+        until: u64,
+    },
+}
+
+/// What becomes of the leases that a host asks to hold for longer.
 #[derive(Clone, Copy, Debug, PartialEq, Eq)]
 pub enum Renewed {
     /// No judging has the number.
@@ -118,7 +134,7 @@ pub enum Renewed {
     NoTest,
     /// The host holds no lease on the task.
     NoLease,
-    /// The host holds the task until this moment, in seconds.
+    /// The host holds the task, and the other tasks of the judging that it holds, until this moment, in seconds.
     Until { until: u64 },
 }
 

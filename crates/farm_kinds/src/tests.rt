@@ -1,4 +1,4 @@
-use crate::{Kind, Name, NoMemory, Numbers, Rule, RuleFault, Text, raw_image, verdict};
+use crate::{Few, Kind, Name, NoMemory, Numbers, Rule, RuleFault, Text, raw_image, verdict};
 use std::test::Fail;
 
 #[test]
@@ -77,5 +77,13 @@ fn images_are_whole_words(rt: HostRuntime) -> Result<(), Fail> {
     for (len, want) in [(0, false), (3, false), (4, true), (6, false), (8, true)] {
         assert_eq!(rt; raw_image(&[0; 8][..len]), want, "at {len}");
     }
+    Ok(())
+}
+
+#[test]
+fn a_few_tests_are_kept_in_order(rt: HostRuntime) -> Result<(), Fail> {
+    let mut few = Few::of(3);
+    few.push(1_000);
+    assert!(rt; few.as_slice() == [3u16, 1_000].as_slice());
     Ok(())
 }

@@ -23,13 +23,13 @@ use Rattle.farm_model.specs.declared.records.Submission.{Submission}
 use Rattle.farm_model.specs.declared.records.Member.{Member}
 use Rattle.farm_model.specs.Numbered.{item_of, with_item, with_change, number_or_0}
 use Rattle.farm_model.specs.Judgings.{Judging, empty_judging}
-use Rattle.farm_model.specs.Judge.{JudgeState, add_judgings, drop_judging, judge_claim, judge_result, judge_enter, judge_renew, judge_tick, judge_down, judge_ask}
+use Rattle.farm_model.specs.Judge.{JudgeState, add_judgings, drop_judging, judge_claim, judge_fetch, judge_result, judge_enter, judge_renew, judge_tick, judge_down, judge_ask}
 use Rattle.farm_model.specs.Rejudgings.{prepared, closed, members_in, new_judgings}
 use Rattle.farm_model.specs.Matrix.{matrix_of}
 use Rattle.farm_model.specs.Chain.{chain_head}
 use Rattle.farm_model.specs.Texts.{logged_text}
-use Rattle.farm_model.specs.State.{State, problem_number, host_number, up_number, answer_at, current_of, public_answers}
-use Rattle.farm_model.specs.Refusals.{version_of, claim_reply, count_reply, renewed_reply, ask_reply}
+use Rattle.farm_model.specs.State.{State, problem_number, host_number, up_number, answer_at, current_of, owner_of, public_answers}
+use Rattle.farm_model.specs.Refusals.{version_of, claim_reply, fetch_reply, count_reply, renewed_reply, ask_reply}
 
 -- an accepted event of the jury is entered in the audit log
 abbrev pub logged : State → Event → State
@@ -221,6 +221,8 @@ accepted s (event.Host name) = (with_host s name, reply.Host name)
 accepted s (event.Submit problem class broken) =
     (submitted s (number_or_0 (problem_number s.problems problem)) class broken, submitted_reply s)
 accepted s (event.Claim host) = by_judge s claim_reply (judge_claim s.judge (number_or_0 (up_number s.hosts host)))
+accepted s (event.Fetch host most) =
+    by_judge s fetch_reply (judge_fetch s.judge (number_or_0 (up_number s.hosts host)) most)
 accepted s (event.Result host j test kind) = by_judge s (count_reply j test) (judge_result s.judge j test kind)
 accepted s (event.Entry j test kind) = by_judge s (count_reply j test) (judge_enter s.judge j test kind)
 accepted s (event.Renew host j test) =
@@ -229,6 +231,7 @@ accepted s (event.Tick moment) = by_judge s reply.Ended (judge_tick s.judge mome
 accepted s (event.Down host) = let n = number_or_0 (up_number s.hosts host) in
     by_judge (with_host_down s host n) reply.Ended (judge_down s.judge n)
 accepted s (event.Show j) = (s, reply.Shown (answer_at s j))
+accepted s (event.Owner j) = (s, reply.Owned (owner_of s.details j))
 accepted s event.Board = (s, reply.Board (public_answers s))
 accepted s (event.Rejudge who list) = (logged (rejudged s list) (event.Rejudge who list), rejudging_reply s list)
 accepted s (event.Matrix r) = (s, reply.Matrix (matrix_of (answer_pairs s r)) (length (members_in s.rejudgings r)))

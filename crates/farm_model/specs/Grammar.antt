@@ -1,5 +1,5 @@
 -- The lines that are events.
-use Rattle.std.specs.Prelude.{ℕ, List, [], ◌∷◌, Option, Some, None, Result, Ok, Err, Bool, true, false, ◌==◌, if◌then◌else◌, codes}
+use Rattle.std.specs.Prelude.{ℕ, List, [], ◌∷◌, Option, Some, None, Result, Ok, Err, Bool, true, false, ◌==◌, ◌&&◌, nat_le, if◌then◌else◌, codes}
 use Rattle.std.specs.Option.{option_or}
 use Rattle.std.specs.Str.{bytes_eq}
 use Rattle.farm_kinds.specs.declared.events.Event.{Event}
@@ -10,6 +10,7 @@ use Rattle.farm_kinds.specs.declared.outcomes.Class.{Class}
 use Rattle.farm_kinds.specs.declared.outcomes.Class.TheVariants.{High, Normal, Low}
 use Rattle.farm_kinds.specs.Names.{name_read, jury}
 use Rattle.farm_kinds.specs.Kinds.{kind_named}
+use Rattle.farm_model.specs.Limits.{max_batch}
 use Rattle.farm_model.specs.Words.{words}
 use Rattle.farm_model.specs.Numbers.{number_of, moment_of, list_of}
 
@@ -131,6 +132,21 @@ renew_line (host ∷ judging ∷ test ∷ []) = do
   Some (event.Renew h j t)
 renew_line ws = None
 
+abbrev pub if_batch : ℕ → Option ℕ
+if_batch n = if nat_le 1 n && nat_le n max_batch then Some n else None
+
+-- a number of tasks that are fetched at once: from 1 to 16
+abbrev pub batch_of : List ℕ → Option ℕ
+batch_of word = number_of word >>= if_batch
+
+-- `fetch HOST B`
+abbrev pub fetch_line : List (List ℕ) → Option Event
+fetch_line (host ∷ most ∷ []) = do
+  h ← name_read host
+  b ← batch_of most
+  Some (event.Fetch h b)
+fetch_line ws = None
+
 -- `tick N`
 abbrev pub tick_line : List (List ℕ) → Option Event
 tick_line (moment ∷ []) = do
@@ -148,6 +164,7 @@ abbrev pub host_event_of : List ℕ → List (List ℕ) → Option Event
 host_event_of word ws =
     if bytes_eq word (codes "host") then name_line event.Host ws
     else if bytes_eq word (codes "claim") then name_line event.Claim ws
+    else if bytes_eq word (codes "fetch") then fetch_line ws
     else if bytes_eq word (codes "result") then result_line ws
     else if bytes_eq word (codes "renew") then renew_line ws
     else if bytes_eq word (codes "down") then name_line event.Down ws
@@ -160,6 +177,7 @@ other_event_of word ws =
     else if bytes_eq word (codes "record") then record_line ws
     else if bytes_eq word (codes "tick") then tick_line ws
     else if bytes_eq word (codes "show") then number_line event.Show ws
+    else if bytes_eq word (codes "owner") then number_line event.Owner ws
     else if bytes_eq word (codes "board") then bare_line event.Board ws
     else if bytes_eq word (codes "matrix") then number_line event.Matrix ws
     else if bytes_eq word (codes "audit") then bare_line event.Audit ws

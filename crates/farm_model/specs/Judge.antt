@@ -1,5 +1,7 @@
 -- What the judge keeps, and what each of its calls does.
-use Rattle.std.specs.Prelude.{ℕ, ◌+◌, ◌-◌, ◌^◌, min, max, List, [], ◌∷◌, ◌++◌, length, slice_get, Option, Some, None, Bool, nat_le}
+use Rattle.std.specs.Prelude.{ℕ, ◌+◌, ◌-◌, ◌^◌, min, max, List, [], ◌∷◌, ◌++◌, length, slice_get, take, filter, map, Option, Some, None, Bool, ◌&&◌, ◌==◌, not, nat_le, unwrap_or}
+use Rattle.std.specs.List.{fold}
+use Rattle.std.specs.Option.{option_map}
 use Rattle.farm_kinds.specs.declared.kinds.Kind.{Kind}
 use Rattle.farm_kinds.specs.declared.outcomes.Answer.{Answer}
 use Rattle.farm_kinds.specs.declared.outcomes.Class.{Class}
@@ -9,6 +11,8 @@ use Rattle.farm_kinds.specs.declared.outcomes.AskEnd.TheVariants as ask
 use Rattle.farm_kinds.specs.declared.outcomes.Task.{Task}
 use Rattle.farm_kinds.specs.declared.outcomes.Claim.{Claim}
 use Rattle.farm_kinds.specs.declared.outcomes.Claim.TheVariants as claim
+use Rattle.farm_kinds.specs.declared.outcomes.Fetched.{Fetched}
+use Rattle.farm_kinds.specs.declared.outcomes.Fetched.TheVariants as fetch
 use Rattle.farm_kinds.specs.declared.outcomes.Count.{Count}
 use Rattle.farm_kinds.specs.declared.outcomes.Count.TheVariants as count
 use Rattle.farm_kinds.specs.declared.outcomes.Renewed.{Renewed}
@@ -16,11 +20,12 @@ use Rattle.farm_kinds.specs.declared.outcomes.Renewed.TheVariants as lease
 use Rattle.farm_kinds.specs.RuleValue.{RuleValue}
 use Rattle.farm_kinds.specs.Rules.{remap_of}
 use Rattle.farm_model.specs.declared.records.Lease.{Lease}
-use Rattle.farm_model.specs.Limits.{max_held}
+use Rattle.farm_model.specs.Limits.{max_held, max_batch}
 use Rattle.farm_model.specs.Refusing.{when, unless, first_of, refused_or}
-use Rattle.farm_model.specs.Leases.{is_held_by, held_count, with_lease, without_task, without_host, without_judging, renewed, ended_at, left_after}
+use Rattle.farm_model.specs.Leases.{is_held_by, held_count, with_lease, without_task, without_host, without_judging, renewed_of, ended_at, left_after}
 use Rattle.farm_model.specs.Judgings.{Judging, empty_judging, task_of, answer_in, is_judging, has_test, is_dropped, is_asked, entry_refusal, result_refusal, with_result, with_handed, with_asked, with_dropped}
-use Rattle.farm_model.specs.Open.{open_tasks}
+use Rattle.farm_model.specs.Open.{is_empty_cell, is_wanted, open_in, open_tasks}
+use Rattle.farm_model.specs.Numbered.{item_of}
 
 -- judgings are numbered from 1
 pub record JudgeState : Type 0 where
@@ -74,6 +79,40 @@ first_open s = slice_get (open_tasks s.rule s.judgings s.leases) 0
 abbrev pub judge_claim : JudgeState → ℕ → JudgeState × Claim
 judge_claim s host = refused_or s (claim_refusal s.leases host) (claimed s host (first_open s))
 
+-- Fetches
+
+-- the open tasks of the judging of this number, in rank order
+abbrev pub open_of : JudgeState → ℕ → List Task
+open_of s j = unwrap_or (option_map (λ judging. open_in s.rule s.leases (j, judging)) (item_of s.judgings j)) []
+
+-- how many tasks a host that holds so many is given at most: what it asks for, from 1 to 16, and at most 64 in all
+abbrev pub batch_size : ℕ → ℕ → ℕ
+batch_size most held = min (min (max most 1) max_batch) (max_held - held)
+
+-- the tests of tasks, by their ranks
+abbrev pub ranks_of : List Task → List ℕ
+ranks_of tasks = map (λ task. task.test) tasks
+
+abbrev pub hand_out_all : JudgeState → ℕ → List Task → JudgeState
+hand_out_all s host tasks = fold (λ state task. hand_out state host task) s tasks
+
+-- the tasks of the judging are handed out
+abbrev pub handed_batch : JudgeState → ℕ → ℕ → List Task → JudgeState × Fetched
+handed_batch s host j tasks = (hand_out_all s host tasks, fetch.Batch j (ranks_of tasks) (lease_end s))
+
+-- the task, where there is one, and the next open ones of its judging are handed out, so many in all
+abbrev pub batch_from : JudgeState → ℕ → ℕ → Option Task → JudgeState × Fetched
+batch_from s host size None = (s, fetch.Nothing)
+batch_from s host size (Some task) = handed_batch s host task.judging (take size (open_of s task.judging))
+
+abbrev pub fetch_refusal : List Lease → ℕ → Option Fetched
+fetch_refusal leases host = when (nat_le max_held (held_count leases host)) fetch.Holding
+
+-- the least open task by class, judging and test, and the next open ones of its judging
+abbrev pub judge_fetch : JudgeState → ℕ → ℕ → JudgeState × Fetched
+judge_fetch s host most = refused_or s (fetch_refusal s.leases host)
+    (batch_from s host (batch_size most (held_count s.leases host)) (first_open s))
+
 -- Asking
 
 abbrev pub ask_refusal : List Judging → ℕ → Option AskEnd
@@ -89,12 +128,28 @@ judge_ask s j =
 
 -- Results
 
--- the cell holds the kind, and the lease on the task goes
+-- the lease is on an empty cell of this judging that is not to be judged any more: lazily one that does not matter
+abbrev pub is_in_vain : RuleValue → ℕ → Judging → Lease → Bool
+is_in_vain rule j judging held = held.task.judging == j
+    && is_empty_cell judging.row held.task.test && not (is_wanted rule judging.mode judging.row held.task.test)
+
+abbrev pub without_vain_in : RuleValue → ℕ → List Lease → Option Judging → List Lease
+without_vain_in rule j leases None = leases
+without_vain_in rule j leases (Some judging) = filter (λ held. not (is_in_vain rule j judging held)) leases
+
+-- the leases without those on empty cells of this judging that are not to be judged any more
+abbrev pub without_vain : RuleValue → List Judging → ℕ → List Lease → List Lease
+without_vain rule judgings j leases = without_vain_in rule j leases (item_of judgings j)
+
+-- The cell holds the kind. The lease on the task goes, and so do those on cells that do not matter any more.
+abbrev pub with_counted : JudgeState → ℕ → ℕ → List Judging → JudgeState
+with_counted s j test judgings = record s {
+  judgings = judgings;
+  leases = without_vain s.rule judgings j (without_task s.leases (task_of j test));
+}
+
 abbrev pub counted : JudgeState → ℕ → ℕ → Kind → JudgeState × Count
-counted s j test kind = (
-  record s { judgings = with_result s.judgings j test kind; leases = without_task s.leases (task_of j test) },
-  count.Counted,
-)
+counted s j test kind = (with_counted s j test (with_result s.judgings j test kind), count.Counted)
 
 -- a result from outside counts as its remapped kind
 abbrev pub judge_enter : JudgeState → ℕ → ℕ → Kind → JudgeState × Count
@@ -114,12 +169,12 @@ renew_refusal s host j test = first_of (
     ∷ unless (has_test s.judgings j test) lease.NoTest
     ∷ unless (is_held_by s.leases host (task_of j test)) lease.NoLease ∷ [])
 
-abbrev pub renew_lease : JudgeState → Task → JudgeState × Renewed
-renew_lease s task = (record s { leases = renewed s.leases task (lease_end s) }, lease.Until (lease_end s))
+abbrev pub renew_leases : JudgeState → ℕ → ℕ → JudgeState × Renewed
+renew_leases s host j = (record s { leases = renewed_of s.leases host j (lease_end s) }, lease.Until (lease_end s))
 
--- the host holds the task until a lease from now ends
+-- the host holds the task, and the other tasks of the judging that it holds, until a lease from now ends
 abbrev pub judge_renew : JudgeState → ℕ → ℕ → ℕ → JudgeState × Renewed
-judge_renew s host j test = refused_or s (renew_refusal s host j test) (renew_lease s (task_of j test))
+judge_renew s host j test = refused_or s (renew_refusal s host j test) (renew_leases s host j)
 
 -- time does not go on past this moment
 abbrev pub last_moment : ℕ

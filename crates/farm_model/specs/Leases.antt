@@ -1,6 +1,5 @@
--- Leases: each a task that a host holds until a moment. They are a list in the order in which they were last granted
--- or renewed.
-use Rattle.std.specs.Prelude.{ℕ, List, [], ◌∷◌, ◌++◌, filter, find, count_by, Option, Some, None, Bool, false, not, ◌&&◌, ◌||◌, ◌==◌, nat_le, nat_lt, if◌then◌else◌}
+-- Leases: each a task that a host holds until a moment. They are a list in the order in which they were granted.
+use Rattle.std.specs.Prelude.{ℕ, List, [], ◌∷◌, ◌++◌, filter, find, count_by, map, Option, Some, None, Bool, false, not, ◌&&◌, ◌||◌, ◌==◌, nat_le, nat_lt, if◌then◌else◌}
 use Rattle.std.specs.Option.{option_map_or}
 use Rattle.std.specs.List.{reduce}
 use Rattle.farm_kinds.specs.declared.outcomes.Task.{Task}
@@ -43,13 +42,21 @@ without_judging leases judging = filter (λ lease. not (lease.task.judging == ju
 abbrev pub judging_count : List Lease → ℕ → ℕ
 judging_count leases judging = count_by (λ lease. lease.task.judging == judging) leases
 
-abbrev pub renew_in : List Lease → Task → ℕ → Option Lease → List Lease
-renew_in leases task until None = leases
-renew_in leases task until (Some lease) = with_lease (without_task leases task) lease.host task until
+-- the lease has another end, where it passes the test
+abbrev pub renew_if : (Lease → Bool) → ℕ → Lease → Lease
+renew_if test until lease = if test lease then record lease { until = until } else lease
 
--- the lease on the task, where there is one, has another end and stands last
+-- the lease on the task, where there is one, has another end
 abbrev pub renewed : List Lease → Task → ℕ → List Lease
-renewed leases task until = renew_in leases task until (lease_on leases task)
+renewed leases task until = map (renew_if (λ lease. same_task lease.task task) until) leases
+
+-- the host holds the lease, and it is on a task of the judging
+abbrev pub holds_of : ℕ → ℕ → Lease → Bool
+holds_of host judging lease = holds host lease && lease.task.judging == judging
+
+-- the leases that the host holds on the judging's tasks have another end
+abbrev pub renewed_of : List Lease → ℕ → ℕ → ℕ → List Lease
+renewed_of leases host judging until = map (renew_if (holds_of host judging) until) leases
 
 abbrev pub has_ended : ℕ → Lease → Bool
 has_ended now lease = nat_le lease.until now

@@ -19,6 +19,10 @@ max_hosts = 1000
 abbrev pub max_held : ℕ
 max_held = 64
 
+-- tests that a host fetches at once
+abbrev pub max_batch : ℕ
+max_batch = 16
+
 abbrev pub max_submissions : ℕ
 max_submissions = 100000
 

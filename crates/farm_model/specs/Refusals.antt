@@ -5,6 +5,8 @@ use Rattle.farm_kinds.specs.declared.outcomes.AskEnd.{AskEnd}
 use Rattle.farm_kinds.specs.declared.outcomes.AskEnd.TheVariants as ask
 use Rattle.farm_kinds.specs.declared.outcomes.Claim.{Claim}
 use Rattle.farm_kinds.specs.declared.outcomes.Claim.TheVariants as claim
+use Rattle.farm_kinds.specs.declared.outcomes.Fetched.{Fetched}
+use Rattle.farm_kinds.specs.declared.outcomes.Fetched.TheVariants as fetch
 use Rattle.farm_kinds.specs.declared.outcomes.Count.{Count}
 use Rattle.farm_kinds.specs.declared.outcomes.Count.TheVariants as count
 use Rattle.farm_kinds.specs.declared.outcomes.Renewed.{Renewed}
@@ -21,7 +23,7 @@ use Rattle.farm_model.specs.Numbered.{item_of, number_or_0}
 use Rattle.farm_model.specs.Limits.{max_problems, max_versions, max_tests, max_hosts, max_held, max_submissions, max_judgings, max_rejudgings}
 use Rattle.farm_model.specs.Refusing.{when, unless, first_of}
 use Rattle.farm_model.specs.Judgings.{entry_refusal, result_refusal, is_judging, is_dropped}
-use Rattle.farm_model.specs.Judge.{claim_refusal, ask_refusal, renew_refusal}
+use Rattle.farm_model.specs.Judge.{claim_refusal, fetch_refusal, ask_refusal, renew_refusal}
 use Rattle.farm_model.specs.Rejudgings.{twice_refusal, busy_refusal, absent_refusal, closing_refusal, members_in, new_judgings}
 use Rattle.farm_model.specs.State.{State, problem_number, host_number, up_number, answer_at, is_final, current_of, is_verified}
 
@@ -75,6 +77,12 @@ abbrev pub claim_reply : Claim → Reply
 claim_reply claim.Holding = reply.Holding max_held
 claim_reply claim.Nothing = reply.Nothing
 claim_reply (claim.Handed task until) = reply.Handed task until
+
+-- what a fetch is answered, as a reply
+abbrev pub fetch_reply : Fetched → Reply
+fetch_reply fetch.Holding = reply.Holding max_held
+fetch_reply fetch.Nothing = reply.Nothing
+fetch_reply (fetch.Batch judging tests until) = reply.Batch judging tests until
 
 -- what becomes of a result of this test, as a reply
 abbrev pub count_reply : ℕ → ℕ → Count → Reply
@@ -147,6 +155,10 @@ ask_reply s j ask.Dropped = reply.Dropped
 ask_reply s j ask.Already = reply.Already j
 ask_reply s j ask.Done = reply.Shown (answer_at s j)
 
+-- no judging has the number
+abbrev pub no_judging : State → ℕ → Option Reply
+no_judging s j = unless (is_judging s.judge.judgings j) (reply.NoJudging j)
+
 -- the refusal of an event, where it is refused
 abbrev pub refusal_of : State → Event → Option Reply
 refusal_of s (event.Problem who name tests) = problem_refusal s.problems name tests
@@ -156,6 +168,9 @@ refusal_of s (event.Submit problem class broken) = submit_refusal s problem
 refusal_of s (event.Claim host) = first_of (
     no_host s.hosts host
     ∷ option_map claim_reply (claim_refusal s.judge.leases (number_or_0 (up_number s.hosts host))) ∷ [])
+refusal_of s (event.Fetch host most) = first_of (
+    no_host s.hosts host
+    ∷ option_map fetch_reply (fetch_refusal s.judge.leases (number_or_0 (up_number s.hosts host))) ∷ [])
 refusal_of s (event.Result host j test kind) = first_of (
     no_host s.hosts host
     ∷ option_map (count_reply j test) (result_refusal s.judge.judgings j test (remap_of s.judge.rule kind)) ∷ [])
@@ -166,7 +181,8 @@ refusal_of s (event.Renew host j test) = first_of (
     ∷ option_map (renewed_reply j test) (renew_refusal s.judge (number_or_0 (up_number s.hosts host)) j test) ∷ [])
 refusal_of s (event.Tick moment) = None
 refusal_of s (event.Down host) = no_host s.hosts host
-refusal_of s (event.Show j) = unless (is_judging s.judge.judgings j) (reply.NoJudging j)
+refusal_of s (event.Show j) = no_judging s j
+refusal_of s (event.Owner j) = no_judging s j
 refusal_of s event.Board = None
 refusal_of s (event.Rejudge who list) = rejudge_refusal s list
 refusal_of s (event.Matrix r) = no_rejudging s.rejudgings r

@@ -88,6 +88,10 @@ is_final Pending = false
 abbrev pub current_of : List Submission → ℕ → ℕ
 current_of submissions n = number_or_0 (option_map (λ submission. submission.current) (item_of submissions n))
 
+-- the submission that a judging is of
+abbrev pub owner_of : List JudgingDetails → ℕ → ℕ
+owner_of details j = number_or_0 (option_map (λ judged. judged.submission) (item_of details j))
+
 abbrev pub is_verified : List JudgingDetails → ℕ → Bool
 is_verified details j = unwrap_or (option_map (λ judged. judged.verified) (item_of details j)) false
 

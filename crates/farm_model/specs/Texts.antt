@@ -51,12 +51,14 @@ event_words (event.Replace who name tests) = codes "replace" ∷ name ∷ decima
 event_words (event.Host name) = codes "host" ∷ name ∷ []
 event_words (event.Submit problem class broken) = codes "submit" ∷ problem ∷ class_words class ++ image_words broken
 event_words (event.Claim host) = codes "claim" ∷ host ∷ []
+event_words (event.Fetch host most) = codes "fetch" ∷ host ∷ decimal most ∷ []
 event_words (event.Result host j test kind) = codes "result" ∷ host ∷ decimal j ∷ decimal test ∷ name_of kind ∷ []
 event_words (event.Entry j test kind) = codes "record" ∷ decimal j ∷ decimal test ∷ name_of kind ∷ []
 event_words (event.Renew host j test) = codes "renew" ∷ host ∷ decimal j ∷ decimal test ∷ []
 event_words (event.Tick moment) = codes "tick" ∷ decimal moment ∷ []
 event_words (event.Down host) = codes "down" ∷ host ∷ []
 event_words (event.Show j) = codes "show" ∷ decimal j ∷ []
+event_words (event.Owner j) = codes "owner" ∷ decimal j ∷ []
 event_words event.Board = codes "board" ∷ []
 event_words (event.Rejudge who list) = codes "rejudge" ∷ list_words list
 event_words (event.Matrix r) = codes "matrix" ∷ decimal r ∷ []
@@ -115,6 +117,8 @@ reply_words (reply.Host name) = codes "host" ∷ name ∷ []
 reply_words (reply.Submitted s j) = codes "submission" ∷ decimal s ∷ codes "judging" ∷ decimal j ∷ []
 reply_words (reply.Handed task until) =
     codes "task" ∷ decimal task.judging ∷ decimal task.test ∷ codes "until" ∷ decimal until ∷ []
+reply_words (reply.Batch judging tests until) =
+    codes "batch" ∷ decimal judging ∷ list_words tests ++ codes "until" ∷ decimal until ∷ []
 reply_words reply.Nothing = codes "nothing" ∷ []
 reply_words reply.Counted = codes "counted" ∷ []
 reply_words (reply.Repeat kept) = codes "repeat" ∷ name_of kept ∷ []
@@ -123,6 +127,7 @@ reply_words reply.Dropped = codes "dropped" ∷ []
 reply_words (reply.Until until) = codes "until" ∷ decimal until ∷ []
 reply_words (reply.Ended count) = codes "ended" ∷ decimal count ∷ []
 reply_words (reply.Shown answer) = shown_words answer
+reply_words (reply.Owned submission) = codes "owner" ∷ decimal submission ∷ []
 reply_words (reply.Board rows) = codes "board" ∷ decimal (length rows) ∷ []
 reply_words (reply.Rejudging number first last) =
     codes "rejudging" ∷ decimal number ∷ codes "judgings" ∷ decimal first ∷ codes "to" ∷ decimal last ∷ []

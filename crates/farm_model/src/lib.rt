@@ -25,10 +25,11 @@ pub use rejudgings::{
     verification_of_a_rejudging,
 };
 pub use worked::{
-    answers_to_rows, asked_judgings, broken_image, cells_that_matter, classes, death_and_return,
-    empty_input, equal_priorities, equal_priorities_later, event_lines, full_judging,
-    greatest_priority_decides, late_repeated_different, lines_and_comments, lines_of_hosts,
-    one_before_the_end, one_possible_kind, problems_with_modes, refusals, refusals_of_hosts,
-    repeated_different, replaced_problem, smallest_path, tie_with_an_earlier_rank, too_long,
-    unique_greatest_priority, words_and_numbers,
+    answers_to_rows, asked_judgings, batch_of_one_judging, batches, broken_image,
+    cells_that_matter, classes, death_and_return, empty_input, equal_priorities,
+    equal_priorities_later, event_lines, full_judging, greatest_priority_decides,
+    late_repeated_different, lines_and_comments, lines_of_hosts, one_before_the_end,
+    one_possible_kind, problems_with_modes, refusals, refusals_of_hosts, repeated_different,
+    replaced_problem, smallest_path, tie_with_an_earlier_rank, too_long, unique_greatest_priority,
+    words_and_numbers,
 };

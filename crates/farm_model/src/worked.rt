@@ -107,6 +107,18 @@ pub fn asked_judgings()
         ≡ codes "jury problem A 1" ∷ codes "ann ask 1" ∷ [] }
 {}
 
+/// Hosts fetch tests of one judging, hold them for longer together, and lose those that do not matter any more.
+pub fn batches()
+    ensures { script_output standard_settings (codes "problem A 3\nhost h1\nhost h2\nsubmit A\nfetch h1 2\nfetch h2 16\nfetch h2 1\ntick 10\nrenew h1 1 2\ntick 60\nclaim h2\nresult h1 1 1 run-error\nshow 1\nrenew h1 1 2\ndown h2\nresult h1 1 2 correct\nowner 1\nowner 7\nfetch h1 17\nfetch h9 1\n")
+        ≡ codes "problem A version 1\nhost h1\nhost h2\nsubmission 1 judging 1\nbatch 1 1,2 until 60\nbatch 1 3 until 60\nnothing\nended 0\nuntil 70\nended 1\ntask 1 3 until 120\ncounted\nfinal run-error\nno-lease\nended 0\ncounted\nowner 1\nno-judging 7\nbad-line\nno-host h9\n" }
+{}
+
+/// A fetch takes the tests of one judging that are open, and leaves those of the next.
+pub fn batch_of_one_judging()
+    ensures { script_output standard_settings (codes "problem A 2\nhost h1\nhost h2\nsubmit A low\nsubmit A\nclaim h1\nfetch h2 2\nfetch h1 3\nfetch h1 0\n")
+        ≡ codes "problem A version 1\nhost h1\nhost h2\nsubmission 1 judging 1\nsubmission 2 judging 2\ntask 2 1 until 60\nbatch 2 2 until 60\nbatch 1 1,2 until 60\nbad-line\n" }
+{}
+
 /// A result that comes again or comes otherwise does not count.
 pub fn repeated_different()
     ensures { script_output standard_settings (codes "problem A 1\nsubmit A\nrecord 1 1 correct\nrecord 1 1 correct\nrecord 1 1 timelimit\nshow 1\n")
