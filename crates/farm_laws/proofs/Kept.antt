@@ -1,5 +1,5 @@
 -- Changes of the judge that leave every row as it was.
-use Rattle.std.proofs.Common.{ℕ, zero, suc, ◌≡◌, ◌-◌, List, [], ◌∷◌, Option, Some, None, Bool, true, false, cond, refl, sym, ap, ◌∙◌, length, map, set, slice_get}
+use Rattle.std.proofs.Common.{ℕ, zero, suc, ◌≡◌, ◌-◌, List, [], ◌∷◌, Option, Some, None, Bool, true, false, cond, refl, sym, ap, ◌∙◌, length, map, set, slice_get, take}
 use Rattle.std.specs.Prelude.{nat_lt}
 use Rattle.std.specs.List.{fold}
 use Rattle.std.specs.Option.{option_map, option_and_then, unwrap_or}
@@ -10,9 +10,10 @@ use Rattle.farm_kinds.specs.declared.outcomes.Mode.{Mode}
 use Rattle.farm_kinds.specs.declared.outcomes.Task.{Task}
 use Rattle.farm_model.specs.Numbered.{item_of, change_item}
 use Rattle.farm_model.specs.Refusing.{refused_or}
+use Rattle.farm_model.specs.Leases.{held_count}
 use Rattle.farm_model.specs.Rows.{Row}
 use Rattle.farm_model.specs.Judgings.{Judging, task_of, judging_rows, mark_handed, mark_asked, mark_dropped, with_asked}
-use Rattle.farm_model.specs.Judge.{JudgeState, claim_refusal, claimed, first_open, judge_claim, renew_refusal, renew_lease, judge_renew, ask_refusal, judge_ask, drop_judging}
+use Rattle.farm_model.specs.Judge.{JudgeState, claim_refusal, claimed, first_open, judge_claim, open_of, batch_size, hand_out, hand_out_all, batch_from, fetch_refusal, judge_fetch, renew_refusal, renew_leases, judge_renew, ask_refusal, judge_ask, drop_judging}
 use Rattle.farm_laws.proofs.Items.{item_at}
 use Rattle.farm_laws.proofs.Cells.{cell_at}
 
@@ -89,9 +90,25 @@ claimed_keeps s host (Some task) = record {
 pub claim_keeps : (s : JudgeState) (host : ℕ) → KeepsRows s (judge_claim s host).0
 claim_keeps s host = refused_keeps s (claim_refusal s.leases host) (claimed s host (first_open s)) (claimed_keeps s host (first_open s))
 
--- a renewal changes a lease alone
+hands_keep : (s : JudgeState) (host : ℕ) (tasks : List Task) → KeepsRows s (hand_out_all s host tasks)
+hands_keep s host [] = same_rows s
+hands_keep s host (task ∷ tasks) =
+    let first = claimed_keeps s host (Some task) in
+    let others = hands_keep (hand_out s host task) host tasks in
+    record { rule = others.rule ∙ first.rule; modes = others.modes ∙ first.modes; rows = others.rows ∙ first.rows }
+
+batch_keeps : (s : JudgeState) (host size : ℕ) (task : Option Task) → KeepsRows s (batch_from s host size task).0
+batch_keeps s host size None = same_rows s
+batch_keeps s host size (Some task) = hands_keep s host (take size (open_of s task.judging))
+
+pub fetch_keeps : (s : JudgeState) (host most : ℕ) → KeepsRows s (judge_fetch s host most).0
+fetch_keeps s host most =
+    let size = batch_size most (held_count s.leases host) in
+    refused_keeps s (fetch_refusal s.leases host) (batch_from s host size (first_open s)) (batch_keeps s host size (first_open s))
+
+-- a renewal changes leases alone
 pub renew_keeps : (s : JudgeState) (host j t : ℕ) → KeepsRows s (judge_renew s host j t).0
-renew_keeps s host j t = refused_keeps s (renew_refusal s host j t) (renew_lease s (task_of j t)) (record { rule = refl; modes = refl; rows = refl })
+renew_keeps s host j t = refused_keeps s (renew_refusal s host j t) (renew_leases s host j) (record { rule = refl; modes = refl; rows = refl })
 
 -- a judging that was asked for keeps its mode and its row
 pub ask_keeps : (s : JudgeState) (j : ℕ) → KeepsRows s (judge_ask s j).0

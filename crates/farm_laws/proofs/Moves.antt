@@ -49,12 +49,14 @@ only_apply s (event.Submit problem class broken) none =
     let e = event.Submit problem class broken in
     outcome (KeepsCurrent s) s (refusal_of s e) (accepted s e) (λ x n is. refl) (λ done n is. appended s.submissions _ n is)
 only_apply s (event.Claim host) none = kept s (event.Claim host) refl
+only_apply s (event.Fetch host most) none = kept s (event.Fetch host most) refl
 only_apply s (event.Result host j t kind) none = kept s (event.Result host j t kind) refl
 only_apply s (event.Entry j t kind) none = kept s (event.Entry j t kind) refl
 only_apply s (event.Renew host j t) none = kept s (event.Renew host j t) refl
 only_apply s (event.Tick moment) none = kept s (event.Tick moment) refl
 only_apply s (event.Down host) none = kept s (event.Down host) refl
 only_apply s (event.Show j) none = kept s (event.Show j) refl
+only_apply s (event.Owner j) none = kept s (event.Owner j) refl
 only_apply s event.Board none = kept s event.Board refl
 only_apply s (event.Rejudge who list) none = kept s (event.Rejudge who list) refl
 only_apply s (event.Matrix r) none = kept s (event.Matrix r) refl

@@ -29,7 +29,7 @@ use Rattle.farm_laws.specs.Output.{events_in, events_before, IsReadAs, first_lin
 use Rattle.farm_laws.proofs.Items.{there}
 use Rattle.farm_laws.proofs.FirstLines.{first_line_front, written_behind}
 use Rattle.farm_laws.proofs.Outputs.{events_in-append, take_later, events_next, reached_next, output_around}
-use Rattle.farm_laws.proofs.ReplyTexts.{HasLine, HandsSome, AppliesSome, reply_line, counted_told, handed_told, applied_told, shown_told, none_told, counted_line, handed_line, applied_line, shown_line}
+use Rattle.farm_laws.proofs.ReplyTexts.{HasLine, HandsSome, BatchesSome, AppliesSome, reply_line, counted_told, handed_told, batch_told, applied_told, shown_told, none_told, counted_line, handed_line, batch_line, applied_line, shown_line}
 use Rattle.farm_laws.proofs.Runs.{one_more}
 use Rattle.farm_laws.proofs.Counting.{same_number}
 use Rattle.farm_laws.proofs.Reporting.{step_keeps_promise}
@@ -40,11 +40,13 @@ use Rattle.farm_laws.proofs.Reporting.{step_keeps_promise}
 pub record Tells (s : State) (e : Event) (r : Reply) (told : Reply → Type 0) : Type 0 where
   pub shown : (j : ℕ) (answer : Answer) → Reports s e j → told (reply.Shown answer) → r ≡ reply.Shown answer
   pub handed : (task : Task) (until : ℕ) → told (reply.Handed task until) → HandsSome r
+  pub batched : (judging : ℕ) (tests : List ℕ) (until : ℕ) → told (reply.Batch judging tests until) → BatchesSome r
   pub counted : told reply.Counted → r ≡ reply.Counted
   pub applied : (members : ℕ) → told (reply.Applied members) → AppliesSome r
   -- and the reply itself is told
   pub shows : (answer : Answer) → r ≡ reply.Shown answer → told (reply.Shown answer)
   pub hands : (task : Task) (until : ℕ) → r ≡ reply.Handed task until → told (reply.Handed task until)
+  pub batches : (judging : ℕ) (tests : List ℕ) (until : ℕ) → r ≡ reply.Batch judging tests until → told (reply.Batch judging tests until)
   pub counts : r ≡ reply.Counted → told reply.Counted
   pub applies : (members : ℕ) → r ≡ reply.Applied members → told (reply.Applied members)
 
@@ -59,6 +61,17 @@ told_keeps settings es e new r told t kept = record {
       let some = t.handed task until h in
       let out = kept.hands_out_wanted some.0 some.1 some.2 in
       record { task = out.task; until = out.until; handed = t.hands out.task out.until out.handed; asked = out.asked; wanted = out.wanted };
+  fetches_wanted = λ judging tests until h.
+      let some = t.batched judging tests until h in
+      let out = kept.fetches_wanted some.0 some.1 some.2 some.3 in
+      record {
+        judging = out.judging;
+        tests = out.tests;
+        until = out.until;
+        handed = t.batches out.judging out.tests out.until out.handed;
+        asked = out.asked;
+        wanted = out.wanted;
+      };
   only_counted_fills = λ other. kept.only_counted_fills (λ h. other (t.counts h));
   counted_fills = λ h. kept.counted_fills (t.counted h);
   applies_to_all = λ who n members at h. let some = t.applied members h in kept.applies_to_all who n some.0 at some.1;
@@ -117,10 +130,12 @@ text_tells : (s : State) (e : Event) (told : Reply → Type 0) → ((x : Reply) 
 text_tells s e told line = record {
   shown = λ j answer at h. told_reports s e j answer at ((line (reply.Shown answer)).0 h);
   handed = λ task until h. handed_told (reply_to s e) task until ((line (reply.Handed task until)).0 h);
+  batched = λ judging tests until h. batch_told (reply_to s e) judging tests until ((line (reply.Batch judging tests until)).0 h);
   counted = λ h. counted_told (reply_to s e) ((line reply.Counted).0 h);
   applied = λ members h. applied_told (reply_to s e) members ((line (reply.Applied members)).0 h);
   shows = λ answer is. (line (reply.Shown answer)).1 (subst (λ (r : Reply). HasLine r (reply.Shown answer)) (sym is) (shown_line answer));
   hands = λ task until is. (line (reply.Handed task until)).1 (subst (λ (r : Reply). HasLine r (reply.Handed task until)) (sym is) (handed_line task until));
+  batches = λ judging tests until is. (line (reply.Batch judging tests until)).1 (subst (λ (r : Reply). HasLine r (reply.Batch judging tests until)) (sym is) (batch_line judging tests until));
   counts = λ is. (line reply.Counted).1 (subst (λ (r : Reply). HasLine r reply.Counted) (sym is) counted_line);
   applies = λ members is. (line (reply.Applied members)).1 (subst (λ (r : Reply). HasLine r (reply.Applied members)) (sym is) (applied_line members));
 }

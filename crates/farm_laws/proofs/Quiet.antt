@@ -23,9 +23,10 @@ use Rattle.farm_model.specs.Refusals.{is_full, is_test_count, is_problem, proble
 use Rattle.farm_model.specs.Changes.{accepted}
 use Rattle.farm_model.specs.Replay.{reply_to}
 
--- the reply hands out a task, or says that a result counts
+-- the reply hands out tasks, or says that a result counts
 abbrev pub hands_or_counts : Reply → Bool
 hands_or_counts (reply.Handed task until) = true
+hands_or_counts (reply.Batch judging tests until) = true
 hands_or_counts reply.Counted = true
 hands_or_counts r = false
 
@@ -168,9 +169,10 @@ renew_quiet : (s : State) (host : List ℕ) (j t : ℕ) (refusal : Option Renewe
 renew_quiet s host j t refusal =
     two_quiet (no_host s.hosts host) (option_map (renewed_reply j t) refusal) (no_host_quiet s.hosts host) (map_quiet (renewed_reply j t) (renewed_quiet j t) refusal)
 
--- only a claim hands out a task, and only a result counts
+-- only a claim or a fetch hands out tasks, and only a result counts
 abbrev pub IsClaimOrResult : Event → Type 0
 IsClaimOrResult (event.Claim host) = Unit {0}
+IsClaimOrResult (event.Fetch host most) = Unit {0}
 IsClaimOrResult (event.Result host j t kind) = Unit {0}
 IsClaimOrResult (event.Entry j t kind) = Unit {0}
 IsClaimOrResult e = ⊥
@@ -181,6 +183,7 @@ quiet_or_not s (event.Replace who name tests) = inr (quiet s (event.Replace who 
 quiet_or_not s (event.Host name) = inr (quiet s (event.Host name) (host_quiet s.hosts name) refl)
 quiet_or_not s (event.Submit problem class broken) = inr (quiet s (event.Submit problem class broken) (submit_quiet s problem) refl)
 quiet_or_not s (event.Claim host) = inl tt
+quiet_or_not s (event.Fetch host most) = inl tt
 quiet_or_not s (event.Result host j t kind) = inl tt
 quiet_or_not s (event.Entry j t kind) = inl tt
 quiet_or_not s (event.Renew host j t) =
@@ -189,6 +192,7 @@ quiet_or_not s (event.Renew host j t) =
 quiet_or_not s (event.Tick moment) = inr refl
 quiet_or_not s (event.Down host) = inr (quiet s (event.Down host) (no_host_quiet s.hosts host) refl)
 quiet_or_not s (event.Show j) = inr (quiet s (event.Show j) (unless_quiet (is_judging s.judge.judgings j) (reply.NoJudging j) refl) refl)
+quiet_or_not s (event.Owner j) = inr (quiet s (event.Owner j) (unless_quiet (is_judging s.judge.judgings j) (reply.NoJudging j) refl) refl)
 quiet_or_not s event.Board = inr refl
 quiet_or_not s (event.Rejudge who list) = inr (quiet s (event.Rejudge who list) (rejudge_quiet s list) refl)
 quiet_or_not s (event.Matrix r) = inr (quiet s (event.Matrix r) (no_rejudging_quiet s.rejudgings r) refl)

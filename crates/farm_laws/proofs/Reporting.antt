@@ -28,7 +28,7 @@ use Rattle.farm_model.specs.Refusals.{ask_reply, refusal_of}
 use Rattle.farm_model.specs.Changes.{accepted}
 use Rattle.farm_model.specs.Farm.{farm_step, Stepped}
 use Rattle.farm_model.specs.Replay.{state_after, reply_to, counted_in, kind_for, cell_for, given_by, Truth, AgreesWith, IsHonest, KnowsAll, true_kinds}
-use Rattle.farm_laws.specs.Laws.{reached, row_in, mode_in, IsJudging, replayed_row, Shows, Reports, FinalIsExact, IsWantedCell, PendingIsExact, HandsOutWanted, FinalStays, CountedOnce, EqualsOneThread, OnlyCountedFills, EachStepKeepsPromise, StepKeepsPromise, RowIsReplayed, KeepsPromise}
+use Rattle.farm_laws.specs.Laws.{reached, row_in, mode_in, IsJudging, replayed_row, Shows, Reports, FinalIsExact, IsWantedCell, PendingIsExact, HandsOutWanted, FetchesWanted, FinalStays, CountedOnce, EqualsOneThread, OnlyCountedFills, EachStepKeepsPromise, StepKeepsPromise, RowIsReplayed, KeepsPromise}
 use Rattle.lazy_stop.specs.Matters.{Extends}
 use Rattle.farm_laws.proofs.Items.{there}
 use Rattle.farm_laws.proofs.Cells.{cell_at, or_none}
@@ -36,7 +36,8 @@ use Rattle.farm_laws.proofs.Steps.{one_cell, steps, not_counted}
 use Rattle.farm_laws.proofs.Runs.{runs, counts, tasks_same}
 use Rattle.farm_laws.proofs.Rows.{final_verdict, map_range, true_row}
 use Rattle.farm_laws.proofs.Later.{pending_wanted, extends_cells, answer_stays, answer_in_full}
-use Rattle.farm_laws.proofs.Handing.{hands_open}
+use Rattle.farm_laws.proofs.Handing.{IsOpen, hands_open, batches_open}
+use Rattle.farm_laws.proofs.Each.{each_all, each_turned}
 use Rattle.farm_laws.proofs.Moves.{only_apply}
 use Rattle.farm_laws.proofs.Cancels.{cancel_changes_none}
 use Rattle.farm_laws.proofs.Applying.{applies_to_all}
@@ -243,23 +244,40 @@ equals_one_thread settings es e truth j v at honest knows h =
 
 -- Tasks that are handed out
 
-pub hands_out_wanted : (settings : SettingsValue) (es : List Event) (e : Event) → HandsOutWanted settings es (Told settings es e)
-hands_out_wanted settings es e task until h =
+-- an open task of a judging is wanted, in a judging that was asked for
+open_wanted : (settings : SettingsValue) (es : List Event) (task : Task) → IsOpen (reached settings es).judge.rule (reached settings es).judge.judgings task
+    → (is_asked (reached settings es).judge.judgings task.judging ≡ true)
+    × IsWantedCell settings (mode_in (reached settings es) task.judging) (row_in (reached settings es) task.judging) task.test
+open_wanted settings es task given =
     let s = reached settings es in
     let r = runs (start settings) es in
-    let given = hands_open s e task until h in
     let row : row_in s task.judging ≡ given.judging.row = ap (λ (o : Option Judging). unwrap_or (option_map (λ judging. judging.row) o) []) given.there in
     let mode : mode_in s task.judging ≡ given.judging.mode = ap (λ (o : Option Judging). unwrap_or (option_map (λ judging. judging.mode) o) Lazy) given.there in
     let asked : is_asked s.judge.judgings task.judging ≡ true = ap (λ (o : Option Judging). unwrap_or (option_map (λ judging. judging.asked) o) false) given.there ∙ given.asked in
     let wanted : is_wanted settings.rule given.judging.mode given.judging.row task.test ≡ true =
-    ap (λ (rule : RuleValue). is_wanted rule given.judging.mode given.judging.row task.test) (sym r.rule) ∙ given.wanted in
+    ap (λ (rule : RuleValue). is_wanted rule given.judging.mode given.judging.row task.test) (sym r.rule) ∙ given.wanted in (
+      asked,
+      subst (λ (m : Mode). IsWantedCell settings m (row_in s task.judging) task.test) (sym mode)
+          (subst (λ (cells : Row). IsWantedCell settings given.judging.mode cells task.test) (sym row) (given.empty, wanted)),
+    )
+
+pub hands_out_wanted : (settings : SettingsValue) (es : List Event) (e : Event) → HandsOutWanted settings es (Told settings es e)
+hands_out_wanted settings es e task until h =
+    let is = open_wanted settings es task (hands_open (reached settings es) e task until h) in
+    record { task = task; until = until; handed = h; asked = is.0; wanted = is.1 }
+
+pub fetches_wanted : (settings : SettingsValue) (es : List Event) (e : Event) → FetchesWanted settings es (Told settings es e)
+fetches_wanted settings es e j tests until h =
+    let s = reached settings es in
+    let opens = batches_open s e j tests until h in
     record {
-      task = task;
+      judging = j;
+      tests = tests;
       until = until;
       handed = h;
-      asked = asked;
-      wanted = subst (λ (m : Mode). IsWantedCell settings m (row_in s task.judging) task.test) (sym mode)
-          (subst (λ (cells : Row). IsWantedCell settings given.judging.mode cells task.test) (sym row) (given.empty, wanted));
+      asked = opens.0;
+      wanted = each_all (λ test. IsWantedCell settings (mode_in s j) (row_in s j) test) tests
+          (each_turned (λ test. IsOpen s.judge.rule s.judge.judgings (task_of j test)) (λ test. IsWantedCell settings (mode_in s j) (row_in s j) test) (λ test given. (open_wanted settings es (task_of j test) given).1) tests opens.1);
     }
 
 -- The laws
@@ -271,6 +289,7 @@ step_keeps_promise settings es e = record {
   final_stays = final_stays settings es e;
   equals_one_thread = equals_one_thread settings es e;
   hands_out_wanted = hands_out_wanted settings es e;
+  fetches_wanted = fetches_wanted settings es e;
   only_counted_fills = only_counted_fills settings es e;
   counted_fills = counted_fills settings es e;
   applies_to_all = applies_to_all settings es e;

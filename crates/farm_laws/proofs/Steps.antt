@@ -28,7 +28,7 @@ use Rattle.farm_model.specs.Farm.{farm_step}
 use Rattle.farm_model.specs.Replay.{if_counted, counted_by}
 use Rattle.farm_laws.proofs.Cells.{cell_at, TellsOf, result_tells, entry_tells, count_reply_other, IsUnjudged, empty_unjudged, cells_append, or_none, cell_filled}
 use Rattle.farm_laws.proofs.Each.{Each}
-use Rattle.farm_laws.proofs.Kept.{lengths_of, modes_of, lengths_same, cells_same, changed_same, KeepsRows, same_rows, claim_keeps, renew_keeps, ask_keeps, drops_keep}
+use Rattle.farm_laws.proofs.Kept.{lengths_of, modes_of, lengths_same, cells_same, changed_same, KeepsRows, same_rows, claim_keeps, fetch_keeps, renew_keeps, ask_keeps, drops_keep}
 
 -- what one counted result gives the cell of a task
 abbrev pub one_cell : RuleValue → Option (Task × Kind) → Task → Option Kind
@@ -190,12 +190,14 @@ steps s (event.Replace who name tests) = quiet s (event.Replace who name tests) 
 steps s (event.Host name) = quiet s (event.Host name) (same_rows s.judge)
 steps s (event.Submit name class broken) = submit_steps s name class broken
 steps s (event.Claim host) = quiet s (event.Claim host) (claim_keeps s.judge _)
+steps s (event.Fetch host most) = quiet s (event.Fetch host most) (fetch_keeps s.judge _ most)
 steps s (event.Result host j t kind) = host_steps s host j t kind
 steps s (event.Entry j t kind) = entry_steps s j t kind
 steps s (event.Renew host j t) = quiet s (event.Renew host j t) (renew_keeps s.judge _ j t)
 steps s (event.Tick moment) = quiet s (event.Tick moment) (record { rule = refl; modes = refl; rows = refl })
 steps s (event.Down host) = quiet s (event.Down host) (record { rule = refl; modes = refl; rows = refl })
 steps s (event.Show j) = quiet s (event.Show j) (same_rows s.judge)
+steps s (event.Owner j) = quiet s (event.Owner j) (same_rows s.judge)
 steps s event.Board = quiet s event.Board (same_rows s.judge)
 steps s (event.Rejudge who list) = rejudge_steps s who list
 steps s (event.Matrix r) = quiet s (event.Matrix r) (same_rows s.judge)

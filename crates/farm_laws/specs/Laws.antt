@@ -107,7 +107,21 @@ abbrev pub HandsOutWanted : SettingsValue → List Event → (Reply → Type 0) 
 HandsOutWanted settings es told = (task : Task) (until : ℕ) → told (reply.Handed task until) →
     HandsOut settings (reached settings es) told
 
--- Only what is answered `counted` fills a cell. Claims, renewals, ticks, hosts' deaths and returns, and results
+-- each test that is told to be handed out has an empty cell that is still to be judged, in a judging that was asked for
+pub record HandsOutBatch (settings : SettingsValue) (s : State) (told : Reply → Type 0) : Type 0 where
+  pub judging : ℕ
+  pub tests : List ℕ
+  pub until : ℕ
+  pub handed : told (reply.Batch judging tests until)
+  pub asked : is_asked s.judge.judgings judging ≡ true
+  pub wanted : All (λ test. IsWantedCell settings (mode_in s judging) (row_in s judging) test) tests
+
+-- The same of each test of a batch.
+abbrev pub FetchesWanted : SettingsValue → List Event → (Reply → Type 0) → Type 0
+FetchesWanted settings es told = (judging : ℕ) (tests : List ℕ) (until : ℕ) → told (reply.Batch judging tests until) →
+    HandsOutBatch settings (reached settings es) told
+
+-- Only what is answered `counted` fills a cell. Claims, fetches, renewals, ticks, hosts' deaths and returns, and results
 -- that are answered otherwise, leave the row of each judging that is there as it was.
 abbrev pub OnlyCountedFills : SettingsValue → List Event → State → (Reply → Type 0) → Type 0
 OnlyCountedFills settings es new told = ¬ told reply.Counted →
@@ -184,6 +198,7 @@ pub record ReplyKeepsPromise (settings : SettingsValue) (es : List Event) (e : E
   pub final_stays : FinalStays settings es e told
   pub equals_one_thread : EqualsOneThread settings es e told
   pub hands_out_wanted : HandsOutWanted settings es told
+  pub fetches_wanted : FetchesWanted settings es told
   pub only_counted_fills : OnlyCountedFills settings es new told
   pub counted_fills : CountedFills settings es e new told
   pub applies_to_all : AppliesToAll settings es e new told
