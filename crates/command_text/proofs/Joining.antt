@@ -50,6 +50,14 @@ words_pushed old mid word words rest m w =
     ap (λ t. t ++ spaced (word_bytes rest)) m ∙ append_assoc old word.now (spaced (word_bytes rest))
     ∙ ap (λ t. old ++ t) (sym (joined word.now (word_bytes rest)) ∙ ap (λ ws. join_with_byte 32 (word_bytes ws)) (sym w))
 
+-- a list and further words behind two words
+pub joined_list : (a b : List ℕ) (ns : List ℕ) (more : List (List ℕ))
+    → join_with_byte 32 (a ∷ b ∷ list_words ns ++ more) ≡ (join_with_byte 32 (a ∷ b ∷ []) ++ spaced (list_words ns)) ++ spaced more
+joined_list a b ns more =
+    joined_more a (b ∷ []) (list_words ns ++ more)
+    ∙ ap (λ t. join_with_byte 32 (a ∷ b ∷ []) ++ t) (spaced-append (list_words ns) more)
+    ∙ sym (append_assoc (join_with_byte 32 (a ∷ b ∷ [])) (spaced (list_words ns)) (spaced more))
+
 commas-push : (ns : List ℕ) (next : ℕ) → commas (ns ++ next ∷ []) ≡ commas ns ++ (44 ∷ decimal next)
 commas-push [] next = append-nil (44 ∷ decimal next)
 commas-push (n ∷ ns) next = ap (λ t. (44 ∷ decimal n) ++ t) (commas-push ns next) ∙ sym (append_assoc (44 ∷ decimal n) (commas ns) (44 ∷ decimal next))

@@ -56,9 +56,10 @@ host_is_not_jury who word ws e =
     let P : List ℕ → Type 0 = λ w. jury_event_of who w ws ≡ None in
     either P word (codes "host") _ _ e refl
     (either P word (codes "claim") _ _ e refl
+    (either P word (codes "fetch") _ _ e refl
     (either P word (codes "result") _ _ e refl
     (either P word (codes "renew") _ _ e refl
-    (either P word (codes "down") _ _ e refl (λ h. cc)))))
+    (either P word (codes "down") _ _ e refl (λ h. cc))))))
 
 other_is_no_else : (who word : List ℕ) (ws : List (List ℕ)) (e : Event) → other_event_of word ws ≡ Some e → (jury_event_of who word ws ≡ None) × (host_event_of word ws ≡ None)
 other_is_no_else who word ws e =
@@ -67,9 +68,10 @@ other_is_no_else who word ws e =
     (either P word (codes "record") _ _ e (refl, refl)
     (either P word (codes "tick") _ _ e (refl, refl)
     (either P word (codes "show") _ _ e (refl, refl)
+    (either P word (codes "owner") _ _ e (refl, refl)
     (either P word (codes "board") _ _ e (refl, refl)
     (either P word (codes "matrix") _ _ e (refl, refl)
-    (either P word (codes "audit") _ _ e (refl, refl) (λ h. cc)))))))
+    (either P word (codes "audit") _ _ e (refl, refl) (λ h. cc))))))))
 
 or_none : (o : Option Event) → option_or o None ≡ o
 or_none None = refl

@@ -1,10 +1,10 @@
 -- An event that a line may give is written as a line that gives it.
 use Rattle.std.proofs.Common.{ℕ, ◌≡◌, ◌-◌, ◌^◌, ◌≤◌, List, [], ◌∷◌, ◌++◌, Option, Some, None, Ok, Bool, true, false, cond, refl, sym, ap, ◌∙◌, arith}
-use Rattle.std.specs.Prelude.{codes}
+use Rattle.std.specs.Prelude.{codes, nat_le}
 use Rattle.std.specs.Fmt.{decimal}
 use Rattle.std.specs.Option.{option_or}
 use Rattle.std.specs.Str.{bytes_eq}
-use Rattle.std.proofs.lemmas.Bool.{cond-true}
+use Rattle.std.proofs.lemmas.Bool.{cond-true, le-leb, and_from}
 use Rattle.std.proofs.lemmas.Slice.Eq.{bytes_eq-Decides}
 use Rattle.farm_kinds.specs.declared.events.Event.{Event}
 use Rattle.farm_kinds.specs.declared.events.Event.TheVariants as event
@@ -15,7 +15,7 @@ use Rattle.farm_kinds.specs.declared.outcomes.Class.TheVariants.{High, Normal, L
 use Rattle.farm_kinds.specs.Names.{is_name, name_read, jury}
 use Rattle.farm_kinds.specs.Kinds.{name_of, kind_named}
 use Rattle.farm_model.specs.Numbers.{number_of, moment_of}
-use Rattle.farm_model.specs.Grammar.{◌>>=◌, problem_line, replace_line, rejudge_line, number_line, name_line, submit_words, submit_line, result_line, record_line, renew_line, tick_line, jury_event_of, host_event_of, other_event_of, unnamed_event_of, event_or_bad, read_of_words, line_read}
+use Rattle.farm_model.specs.Grammar.{◌>>=◌, problem_line, replace_line, rejudge_line, number_line, name_line, submit_words, submit_line, result_line, record_line, if_batch, batch_of, fetch_line, renew_line, tick_line, jury_event_of, host_event_of, other_event_of, unnamed_event_of, event_or_bad, read_of_words, line_read}
 use Rattle.farm_model.specs.Texts.{class_words, image_words, list_words, event_words, actor_of, actor_words, event_text}
 use Rattle.command_text.proofs.Tokens.{IsToken, AreTokens, token-name, words_joined}
 use Rattle.command_text.proofs.Decimals.{number_of-decimal, moment_of-decimal, token-decimal}
@@ -113,6 +113,17 @@ renew_back host j t is j_small t_small =
 tick_back : (m : ℕ) → m ≤ 10 ^ 18 - 1 → tick_line (decimal m ∷ []) ≡ Some (event.Tick m)
 tick_back m small = step (moment_of (decimal m)) m (λ n. Some (event.Tick n)) (moment_of-decimal m small)
 
+batch_back : (b : ℕ) → 1 ≤ b → b ≤ 16 → batch_of (decimal b) ≡ Some b
+batch_back b some few =
+    let small : b ≤ 4294967295 = omega arith in
+    ap (λ o. o >>= if_batch) (number_of-decimal b small)
+    ∙ ap (λ t. cond t (Some b) None) (and_from (nat_le 1 b) (nat_le b 16) (le-leb 1 b some) (le-leb b 16 few))
+
+fetch_back : (host : List ℕ) (b : ℕ) → IsName host → 1 ≤ b → b ≤ 16 → fetch_line (host ∷ decimal b ∷ []) ≡ Some (event.Fetch host b)
+fetch_back host b is some few =
+    step (name_read host) host (λ h. batch_of (decimal b) >>= (λ m. Some (event.Fetch h m))) (name_back host is)
+    ∙ step (batch_of (decimal b)) b (λ m. Some (event.Fetch host m)) (batch_back b some few)
+
 number_line_back : (e : ℕ → Event) (n : ℕ) → IsNumber n → number_line e (decimal n ∷ []) ≡ Some (e n)
 number_line_back e n small = step (number_of (decimal n)) n (λ m. Some (e m)) (number_of-decimal n small)
 
@@ -150,12 +161,14 @@ actor_name (event.Ask who j) h = h.0
 actor_name (event.Host name) h = refl
 actor_name (event.Submit problem class broken) h = refl
 actor_name (event.Claim host) h = refl
+actor_name (event.Fetch host most) h = refl
 actor_name (event.Result host j test kind) h = refl
 actor_name (event.Entry j test kind) h = refl
 actor_name (event.Renew host j test) h = refl
 actor_name (event.Tick moment) h = refl
 actor_name (event.Down host) h = refl
 actor_name (event.Show j) h = refl
+actor_name (event.Owner j) h = refl
 actor_name event.Board h = refl
 actor_name (event.Matrix r) h = refl
 actor_name event.Audit h = refl
@@ -177,12 +190,14 @@ words_back (event.Ask who j) h = jury_back who (codes "ask") (decimal j ∷ []) 
 words_back (event.Host name) h = ap (λ o. event_or_bad (option_or o None)) (name_line_back event.Host name h)
 words_back (event.Submit problem class broken) h = ap event_or_bad (submit_back problem class broken h)
 words_back (event.Claim host) h = ap (λ o. event_or_bad (option_or o None)) (name_line_back event.Claim host h)
+words_back (event.Fetch host most) h = ap (λ o. event_or_bad (option_or o None)) (fetch_back host most h.0 h.1 h.2)
 words_back (event.Result host j test kind) h = ap (λ o. event_or_bad (option_or o None)) (result_back host j test kind h.0 h.1 h.2)
 words_back (event.Entry j test kind) h = ap event_or_bad (record_back j test kind h.0 h.1)
 words_back (event.Renew host j test) h = ap (λ o. event_or_bad (option_or o None)) (renew_back host j test h.0 h.1 h.2)
 words_back (event.Tick moment) h = ap event_or_bad (tick_back moment h)
 words_back (event.Down host) h = ap (λ o. event_or_bad (option_or o None)) (name_line_back event.Down host h)
 words_back (event.Show j) h = ap event_or_bad (number_line_back event.Show j h)
+words_back (event.Owner j) h = ap event_or_bad (number_line_back event.Owner j h)
 words_back event.Board h = refl
 words_back (event.Matrix r) h = ap event_or_bad (number_line_back event.Matrix r h)
 words_back event.Audit h = refl
@@ -197,12 +212,14 @@ tokens_of (event.Replace who name tests) h = (token-name (codes "replace") refl,
 tokens_of (event.Host name) h = (token-name (codes "host") refl, (token-name name h, tt))
 tokens_of (event.Submit problem class broken) h = (token-name (codes "submit") refl, (token-name problem h, said_tokens class broken))
 tokens_of (event.Claim host) h = (token-name (codes "claim") refl, (token-name host h, tt))
+tokens_of (event.Fetch host most) h = (token-name (codes "fetch") refl, (token-name host h.0, (number_token most (omega (arith, h.2)), tt)))
 tokens_of (event.Result host j test kind) h = (token-name (codes "result") refl, (token-name host h.0, (number_token j h.1, (number_token test h.2, (kind_token kind, tt)))))
 tokens_of (event.Entry j test kind) h = (token-name (codes "record") refl, (number_token j h.0, (number_token test h.1, (kind_token kind, tt))))
 tokens_of (event.Renew host j test) h = (token-name (codes "renew") refl, (token-name host h.0, (number_token j h.1, (number_token test h.2, tt))))
 tokens_of (event.Tick moment) h = (token-name (codes "tick") refl, (token-decimal moment (omega arith), tt))
 tokens_of (event.Down host) h = (token-name (codes "down") refl, (token-name host h, tt))
 tokens_of (event.Show j) h = (token-name (codes "show") refl, (number_token j h, tt))
+tokens_of (event.Owner j) h = (token-name (codes "owner") refl, (number_token j h, tt))
 tokens_of event.Board h = (token-name (codes "board") refl, tt)
 tokens_of (event.Rejudge who list) h = (token-name (codes "rejudge") refl, list_tokens list h.1)
 tokens_of (event.Matrix r) h = (token-name (codes "matrix") refl, (number_token r h, tt))

@@ -1,9 +1,9 @@
 -- What holds of an event that a line is read as: names are names, and numbers are within their limits.
-use Rattle.std.proofs.Common.{ℕ, ◌≡◌, ◌-◌, ◌^◌, ◌≤◌, List, [], ◌∷◌, Option, Some, None, Result, Ok, Err, Bool, true, cond, eqb, refl, subst, arith}
+use Rattle.std.proofs.Common.{ℕ, ◌≡◌, ◌-◌, ◌^◌, ◌≤◌, List, [], ◌∷◌, Option, Some, None, Result, Ok, Err, Bool, true, cond, eqb, ◌&&◌, refl, subst, arith}
 use Rattle.std.specs.Prelude.{⊤, nat_le, codes}
 use Rattle.std.specs.Str.{bytes_eq}
 use Rattle.std.specs.Option.{option_and_then, option_or}
-use Rattle.std.proofs.lemmas.Bool.{cond_both, leb-true}
+use Rattle.std.proofs.lemmas.Bool.{cond_both, leb-true, and_parts}
 use Rattle.farm_kinds.specs.declared.events.Event.{Event}
 use Rattle.farm_kinds.specs.declared.events.Event.TheVariants as event
 use Rattle.farm_kinds.specs.declared.events.LineFault.{LineFault}
@@ -11,7 +11,7 @@ use Rattle.farm_kinds.specs.Names.{is_name, name_read, jury}
 use Rattle.farm_kinds.specs.Kinds.{kind_named}
 use Rattle.farm_model.specs.Words.{words}
 use Rattle.farm_model.specs.Numbers.{number_of, whole_of, at_most, before_all, all_numbers, comma_parts, list_of}
-use Rattle.farm_model.specs.Grammar.{◌>>=◌, problem_line, replace_line, rejudge_line, number_line, name_line, submit_words, submit_line, result_line, record_line, renew_line, tick_line, bare_line, jury_event_of, host_event_of, other_event_of, unnamed_event_of, named_event_of, event_of, is_comment, event_or_bad, read_of_words, line_read}
+use Rattle.farm_model.specs.Grammar.{◌>>=◌, problem_line, replace_line, rejudge_line, number_line, name_line, submit_words, submit_line, result_line, record_line, if_batch, batch_of, fetch_line, renew_line, tick_line, bare_line, jury_event_of, host_event_of, other_event_of, unnamed_event_of, named_event_of, event_of, is_comment, event_or_bad, read_of_words, line_read}
 
 abbrev pub IsName : List ℕ → Type 0
 IsName word = is_name word ≡ true
@@ -29,12 +29,14 @@ IsReadable (event.Replace who name tests) = IsName who × IsName name × IsNumbe
 IsReadable (event.Host name) = IsName name
 IsReadable (event.Submit problem class broken) = IsName problem
 IsReadable (event.Claim host) = IsName host
+IsReadable (event.Fetch host most) = IsName host × (1 ≤ most) × (most ≤ 16)
 IsReadable (event.Result host j test kind) = IsName host × IsNumber j × IsNumber test
 IsReadable (event.Entry j test kind) = IsNumber j × IsNumber test
 IsReadable (event.Renew host j test) = IsName host × IsNumber j × IsNumber test
 IsReadable (event.Tick moment) = moment ≤ 10 ^ 18 - 1
 IsReadable (event.Down host) = IsName host
 IsReadable (event.Show j) = IsNumber j
+IsReadable (event.Owner j) = IsNumber j
 IsReadable event.Board = ⊤
 IsReadable (event.Rejudge who list) = IsName who × AreNumbers list
 IsReadable (event.Matrix r) = IsNumber r
@@ -140,6 +142,22 @@ record_reads (judging ∷ test ∷ kind ∷ []) =
     after (kind_named kind) (λ k. Some (event.Entry j t k)) (λ k. (j_small, t_small))))
 record_reads (judging ∷ test ∷ kind ∷ more ∷ ws) = tt
 
+if_batch_reads : (n : ℕ) (f : ℕ → Option Event) → ((m : ℕ) → 1 ≤ m → m ≤ 16 → IfRead (f m)) → IfRead (if_batch n >>= f)
+if_batch_reads n f each =
+    cond_both (nat_le 1 n && nat_le n 16) (Some n) None (λ (o : Option ℕ). IfRead (o >>= f))
+    (λ within. let both = and_parts (nat_le 1 n) (nat_le n 16) within in each n (leb-true 1 n both.0) (leb-true n 16 both.1)) (λ no. tt)
+
+after_batch : (word : List ℕ) (f : ℕ → Option Event) → ((n : ℕ) → 1 ≤ n → n ≤ 16 → IfRead (f n)) → IfRead (batch_of word >>= f)
+after_batch word f each = elim (number_of word) as (λ o. IfRead ((o >>= if_batch) >>= f)) [ None ↦ tt | Some n ↦ if_batch_reads n f each ]
+
+fetch_reads : (ws : List (List ℕ)) → IfRead (fetch_line ws)
+fetch_reads [] = tt
+fetch_reads (host ∷ []) = tt
+fetch_reads (host ∷ most ∷ []) =
+    after_name host (λ h. batch_of most >>= (λ b. Some (event.Fetch h b))) (λ is.
+    after_batch most (λ b. Some (event.Fetch host b)) (λ b some few. (is, some, few)))
+fetch_reads (host ∷ most ∷ more ∷ ws) = tt
+
 renew_reads : (ws : List (List ℕ)) → IfRead (renew_line ws)
 renew_reads [] = tt
 renew_reads (host ∷ []) = tt
@@ -178,9 +196,10 @@ host_event_reads : (word : List ℕ) (ws : List (List ℕ)) → IfRead (host_eve
 host_event_reads word ws =
     or_else (bytes_eq word (codes "host")) _ _ (name_reads event.Host (λ n is. is) ws)
     (or_else (bytes_eq word (codes "claim")) _ _ (name_reads event.Claim (λ n is. is) ws)
+    (or_else (bytes_eq word (codes "fetch")) _ _ (fetch_reads ws)
     (or_else (bytes_eq word (codes "result")) _ _ (result_reads ws)
     (or_else (bytes_eq word (codes "renew")) _ _ (renew_reads ws)
-    (or_else (bytes_eq word (codes "down")) (name_line event.Down ws) None (name_reads event.Down (λ n is. is) ws) tt))))
+    (or_else (bytes_eq word (codes "down")) (name_line event.Down ws) None (name_reads event.Down (λ n is. is) ws) tt)))))
 
 jury_event_reads : (who : List ℕ) → IsName who → (word : List ℕ) (ws : List (List ℕ)) → IfRead (jury_event_of who word ws)
 jury_event_reads who named word ws =
@@ -198,9 +217,10 @@ other_event_reads word ws =
     (or_else (bytes_eq word (codes "record")) _ _ (record_reads ws)
     (or_else (bytes_eq word (codes "tick")) _ _ (tick_reads ws)
     (or_else (bytes_eq word (codes "show")) _ _ (number_reads event.Show (λ n small. small) ws)
+    (or_else (bytes_eq word (codes "owner")) _ _ (number_reads event.Owner (λ n small. small) ws)
     (or_else (bytes_eq word (codes "board")) _ _ (bare_reads event.Board tt ws)
     (or_else (bytes_eq word (codes "matrix")) _ _ (number_reads event.Matrix (λ n small. small) ws)
-    (or_else (bytes_eq word (codes "audit")) (bare_line event.Audit ws) None (bare_reads event.Audit tt ws) tt))))))
+    (or_else (bytes_eq word (codes "audit")) (bare_line event.Audit ws) None (bare_reads event.Audit tt ws) tt)))))))
 
 first_or_second : (first second : Option Event) → IfRead first → IfRead second → IfRead (option_or first second)
 first_or_second None second p q = q

@@ -1,10 +1,11 @@
 -- The words of some events, and of some replies, for the functions that write these.
-use Rattle.std.specs.Prelude.{ℕ, List, [], ◌∷◌, codes}
+use Rattle.std.specs.Prelude.{ℕ, List, [], ◌∷◌, ◌++◌, codes}
 use Rattle.std.specs.Fmt.{decimal}
 use Rattle.farm_kinds.specs.declared.events.Event.{Event}
 use Rattle.farm_kinds.specs.declared.events.Event.TheVariants as event
 use Rattle.farm_kinds.specs.declared.events.Reply.{Reply}
 use Rattle.farm_kinds.specs.declared.events.Reply.TheVariants as reply
+use Rattle.farm_kinds.specs.Kinds.{name_of}
 use Rattle.farm_model.specs.Texts.{list_words, how_text}
 
 -- the words of an event of the jury, without the name of who acts; none of another event
@@ -40,3 +41,18 @@ refusal_words (reply.Closed h) = codes "closed" ∷ how_text h ∷ []
 refusal_words (reply.Unfinished j) = codes "unfinished" ∷ decimal j ∷ []
 refusal_words (reply.Already j) = codes "already" ∷ decimal j ∷ []
 refusal_words r = []
+
+-- the words of a reply to a host, or of one that only refuses; none of another reply
+abbrev pub host_words : Reply → List (List ℕ)
+host_words (reply.Handed task until) =
+    codes "task" ∷ decimal task.judging ∷ decimal task.test ∷ codes "until" ∷ decimal until ∷ []
+host_words (reply.Batch judging tests until) =
+    codes "batch" ∷ decimal judging ∷ list_words tests ++ codes "until" ∷ decimal until ∷ []
+host_words reply.Nothing = codes "nothing" ∷ []
+host_words reply.Counted = codes "counted" ∷ []
+host_words (reply.Repeat kept) = codes "repeat" ∷ name_of kept ∷ []
+host_words (reply.Differs kept given) = codes "differs" ∷ name_of kept ∷ name_of given ∷ []
+host_words reply.Dropped = codes "dropped" ∷ []
+host_words (reply.Until until) = codes "until" ∷ decimal until ∷ []
+host_words (reply.Ended count) = codes "ended" ∷ decimal count ∷ []
+host_words r = refusal_words r

@@ -7,7 +7,7 @@ ghost use Rattle.command_text.specs.Actor.{actor_text};
 ghost use Rattle.command_text.specs.WordGroups.{jury_words};
 ghost use Rattle.command_text.specs.WordList.{word_bytes, spaced, commas};
 
-use crate::texts::{push, push_number, push_spaced, push_words};
+use crate::texts::{push, push_decimal, push_number, push_spaced, push_words};
 use farm_kinds::{Class, Event, Kind, Name, NoMemory, Numbers, Text};
 use itoa::Buffer;
 use std::alloc::Global;
@@ -136,14 +136,6 @@ fn push_entry(out: &mut Vec<u8>, judging: u32, test: u32, kind: Kind) -> Result<
     )
 }
 
-/// Puts a number.
-fn push_decimal(out: &mut Vec<u8>, n: u32) -> Result<(), NoMemory>
-    ensures ok { OnOk result (out.new.items ≡ out.old.items ++ decimal n) }
-    ensures err { OnErr result (out.new.items ≡ out.old.items) }
-{
-    push(out, Buffer::new().format(n).as_bytes())
-}
-
 /// Puts each number, with a comma before it. At `NoMemory` a part of them may be there.
 #[tactic(auto, using(crate::proofs::Joining::commas_more, crate::proofs::Joining::front_stays))]
 fn push_commas(out: &mut Vec<u8>, numbers: &[u32]) -> Result<(), NoMemory>
@@ -183,6 +175,19 @@ fn push_rejudge(out: &mut Vec<u8>, list: &Numbers) -> Result<(), NoMemory>
     push_list(out, list.as_slice())
 }
 
+/// Puts the words of a fetch.
+fn push_fetch(out: &mut Vec<u8>, host: &Name, most: u8) -> Result<(), NoMemory>
+    ensures ok { OnOk result (out.new.items ≡ out.old.items
+        ++ join_with_byte 32 (codes "fetch" ∷ host.now ∷ decimal most ∷ [])) }
+    ensures err { OnErr result (out.new.items ≡ out.old.items) }
+{
+    let mut digits = Buffer::new();
+    push_words(
+        out,
+        &[b"fetch", host.as_bytes(), digits.format(most).as_bytes()],
+    )
+}
+
 /// Puts the words of an event of the jury, without the name of who acts.
 /// At `NoMemory` a part of them may be there.
 fn push_jury_words(out: &mut Vec<u8>, event: &Event) -> Result<(), NoMemory>
@@ -217,6 +222,7 @@ fn push_event_words(out: &mut Vec<u8>, event: &Event) -> Result<(), NoMemory>
             broken,
         } => push_submit(out, problem, *class, *broken),
         Event::Claim { host } => push_words(out, &[b"claim", host.as_bytes()]),
+        Event::Fetch { host, most } => push_fetch(out, host, *most),
         Event::Result {
             host,
             judging,
@@ -236,6 +242,7 @@ fn push_event_words(out: &mut Vec<u8>, event: &Event) -> Result<(), NoMemory>
         Event::Tick { moment } => push_number(out, b"tick", *moment),
         Event::Down { host } => push_words(out, &[b"down", host.as_bytes()]),
         Event::Show { judging } => push_number(out, b"show", u64::from(*judging)),
+        Event::Owner { judging } => push_number(out, b"owner", u64::from(*judging)),
         Event::Board => push_words(out, &[b"board"]),
         Event::Matrix { rejudging } => push_number(out, b"matrix", u64::from(*rejudging)),
         Event::Audit => push_words(out, &[b"audit"]),

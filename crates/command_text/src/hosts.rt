@@ -1,12 +1,12 @@
 ghost use Rattle.std.specs.Prelude.{◌≡◌, List, ℕ};
 ghost use Rattle.farm_model.specs.Words.{words};
 ghost use Rattle.farm_kinds.specs.declared.events.Event.TheVariants as event;
-ghost use Rattle.farm_model.specs.Grammar.{name_line, result_line, renew_line, host_event_of};
+ghost use Rattle.farm_model.specs.Grammar.{name_line, batch_of, fetch_line, result_line, renew_line, host_event_of};
 
 use crate::alone::name_alone;
 use crate::numbers::read_number;
 use crate::words::next_word;
-use farm_kinds::{Event, Kind, Name};
+use farm_kinds::{Event, Kind, MAX_BATCH, Name};
 
 /// What `host NAME` asks.
 #[tactic(auto, using(crate::proofs::LineLemmas::name_line_by))]
@@ -33,6 +33,32 @@ fn down_line(rest: &[u8]) -> Option<Event>
 {
     let host = name_alone(rest)?;
     Some(Event::Down { host })
+}
+
+/// A number of tasks that are fetched at once: from 1 to 16.
+fn read_batch(word: &[u8]) -> Option<u8>
+    ensures { result ≡ batch_of word.now }
+{
+    let most = read_number(word)?;
+    if most >= 1 && most <= MAX_BATCH {
+        Some(most as u8)
+    } else {
+        None
+    }
+}
+
+/// What `fetch HOST B` asks.
+fn fetch_line(rest: &[u8]) -> Option<Event>
+    ensures { result ≡ fetch_line (words rest.now) }
+{
+    let (host, rest) = next_word(rest)?;
+    let (most, rest) = next_word(rest)?;
+    if next_word(rest).is_some() {
+        return None;
+    }
+    let host = Name::read(host)?;
+    let most = read_batch(most)?;
+    Some(Event::Fetch { host, most })
 }
 
 /// What `result HOST J T KIND` asks.
@@ -86,6 +112,8 @@ pub fn host_event_of(word: &[u8], rest: &[u8]) -> Option<Event>
         host_line(rest)
     } else if word == b"claim".as_slice() {
         claim_line(rest)
+    } else if word == b"fetch".as_slice() {
+        fetch_line(rest)
     } else if word == b"result".as_slice() {
         result_line(rest)
     } else if word == b"renew".as_slice() {

@@ -114,6 +114,15 @@ fn show_line(rest: &[u8]) -> Option<Event>
     Some(Event::Show { judging })
 }
 
+/// What `owner J` asks.
+#[tactic(auto, using(crate::proofs::LineLemmas::number_line_by))]
+fn owner_line(rest: &[u8]) -> Option<Event>
+    ensures { result ≡ number_line event.Owner (words rest.now) }
+{
+    let judging = number_alone(rest)?;
+    Some(Event::Owner { judging })
+}
+
 /// What `matrix R` asks.
 #[tactic(auto, using(crate::proofs::LineLemmas::number_line_by))]
 fn matrix_line(rest: &[u8]) -> Option<Event>
@@ -135,6 +144,8 @@ fn other_event_of(word: &[u8], rest: &[u8]) -> Option<Event>
         tick_line(rest)
     } else if word == b"show".as_slice() {
         show_line(rest)
+    } else if word == b"owner".as_slice() {
+        owner_line(rest)
     } else if word == b"board".as_slice() {
         bare_line(Event::Board, rest)
     } else if word == b"matrix".as_slice() {

@@ -2,11 +2,12 @@ ghost use Rattle.std.specs.Prelude.{◌≡◌, ◌++◌, ◌∷◌, [], ℕ, Lis
 ghost use Rattle.std.specs.Fmt.{decimal};
 ghost use Rattle.std.specs.List.{join_with_byte};
 ghost use Rattle.hex.specs.Hex.{encode_lower};
-ghost use Rattle.farm_model.specs.Texts.{shown_words, how_text, reply_words, rows_text, reply_text, line_of, bad_line_words, too_long_words};
-ghost use Rattle.command_text.specs.WordGroups.{refusal_words};
+ghost use Rattle.farm_model.specs.Texts.{shown_words, list_words, how_text, reply_words, rows_text, reply_text, line_of, bad_line_words, too_long_words};
+ghost use Rattle.command_text.specs.WordGroups.{host_words, refusal_words};
+ghost use Rattle.command_text.specs.WordList.{spaced, commas};
 
 use crate::rows::{push_rows, verdict_text};
-use crate::texts::{end_line, push, push_number, push_words};
+use crate::texts::{end_line, push, push_decimal, push_number, push_spaced, push_words};
 use farm_kinds::{Answer, How, Name, NoMemory, Reply, Task, Text};
 use itoa::Buffer;
 use std::alloc::Global;
@@ -79,6 +80,55 @@ fn push_handed(out: &mut Vec<u8>, task: Task, until: u64) -> Result<(), NoMemory
             moment.format(until).as_bytes(),
         ],
     )
+}
+
+/// Puts each rank, with a comma before it. At `NoMemory` a part of them may be there.
+#[tactic(auto, using(crate::proofs::Joining::commas_more, crate::proofs::Joining::front_stays))]
+fn push_comma_ranks(out: &mut Vec<u8>, ranks: &[u16]) -> Result<(), NoMemory>
+    ensures ok { OnOk result (out.new.items ≡ out.old.items ++ commas ranks.now) }
+    ensures err { OnErr result (take (length out.old.items) out.new.items ≡ out.old.items) }
+{
+    for rank in ranks {
+        push(out, b",")?;
+        push_decimal(out, *rank as u32)?;
+    }
+    Ok(())
+}
+
+/// Puts a space and the ranks of tests joined by single commas, where there are any.
+/// At `NoMemory` a part of them may be there.
+#[tactic(auto, using(crate::proofs::Joining::front_stays))]
+fn push_ranks(out: &mut Vec<u8>, ranks: &[u16]) -> Result<(), NoMemory>
+    ensures ok { OnOk result (out.new.items ≡ out.old.items ++ spaced (list_words ranks.now)) }
+    ensures err { OnErr result (take (length out.old.items) out.new.items ≡ out.old.items) }
+{
+    let Some((first, rest)) = ranks.split_first() else {
+        return Ok(());
+    };
+    push(out, b" ")?;
+    push_decimal(out, *first as u32)?;
+    push_comma_ranks(out, rest)
+}
+
+/// Puts a space, a word, a space and a number.
+fn push_behind(out: &mut Vec<u8>, word: &[u8], n: u64) -> Result<(), NoMemory>
+    ensures ok { OnOk result (out.new.items ≡ out.old.items ++ spaced (word.now ∷ decimal n ∷ [])) }
+    ensures err { OnErr result (take (length out.old.items) out.new.items ≡ out.old.items) }
+{
+    let mut digits = Buffer::new();
+    push_spaced(out, &[word, digits.format(n).as_bytes()])
+}
+
+/// Puts tests of a judging that were handed out, and until when. At `NoMemory` a part of them may be there.
+#[tactic(auto, using(crate::proofs::Joining::front_stays, crate::proofs::Joining::joined_more, crate::proofs::Joining::joined_list))]
+fn push_batch(out: &mut Vec<u8>, judging: u32, tests: &[u16], until: u64) -> Result<(), NoMemory>
+    ensures ok { OnOk result (out.new.items ≡ out.old.items
+        ++ join_with_byte 32 (codes "batch" ∷ decimal judging ∷ list_words tests.now ++ codes "until" ∷ decimal until ∷ [])) }
+    ensures err { OnErr result (take (length out.old.items) out.new.items ≡ out.old.items) }
+{
+    push_number(out, b"batch", u64::from(judging))?;
+    push_ranks(out, tests)?;
+    push_behind(out, b"until", until)
 }
 
 /// Puts the numbers of a rejudging and of its first and last judgings.
@@ -194,20 +244,19 @@ fn push_refusal_words(out: &mut Vec<u8>, reply: &Reply) -> Result<(), NoMemory>
     }
 }
 
-/// Puts the words of a reply, of the last line where it has several. At `NoMemory` nothing changes.
-fn push_reply_words(out: &mut Vec<u8>, reply: &Reply) -> Result<(), NoMemory>
+/// Puts the words of a reply to a host, or of one that refuses. At `NoMemory` a part of them may be there.
+fn push_host_words(out: &mut Vec<u8>, reply: &Reply) -> Result<(), NoMemory>
     ensures ok { OnOk result (out.new.items ≡ out.old.items
-        ++ join_with_byte 32 (reply_words reply.now)) }
-    ensures err { OnErr result (out.new.items ≡ out.old.items) }
+        ++ join_with_byte 32 (host_words reply.now)) }
+    ensures err { OnErr result (take (length out.old.items) out.new.items ≡ out.old.items) }
 {
     match reply {
-        Reply::Problem { name, version } => push_problem(out, name, *version),
-        Reply::Host { name } => push_words(out, &[b"host", name.as_bytes()]),
-        Reply::Submitted {
-            submission,
-            judging,
-        } => push_submitted(out, *submission, *judging),
         Reply::Handed { task, until } => push_handed(out, *task, *until),
+        Reply::Batch {
+            judging,
+            tests,
+            until,
+        } => push_batch(out, *judging, tests.as_slice(), *until),
         Reply::Nothing => push_words(out, &[b"nothing"]),
         Reply::Counted => push_words(out, &[b"counted"]),
         Reply::Repeat { kept } => push_words(out, &[b"repeat", kept.name().as_bytes()]),
@@ -220,7 +269,26 @@ fn push_reply_words(out: &mut Vec<u8>, reply: &Reply) -> Result<(), NoMemory>
         Reply::Dropped => push_words(out, &[b"dropped"]),
         Reply::Until { until } => push_number(out, b"until", *until),
         Reply::Ended { count } => push_number(out, b"ended", u64::from(*count)),
+        _ => push_refusal_words(out, reply),
+    }
+}
+
+/// Puts the words of a reply, of the last line where it has several.
+/// At `NoMemory` a part of them may be there.
+fn push_reply_words(out: &mut Vec<u8>, reply: &Reply) -> Result<(), NoMemory>
+    ensures ok { OnOk result (out.new.items ≡ out.old.items
+        ++ join_with_byte 32 (reply_words reply.now)) }
+    ensures err { OnErr result (take (length out.old.items) out.new.items ≡ out.old.items) }
+{
+    match reply {
+        Reply::Problem { name, version } => push_problem(out, name, *version),
+        Reply::Host { name } => push_words(out, &[b"host", name.as_bytes()]),
+        Reply::Submitted {
+            submission,
+            judging,
+        } => push_submitted(out, *submission, *judging),
         Reply::Shown(answer) => push_shown(out, *answer),
+        Reply::Owned { submission } => push_number(out, b"owner", u64::from(*submission)),
         Reply::Board { rows } => push_number(out, b"board", rows.as_slice().len() as u64),
         Reply::Rejudging {
             number,
@@ -232,7 +300,7 @@ fn push_reply_words(out: &mut Vec<u8>, reply: &Reply) -> Result<(), NoMemory>
         Reply::Cancelled { members } => push_number(out, b"cancelled", u64::from(*members)),
         Reply::Verified { judging } => push_number(out, b"verified", u64::from(*judging)),
         Reply::Audit { count, head } => push_audit(out, *count, head),
-        _ => push_refusal_words(out, reply),
+        _ => push_host_words(out, reply),
     }
 }
 

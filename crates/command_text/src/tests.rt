@@ -3,8 +3,8 @@ use crate::{
     write_reply, write_table,
 };
 use farm_kinds::{
-    Answer, Answers, Class, Event, How, Kind, LineFault, MatrixRow, MatrixRows, Name, NoMemory,
-    Reply, TableRow, TableRows, Task, Text, Verdict,
+    Answer, Answers, Class, Event, Few, How, Kind, LineFault, MatrixRow, MatrixRows, Name,
+    NoMemory, Reply, TableRow, TableRows, Task, Text, Verdict,
 };
 use std::alloc::Global;
 use std::test::Fail;
@@ -33,12 +33,15 @@ fn each_line_is_read_and_written_again(rt: HostRuntime) -> Result<(), Fail> {
         b"submit A low broken",
         b"submit A broken",
         b"claim h1",
+        b"fetch h1 1",
+        b"fetch h1 16",
         b"result h1 1 2 wrong-answer",
         b"record 1 2 run-error",
         b"renew h1 1 2",
         b"tick 999999999999999999",
         b"down h1",
         b"show 0",
+        b"owner 4294967295",
         b"board",
         b"rejudge",
         b"rejudge 7",
@@ -129,6 +132,13 @@ fn other_lines_are_bad(rt: HostRuntime) {
         b"submit A broken low",
         b"submit A low broken broken",
         b"claim",
+        b"fetch h1",
+        b"fetch h1 0",
+        b"fetch h1 17",
+        b"fetch h1 02",
+        b"fetch h1 1 1",
+        b"@ann fetch h1 1",
+        b"owner",
         b"result h1 1 2",
         b"result h1 1 2 good",
         b"record 1 2",
@@ -221,6 +231,8 @@ fn each_reply_has_its_words(rt: HostRuntime) -> Result<(), Fail> {
         judging: 1,
         test: 1,
     };
+    let mut tests = Few::of(1);
+    tests.push(1_000);
     let cases = [
         (
             Reply::Problem {
@@ -238,6 +250,15 @@ fn each_reply_has_its_words(rt: HostRuntime) -> Result<(), Fail> {
             b"submission 1 judging 3",
         ),
         (Reply::Handed { task, until: 60 }, b"task 1 1 until 60"),
+        (
+            Reply::Batch {
+                judging: 1,
+                tests,
+                until: 60,
+            },
+            b"batch 1 1,1000 until 60",
+        ),
+        (Reply::Owned { submission: 7 }, b"owner 7"),
         (Reply::Nothing, b"nothing"),
         (Reply::Counted, b"counted"),
         (

@@ -15,6 +15,14 @@ pub fn push(out: &mut Vec<u8>, bytes: &[u8]) -> Result<(), NoMemory>
     out.extend_from_slice(bytes).map_err(|_| NoMemory)
 }
 
+/// Puts a number behind what is there. At `NoMemory` nothing changes.
+pub fn push_decimal(out: &mut Vec<u8>, n: u32) -> Result<(), NoMemory>
+    ensures ok { OnOk result (out.new.items ≡ out.old.items ++ decimal n) }
+    ensures err { OnErr result (out.new.items ≡ out.old.items) }
+{
+    push(out, Buffer::new().format(n).as_bytes())
+}
+
 /// Puts each word, with a space before it, behind what is there.
 /// At `NoMemory` a part of them may be there.
 #[tactic(auto, using(crate::proofs::Joining::spaced_more, crate::proofs::Joining::front_stays))]

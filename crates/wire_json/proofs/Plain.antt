@@ -9,6 +9,7 @@ use Rattle.farm_kinds.specs.declared.outcomes.Answer.TheVariants.{Final, Pending
 use Rattle.farm_kinds.specs.declared.outcomes.MatrixRow.{MatrixRow}
 use Rattle.farm_kinds.specs.declared.events.Reply.{Reply}
 use Rattle.farm_kinds.specs.declared.events.Reply.TheVariants as reply
+use Rattle.wire_json.specs.Objects.{whole}
 use Rattle.wire_json.specs.Replies.{json_of, board_rows, matrix_row}
 
 pub record IsPlain (d : Data) : Type 0 where
@@ -31,11 +32,20 @@ matrix_is_shallow : (rows : List MatrixRow) → items_depth (items_of (map matri
 matrix_is_shallow [] = omega arith
 matrix_is_shallow (row ∷ rows) = omega (arith, matrix_is_shallow rows)
 
+ranks_are_whole : (ranks : List ℕ) → items_have_float (items_of (map whole ranks)) ≡ false
+ranks_are_whole [] = refl
+ranks_are_whole (rank ∷ ranks) = ranks_are_whole ranks
+
+ranks_are_shallow : (ranks : List ℕ) → items_depth (items_of (map whole ranks)) ≤ 1
+ranks_are_shallow [] = omega arith
+ranks_are_shallow (rank ∷ ranks) = omega (arith, ranks_are_shallow ranks)
+
 reply_is_plain : (r : Reply) → IsPlain (json_of r)
 reply_is_plain (reply.Problem name version) = record { whole = refl; shallow = lit≤ tt }
 reply_is_plain (reply.Host name) = record { whole = refl; shallow = lit≤ tt }
 reply_is_plain (reply.Submitted submission judging) = record { whole = refl; shallow = lit≤ tt }
 reply_is_plain (reply.Handed task until) = record { whole = refl; shallow = lit≤ tt }
+reply_is_plain (reply.Batch judging tests until) = record { whole = ap (λ b. b || false) (ranks_are_whole tests); shallow = omega (arith, ranks_are_shallow tests) }
 reply_is_plain reply.Nothing = record { whole = refl; shallow = lit≤ tt }
 reply_is_plain reply.Counted = record { whole = refl; shallow = lit≤ tt }
 reply_is_plain (reply.Repeat kept) = record { whole = refl; shallow = lit≤ tt }
@@ -45,6 +55,7 @@ reply_is_plain (reply.Until until) = record { whole = refl; shallow = lit≤ tt 
 reply_is_plain (reply.Ended count) = record { whole = refl; shallow = lit≤ tt }
 reply_is_plain (reply.Shown (Final verdict)) = record { whole = refl; shallow = lit≤ tt }
 reply_is_plain (reply.Shown Pending) = record { whole = refl; shallow = lit≤ tt }
+reply_is_plain (reply.Owned submission) = record { whole = refl; shallow = lit≤ tt }
 reply_is_plain (reply.Board rows) = record { whole = ap (λ b. b || false) (board_is_whole 1 rows); shallow = omega (arith, board_is_shallow 1 rows) }
 reply_is_plain (reply.Rejudging number first last) = record { whole = refl; shallow = lit≤ tt }
 reply_is_plain (reply.Matrix rows members) = record { whole = ap (λ b. b || false) (matrix_is_whole rows); shallow = omega (arith, matrix_is_shallow rows) }

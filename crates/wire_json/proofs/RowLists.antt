@@ -5,6 +5,7 @@ use Rattle.serde_json.specs.View.{view}
 use Rattle.serde_json.specs.declared.value.Value.{Value}
 use Rattle.farm_kinds.specs.declared.outcomes.Answer.{Answer}
 use Rattle.farm_kinds.specs.declared.outcomes.MatrixRow.{MatrixRow}
+use Rattle.wire_json.specs.Objects.{whole}
 use Rattle.wire_json.specs.Replies.{board_row, board_rows, matrix_row}
 
 board-push : (n : ℕ) (answers : List Answer) (next : Answer) → board_rows n (answers ++ next ∷ []) ≡ board_rows n answers ++ board_row (n + length answers) next ∷ []
@@ -31,3 +32,10 @@ pub matrix_more : (rows : List Value) (row : Value) (matrix : List MatrixRow) (i
 matrix_more rows row matrix i d h before this =
     rw (map-append view rows (row ∷ []), before, take_more matrix i d h, map-append matrix_row (take i matrix) (get_or matrix i d ∷ []))
     (ap (λ v. map matrix_row (take i matrix) ++ v ∷ []) this)
+
+-- one rank more
+pub ranks_more : (values : List Value) (value : Value) (ranks : List ℕ) (i : ℕ) → i < length ranks → map view values ≡ map whole (take i ranks)
+    → view value ≡ whole (get_or ranks i 0) → map view (values ++ value ∷ []) ≡ map whole (take (i + 1) ranks)
+ranks_more values value ranks i h before this =
+    rw (map-append view values (value ∷ []), before, take_more ranks i 0 h, map-append whole (take i ranks) (get_or ranks i 0 ∷ []))
+    (ap (λ v. map whole (take i ranks) ++ v ∷ []) this)

@@ -43,6 +43,9 @@ json_of (reply.Submitted submission judging) =
 json_of (reply.Handed task until) =
     object_with ((codes "judging", whole task.judging) ∷ reply_field (codes "task") ∷ (codes "test", whole task.test)
     ∷ (codes "until", whole until) ∷ [])
+json_of (reply.Batch judging tests until) =
+    object_with ((codes "judging", whole judging) ∷ reply_field (codes "batch")
+    ∷ (codes "tests", array (items_of (map whole tests))) ∷ (codes "until", whole until) ∷ [])
 json_of reply.Nothing = object_with (reply_field (codes "nothing") ∷ [])
 json_of reply.Counted = object_with (reply_field (codes "counted") ∷ [])
 json_of (reply.Repeat kept) = object_with ((codes "kept", string (name_of kept)) ∷ reply_field (codes "repeat") ∷ [])
@@ -53,6 +56,8 @@ json_of reply.Dropped = object_with (reply_field (codes "dropped") ∷ [])
 json_of (reply.Until until) = object_with (reply_field (codes "until") ∷ (codes "until", whole until) ∷ [])
 json_of (reply.Ended count) = object_with ((codes "count", whole count) ∷ reply_field (codes "ended") ∷ [])
 json_of (reply.Shown answer) = shown_json answer
+json_of (reply.Owned submission) =
+    object_with (reply_field (codes "owner") ∷ (codes "submission", whole submission) ∷ [])
 json_of (reply.Board rows) =
     object_with (reply_field (codes "board") ∷ (codes "rows", array (items_of (board_rows 1 rows))) ∷ [])
 json_of (reply.Rejudging number first last) =

@@ -8,7 +8,7 @@ ghost use Rattle.wire_json.specs.Objects.{object_with, whole, reply_field};
 ghost use Rattle.wire_json.specs.Replies.{json_of, shown_json};
 
 use crate::answers::{how_text, name_text, verdict_text};
-use crate::rows::{board_rows, matrix_rows};
+use crate::rows::{board_rows, matrix_rows, rank_values};
 use farm_kinds::{Answer, Answers, Kind, MatrixRows, Name, NoMemory, Reply, Task, Text};
 use serde_json::{Value, json};
 use std::alloc::{AllocError, Global};
@@ -56,6 +56,14 @@ fn handed_value(alloc: Global, task: Task, until: u64) -> Result<Value, AllocErr
     let judging = task.judging;
     let test = task.test;
     json!(in alloc; {"judging": judging, "reply": "task", "test": test, "until": until})
+}
+
+/// Tests of a judging that were handed out, and until when.
+fn batch_value(alloc: Global, judging: u32, tests: &[u16], until: u64) -> Result<Value, AllocError>
+    ensures { IfOk result (λ v. view v ≡ json_of (reply.Batch judging tests.now until)) }
+{
+    let tests = rank_values(alloc, tests)?;
+    json!(in alloc; {"judging": judging, "reply": "batch", "tests": tests, "until": until})
 }
 
 /// The kind that a cell holds, and another one that was given.
@@ -128,6 +136,11 @@ fn reply_value(alloc: Global, reply: &Reply) -> Result<Value, AllocError>
             judging,
         } => submitted_value(alloc, *submission, *judging),
         Reply::Handed { task, until } => handed_value(alloc, *task, *until),
+        Reply::Batch {
+            judging,
+            tests,
+            until,
+        } => batch_value(alloc, *judging, tests.as_slice(), *until),
         Reply::Nothing => word_value(alloc, "nothing"),
         Reply::Counted => word_value(alloc, "counted"),
         Reply::Repeat { kept } => text_value(alloc, "repeat", "kept", kept.name()),
@@ -136,6 +149,9 @@ fn reply_value(alloc: Global, reply: &Reply) -> Result<Value, AllocError>
         Reply::Until { until } => number_value(alloc, "until", "until", *until),
         Reply::Ended { count } => number_value(alloc, "ended", "count", u64::from(*count)),
         Reply::Shown(answer) => shown_value(alloc, *answer),
+        Reply::Owned { submission } => {
+            number_value(alloc, "owner", "submission", u64::from(*submission))
+        }
         Reply::Board { rows } => board_value(alloc, rows),
         Reply::Rejudging {
             number,

@@ -1,5 +1,6 @@
 ghost use Rattle.std.specs.Prelude.{◌≡◌, map, IfOk};
 ghost use Rattle.serde_json.specs.View.{view};
+ghost use Rattle.wire_json.specs.Objects.{whole};
 ghost use Rattle.wire_json.specs.Replies.{board_row, board_rows, matrix_row};
 
 use crate::answers::answer_text;
@@ -26,6 +27,25 @@ pub fn board_rows(alloc: Global, answers: &[Answer]) -> Result<Vec<Value>, Alloc
         rows.push(row)?;
     }
     Ok(rows)
+}
+
+/// A test, by its rank.
+fn rank_value(rank: u16) -> Value
+    ensures { view result ≡ whole rank }
+{
+    Value::from(rank)
+}
+
+/// The ranks of tests.
+#[tactic(auto, using(crate::proofs::RowLists::ranks_more))]
+pub fn rank_values(alloc: Global, ranks: &[u16]) -> Result<Vec<Value>, AllocError>
+    ensures { IfOk result (λ values. map view values.items ≡ map whole ranks.now) }
+{
+    let mut values = Vec::new(alloc);
+    for rank in ranks {
+        values.push(rank_value(*rank))?;
+    }
+    Ok(values)
 }
 
 /// A row of a matrix: the old answer, the new one, and how many members have the pair.

@@ -2,7 +2,8 @@ use crate::answers::name_text;
 use crate::worked::{worked_bodies, worked_faults, worked_replies, worked_rows};
 use crate::{Body, BodyFault, Route, fault_json, read_body, write_json};
 use farm_kinds::{
-    Answer, Answers, How, Kind, MatrixRow, MatrixRows, Name, NoMemory, Reply, Task, Text, Verdict,
+    Answer, Answers, Few, How, Kind, MatrixRow, MatrixRows, Name, NoMemory, Reply, Task, Text,
+    Verdict,
 };
 use std::alloc::{AllocError, Global};
 use std::test::Fail;
@@ -258,6 +259,18 @@ fn writes_replies(rt: HostRuntime) -> Result<(), Fail> {
         (
             Reply::Handed { task, until: 60 },
             "{\"judging\":1,\"reply\":\"task\",\"test\":1,\"until\":60}"
+        ),
+        (
+            Reply::Batch {
+                judging: 1,
+                tests: Few::of(2),
+                until: 60
+            },
+            "{\"judging\":1,\"reply\":\"batch\",\"tests\":[2],\"until\":60}"
+        ),
+        (
+            Reply::Owned { submission: 1 },
+            "{\"reply\":\"owner\",\"submission\":1}"
         ),
         (Reply::Counted, "{\"reply\":\"counted\"}"),
         (

@@ -45,6 +45,8 @@ pub fn worked_faults()
 pub fn worked_replies()
     ensures host { compact_text (json_of (reply.Host (codes "h1"))) ≡ codes "{\"host\":\"h1\",\"reply\":\"host\"}" }
     ensures task { compact_text (json_of (reply.Handed record { judging = 1; test = 1 } 60)) ≡ codes "{\"judging\":1,\"reply\":\"task\",\"test\":1,\"until\":60}" }
+    ensures batch { compact_text (json_of (reply.Batch 1 (1 ∷ 2 ∷ []) 60)) ≡ codes "{\"judging\":1,\"reply\":\"batch\",\"tests\":[1,2],\"until\":60}" }
+    ensures owner { compact_text (json_of (reply.Owned 1)) ≡ codes "{\"reply\":\"owner\",\"submission\":1}" }
     ensures counted { compact_text (json_of reply.Counted) ≡ codes "{\"reply\":\"counted\"}" }
     ensures shown { compact_text (json_of (reply.Shown (Final (Tests kind.Correct)))) ≡ codes "{\"reply\":\"final\",\"verdict\":\"correct\"}" }
     ensures differs { compact_text (json_of (reply.Differs kind.Correct kind.WrongAnswer)) ≡ codes "{\"given\":\"wrong-answer\",\"kept\":\"correct\",\"reply\":\"differs\"}" }

@@ -12,6 +12,14 @@ pub returns-clause-task : goal.returns-clause-task
 unfolding serde_json_on_literals digits
 returns-clause-task c = refl
 
+pub returns-clause-batch : goal.returns-clause-batch
+unfolding serde_json_on_literals digits
+returns-clause-batch c = refl
+
+pub returns-clause-owner : goal.returns-clause-owner
+unfolding serde_json_on_literals digits
+returns-clause-owner c = refl
+
 pub returns-clause-counted : goal.returns-clause-counted
 unfolding serde_json_on_literals digits
 returns-clause-counted c = refl
