@@ -22,6 +22,19 @@ may_change_verdict rule extremes best at =
     if prio_of rule extremes.least == prio_of rule extremes.greatest then at == 0 && has_rival extremes.rival
     else passes_best rule extremes best at
 
+-- the place before which an empty cell, whose kind may be above or beside the best, may change the verdict
+abbrev pub place_of_best : RuleValue → Extremes → Option Best → ℕ → ℕ
+place_of_best rule extremes None tests = tests
+place_of_best rule extremes (Some best) tests =
+    if nat_lt (prio_of rule best.kind) (prio_of rule extremes.greatest) then tests
+    else (if has_rival extremes.rival then best.at else 0)
+
+-- the place before which an empty cell may change the verdict
+abbrev pub matters_before : RuleValue → Extremes → Option Best → ℕ → ℕ
+matters_before rule extremes best tests =
+    if prio_of rule extremes.least == prio_of rule extremes.greatest then (if has_rival extremes.rival then 1 else 0)
+    else place_of_best rule extremes best tests
+
 -- the verdict, where it is settled
 abbrev pub deciding_kind : Extremes → Option Best → Kind
 deciding_kind extremes None = extremes.greatest

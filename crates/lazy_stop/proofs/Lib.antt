@@ -10,3 +10,4 @@ pub mod Putting
 pub mod LawLemmas
 pub mod ClosedForms
 pub mod Computing
+pub mod Before

@@ -1,4 +1,4 @@
-ghost use Rattle.std.specs.Prelude.{ℕ, ◌≡◌, ◌≢◌, ◌<◌, ◌≤◌, ◌-◌, ◌↔◌, IsTrue, Some, None, length, replicate, slice_get, slice_set, List, Option, IfOk};
+ghost use Rattle.std.specs.Prelude.{ℕ, ◌≡◌, ◌≢◌, ◌<◌, ◌≤◌, ◌-◌, ◌↔◌, IsTrue, Some, None, length, replicate, slice_get, slice_set, List, Option, IfOk, nat_le, nat_lt};
 ghost use Rattle.farm_kinds.specs.declared.kinds.Kind.{Kind};
 ghost use Rattle.farm_kinds.specs.RuleValue.{RuleValue};
 ghost use Rattle.farm_model.specs.Rows.{answer_of, is_settled, matters};
@@ -107,7 +107,16 @@ impl Row {
         requires empty { slice_get self.now.cells (rank - 1) ≡ Some None }
         ensures { result ≡ matters self.now.rule self.now.cells rank }
     {
-        may_change_verdict(&self.rule, self.extremes, self.best, rank as usize - 1)
+        rank as usize <= self.matters_up_to()
+    }
+
+    /// The rank up to which empty cells matter: each of this rank or a lesser one does, and none of a
+    /// greater rank. 0 where none matters.
+    pub fn matters_up_to(&self) -> usize
+        ensures { (rank : ℕ) → 1 ≤ rank → slice_get self.now.cells (rank - 1) ≡ Some None
+            → matters self.now.rule self.now.cells rank ≡ nat_le rank result }
+    {
+        matters_before(&self.rule, self.extremes, self.best, self.cells.len())
     }
 
     /// What is reported of the judging. Lazily, `Final` comes as soon as no outcome of the empty cells can
@@ -124,7 +133,8 @@ impl Row {
             Mode::Lazy => {}
         }
         // where any empty cell matters, the first one does
-        if may_change_verdict(&self.rule, self.extremes, self.best, self.first_empty) {
+        let end = matters_before(&self.rule, self.extremes, self.best, self.cells.len());
+        if self.first_empty < end {
             return Answer::Pending;
         }
         Answer::Final(Verdict::Tests(deciding_kind(self.extremes, self.best)))
@@ -165,25 +175,28 @@ fn first_empty(cells: &[Option<Kind>], from: usize) -> usize
     at
 }
 
-/// Whether the empty cell at this place matters.
+/// The place before which each empty cell matters, and from which on none does.
 ///
-/// Where all possible kinds have one priority, the first cell decides alone. Else a cell matters while
-/// the best one is below the greatest priority, and also where it comes before the best one and could
-/// tie with it by another kind.
-fn may_change_verdict(rule: &Rule, extremes: Extremes, best: Option<Best>, at: usize) -> bool
+/// Where all possible kinds have one priority, the first cell decides alone. Else each empty cell matters
+/// while the best one is below the greatest priority, and after that those before the best one, where they
+/// could tie with it by another kind.
+fn matters_before(rule: &Rule, extremes: Extremes, best: Option<Best>, tests: usize) -> usize
     // of each row of which these are kept
-    ensures { (cells : List (Option Kind)) (first_empty : ℕ) → IsRow rule.now extremes best first_empty cells
-        → slice_get cells at ≡ Some None → IsTrue result ↔ Matters rule.now cells at }
+    ensures { (cells : List (Option Kind)) (first_empty at : ℕ) → IsRow rule.now extremes best first_empty cells
+        → length cells ≡ tests → slice_get cells at ≡ Some None → IsTrue (nat_lt at result) ↔ Matters rule.now cells at }
 {
     if rule.prio(extremes.least) == rule.prio(extremes.greatest) {
-        return at == 0 && extremes.rival.is_some();
+        return usize::from(extremes.rival.is_some());
     }
-    match best {
-        None => true,
-        Some(best) => {
-            rule.prio(best.kind) < rule.prio(extremes.greatest)
-                || (at < best.at && extremes.rival.is_some())
-        }
+    let Some(best) = best else {
+        return tests;
+    };
+    if rule.prio(best.kind) < rule.prio(extremes.greatest) {
+        return tests;
+    }
+    match extremes.rival {
+        Some(_) => best.at,
+        None => 0,
     }
 }
 

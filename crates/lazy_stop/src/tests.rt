@@ -16,7 +16,9 @@ fn a_tie_goes_to_the_earlier_rank(rt: HostRuntime) -> Result<(), Fail> {
     assert_eq!(rt; row.put(2, rule.remap(Kind::RunError)), Put::First);
     assert_eq!(rt; row.answer(Mode::Lazy), Answer::Pending);
     assert!(rt; row.matters(1));
+    assert_eq!(rt; row.matters_up_to(), 1);
     assert_eq!(rt; row.put(1, rule.remap(Kind::TimeLimit)), Put::First);
+    assert_eq!(rt; row.matters_up_to(), 0);
     assert_eq!(rt;
         row.answer(Mode::Lazy),
         Answer::Final(Verdict::Tests(Kind::TimeLimit))
@@ -81,6 +83,7 @@ fn a_middle_priority_does_not_stop(rt: HostRuntime) -> Result<(), Fail> {
     row.put(1, rule.remap(Kind::WrongAnswer));
     assert_eq!(rt; row.answer(Mode::Lazy), Answer::Pending);
     assert!(rt; row.matters(2));
+    assert_eq!(rt; row.matters_up_to(), 2);
     Ok(())
 }
 

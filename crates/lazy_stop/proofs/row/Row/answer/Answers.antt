@@ -1,5 +1,6 @@
-use Rattle.std.proofs.Common.{◌≡◌, ◌∙◌, ◌<◌, ◌≤◌, length, subst, sym, ap, rules, arith, Some, None, refl}
+use Rattle.std.proofs.Common.{◌≡◌, ◌∙◌, ◌<◌, ◌≤◌, length, subst, sym, ap, rules, arith, Some, None}
 use Rattle.std.specs.List.{slice_get}
+use Rattle.std.proofs.lemmas.Bool.{ltb-true, lt-ltb}
 use Rattle.farm_kinds.specs.declared.outcomes.Verdict.TheVariants.{Tests}
 use Rattle.farm_kinds.specs.declared.outcomes.Answer.{Answer}
 use Rattle.farm_kinds.specs.declared.outcomes.Answer.TheVariants.{Final, Pending}
@@ -30,12 +31,13 @@ returns-in-Full c =
     (λ l. pending_when_open c.self.inside.rule c.self.inside.cells.items _ l e ∙ ap (λ m. answer_of c.self.inside.rule m c.self.inside.cells.items) (sym c.in-Full.is))
     c.requires
 
-pub returns-then-may_change_verdict : goal.returns-then-may_change_verdict
-returns-then-may_change_verdict c =
+pub returns-then-self-end : goal.returns-then-self-end
+returns-then-self-end c =
     let count : c.len.result ≡ length c.self.inside.cells.items = search rules in
     let within : c.self.inside.first_empty ≤ length c.self.inside.cells.items = c.self.invariant.empty_is.within in
     let e : slice_get c.self.inside.cells.items c.self.inside.first_empty ≡ Some None = c.self.invariant.empty_is.empty (omega arith) in
-    let m : Matters c.self.inside.rule c.self.inside.cells.items c.self.inside.first_empty = (c.if-may_change_verdict.ensures _ _ c.self.invariant e).0 refl in
+    let len : length c.self.inside.cells.items ≡ c.len-2.result = search rules in
+    let m : Matters c.self.inside.rule c.self.inside.cells.items c.self.inside.first_empty = (c.matters_before-end.ensures _ _ _ c.self.invariant len e).0 (lt-ltb _ _ c.if-self-end.true) in
     subst (Answers Pending c.args.mode) c.self.view_is
     (λ l. pending_when_matters _ _ _ l m ∙ ap (λ m. answer_of c.self.inside.rule m c.self.inside.cells.items) (sym c.in-Lazy.is))
     c.requires
@@ -45,7 +47,8 @@ returns c =
     let count : c.len.result ≡ length c.self.inside.cells.items = search rules in
     let within : c.self.inside.first_empty ≤ length c.self.inside.cells.items = c.self.invariant.empty_is.within in
     let e : slice_get c.self.inside.cells.items c.self.inside.first_empty ≡ Some None = c.self.invariant.empty_is.empty (omega arith) in
+    let len : length c.self.inside.cells.items ≡ c.len-2.result = search rules in
     subst (Answers (Final (Tests c.deciding_kind-2.result)) c.args.mode) c.self.view_is
-    (λ l. final_when_calm _ _ _ _ _ _ c.self.invariant l e (λ m. let k = (c.if-may_change_verdict.ensures _ _ c.self.invariant e).1 m in cc) (λ v all. c.deciding_kind-2.ensures _ _ _ v c.self.invariant l (settled_test c.self.inside.rule c.self.inside.cells.items v all))
+    (λ l. final_when_calm _ _ _ _ _ _ c.self.invariant l e (λ m. absurd (omega (arith, ltb-true _ _ ((c.matters_before-end.ensures _ _ _ c.self.invariant len e).1 m), c.if-self-end.false))) (λ v all. c.deciding_kind-2.ensures _ _ _ v c.self.invariant l (settled_test c.self.inside.rule c.self.inside.cells.items v all))
     ∙ ap (λ m. answer_of c.self.inside.rule m c.self.inside.cells.items) (sym c.in-Lazy.is))
     c.requires
