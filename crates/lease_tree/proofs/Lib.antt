@@ -2,3 +2,4 @@ pub mod KeyOrder
 pub mod Rises
 pub mod Changes
 pub mod Weights
+pub mod Bounds

@@ -52,14 +52,14 @@ all_after by (z ∷ xs) x ys h = all_after by xs x ys h.1
 
 -- ---- what is found or counted in one part alone
 
-abbrev one_if : Bool → ℕ
+abbrev pub one_if : Bool → ℕ
 one_if b = cond b 1 0
 
 none_found : (p : Lease → Bool) (xs : List Lease) → Each (λ x. p x ≡ false) xs → find p xs ≡ None
 none_found p [] h = refl
 none_found p (x ∷ xs) h = let no : p x ≡ false = h.0 in rw no (none_found p xs h.1)
 
-none_counted : (p : Lease → Bool) (xs : List Lease) → Each (λ x. p x ≡ false) xs → count_by p xs ≡ 0
+pub none_counted : (p : Lease → Bool) (xs : List Lease) → Each (λ x. p x ≡ false) xs → count_by p xs ≡ 0
 none_counted p [] h = refl
 none_counted p (x ∷ xs) h =
     let none : one_if (p x) ≡ 0 = ap one_if h.0 in
@@ -75,7 +75,7 @@ found_left : (p : Lease → Bool) (xs ys : List Lease) → Each (λ y. p y ≡ f
 found_left p [] ys h = none_found p ys h
 found_left p (x ∷ xs) ys h = ap (λ o. cond (p x) (Some x) o) (found_left p xs ys h)
 
-found_right : (p : Lease → Bool) (xs ys : List Lease) → Each (λ y. p y ≡ false) xs → find p (xs ++ ys) ≡ find p ys
+pub found_right : (p : Lease → Bool) (xs ys : List Lease) → Each (λ y. p y ≡ false) xs → find p (xs ++ ys) ≡ find p ys
 found_right p [] ys h = refl
 found_right p (x ∷ xs) ys h = let no : p x ≡ false = h.0 in rw no (found_right p xs ys h.1)
 

@@ -1,5 +1,5 @@
 -- Where leases stand in an order.
-use Rattle.std.specs.Prelude.{ℕ, List, [], ◌∷◌, ◌++◌, Bool, true, ◌&&◌, ◌||◌, ◌==◌, nat_lt, ◌≡◌, count_by}
+use Rattle.std.specs.Prelude.{ℕ, List, [], ◌∷◌, ◌++◌, Bool, true, ◌&&◌, ◌||◌, ◌==◌, not, nat_lt, ◌≡◌, count_by}
 use Rattle.std.specs.List.{AllByRecursion}
 use Rattle.farm_model.specs.declared.records.Lease.{Lease}
 use Rattle.farm_model.specs.Leases.{same_task, is_task_before}
@@ -33,6 +33,18 @@ count_below by rank leases = count_by (λ lease. nat_lt (rank_of by lease) rank)
 
 abbrev pub has_key : Order → Key → Lease → Bool
 has_key by key lease = rank_of by lease == key.rank && same_task lease.task key.task
+
+-- the lease stands at the key or behind it
+abbrev pub is_from : Order → Key → Lease → Bool
+is_from by key lease = not (is_key_before (key_of by lease) key)
+
+-- the lease stands behind the key
+abbrev pub is_behind : Order → Key → Lease → Bool
+is_behind by key lease = is_key_before key (key_of by lease)
+
+-- of the leases that pass the test none comes before this one
+abbrev pub NoneEarlier : Order → (Lease → Bool) → List Lease → Lease → Type 0
+NoneEarlier by test leases lease = count_by (λ other. test other && is_before by other lease) leases ≡ 0
 
 -- no lease comes before this one
 abbrev pub NoneBefore : Order → List Lease → Lease → Type 0

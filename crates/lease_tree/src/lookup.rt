@@ -1,5 +1,5 @@
 ghost use Rattle.std.specs.Prelude.{◌≡◌, ◌-◌, ◌^◌, find, slice_get, min};
-ghost use Rattle.lease_tree.specs.Keys.{Rising, has_key, has_rank, count_below};
+ghost use Rattle.lease_tree.specs.Keys.{Rising, has_key, has_rank, is_from, is_behind, count_below};
 ghost use Rattle.lease_tree.specs.Trees.{leases_of, IsSized, depth};
 
 use crate::keys::{Key, Order};
@@ -58,6 +58,46 @@ pub fn first_of(tree: &Tree, order: Order, rank: u64) -> Option<Lease>
                 None => Some(node.lease),
                 Some(lease) => Some(lease),
             }
+        }
+    }
+}
+
+/// The first lease that stands at the key or behind it.
+#[tactic(auto, using(crate::proofs::Rises::rising_left, crate::proofs::Rises::rising_right, crate::proofs::Bounds::from_right, crate::proofs::Bounds::from_here, crate::proofs::Bounds::from_first))]
+pub fn first_from(tree: &Tree, order: Order, key: Key) -> Option<Lease>
+    ensures { Rising order (leases_of tree.now) → result ≡ find (is_from order key) (leases_of tree.now) }
+{
+    match tree {
+        Tree::Leaf => None,
+        Tree::Fork(node) => {
+            let here = order.key(node.lease);
+            if here.is_before(key) {
+                return first_from(&node.right, order, key);
+            }
+            match first_from(&node.left, order, key) {
+                None => Some(node.lease),
+                Some(lease) => Some(lease),
+            }
+        }
+    }
+}
+
+/// The first lease that stands behind the key.
+#[tactic(auto, using(crate::proofs::Rises::rising_left, crate::proofs::Rises::rising_right, crate::proofs::Bounds::behind_right, crate::proofs::Bounds::behind_here, crate::proofs::Bounds::behind_first))]
+pub fn first_behind(tree: &Tree, order: Order, key: Key) -> Option<Lease>
+    ensures { Rising order (leases_of tree.now) → result ≡ find (is_behind order key) (leases_of tree.now) }
+{
+    match tree {
+        Tree::Leaf => None,
+        Tree::Fork(node) => {
+            let here = order.key(node.lease);
+            if key.is_before(here) {
+                return match first_behind(&node.left, order, key) {
+                    None => Some(node.lease),
+                    Some(lease) => Some(lease),
+                };
+            }
+            first_behind(&node.right, order, key)
         }
     }
 }

@@ -122,3 +122,20 @@ fn what_stands_at_a_rank(rt: HostRuntime) -> Result<(), Fail> {
     );
     Ok(())
 }
+
+#[test]
+fn what_stands_first_from_a_key_on(rt: HostRuntime) -> Result<(), Fail> {
+    let tree = tree_of(&rt, Order::Host)?;
+    for (rank, judging, test, from, behind) in [
+        (1, 3, 2, Some((1, 3, 2, 60)), Some((2, 1, 10, 61))),
+        (2, 2, 0, Some((2, 3, 1, 60)), Some((2, 3, 1, 60))),
+        (3, 3, 10, Some((3, 3, 10, 59)), None),
+        (3, 3, u16::MAX, None, None),
+    ] {
+        let task = Task { judging, test };
+        let key = Key { rank, task };
+        assert_eq!(rt; tree.first_from(key).map(parts_of), from);
+        assert_eq!(rt; tree.first_behind(key).map(parts_of), behind);
+    }
+    Ok(())
+}

@@ -1,5 +1,5 @@
 ghost use Rattle.std.specs.Prelude.{◌≡◌, ℕ, ◌+◌, ◌-◌, ◌*◌, ◌<◌, ◌≤◌, ◌^◌, find, length, slice_get, is_some, None, IfSome, IfNone, OnOk, OnErr, vec_len, vec_capacity, if◌then◌else◌};
-ghost use Rattle.lease_tree.specs.Keys.{key_of, has_key, has_rank, count_below, NoneBefore, IsAdded, IsTaken};
+ghost use Rattle.lease_tree.specs.Keys.{key_of, has_key, has_rank, is_from, is_behind, count_below, NoneBefore, NoneEarlier, IsAdded, IsTaken};
 ghost use Rattle.lease_tree.specs.TreeValue.{no_leases};
 
 use crate::keys::{Key, Order};
@@ -120,6 +120,22 @@ impl LeaseTree {
         ensures { result ≡ find (has_rank self.now.order rank) self.now.leases }
     {
         lookup::first_of(&self.root, self.order, rank)
+    }
+
+    /// The first lease that stands at the key or behind it. Of those none comes before it.
+    pub fn first_from(&self, key: Key) -> Option<Lease>
+        ensures first { result ≡ find (is_from self.now.order key) self.now.leases }
+        ensures least { IfSome result (λ lease. NoneEarlier self.now.order (is_from self.now.order key) self.now.leases lease) }
+    {
+        lookup::first_from(&self.root, self.order, key)
+    }
+
+    /// The first lease that stands behind the key. Of those none comes before it.
+    pub fn first_behind(&self, key: Key) -> Option<Lease>
+        ensures first { result ≡ find (is_behind self.now.order key) self.now.leases }
+        ensures least { IfSome result (λ lease. NoneEarlier self.now.order (is_behind self.now.order key) self.now.leases lease) }
+    {
+        lookup::first_behind(&self.root, self.order, key)
     }
 
     /// How many leases have a lesser rank.
