@@ -3,3 +3,5 @@ pub mod Singly
 pub mod Index
 pub mod Due
 pub mod Changed
+pub mod Renewed
+pub mod Walks

@@ -2,7 +2,7 @@
 use Rattle.std.specs.Prelude.{◌≡◌, ℕ, ◌+◌, ◌≤◌, ◌<◌, ◌^◌, List, [], ◌∷◌, ◌++◌, Bool, length, count_by}
 use Rattle.std.specs.List.{fold}
 use Rattle.farm_model.specs.declared.records.Lease.{Lease}
-use Rattle.farm_model.specs.Leases.{without_task}
+use Rattle.farm_model.specs.Leases.{without_task, renewed}
 use Rattle.lease_tree.specs.TreeValue.{OrderedLeases}
 use Rattle.lease_tree.specs.declared.keys.Order.{Order}
 use Rattle.lease_tree.specs.declared.keys.Order.TheVariants as order
@@ -15,6 +15,7 @@ use Rattle.lease_book.specs.declared.book.LeaseBook.TheInside.{Inside}
 abbrev pub leases_after : List Lease → Change → List Lease
 leases_after leases (change.Granted lease) = leases ++ lease ∷ []
 leases_after leases (change.Ended task) = without_task leases task
+leases_after leases (change.Renewed task until) = renewed leases task until
 
 -- the leases after these changes, in the order in which they were granted
 abbrev pub leases_held : List (Change × Unit {0}) → List Lease

@@ -1,3 +1,5 @@
 pub mod Book
 pub mod BookLayout
 pub mod Changes
+pub mod Behind
+pub mod Walks

@@ -1,7 +1,10 @@
-ghost use Rattle.std.specs.Prelude.{◌≡◌, ◌+◌, ◌-◌, ◌<◌, ◌≤◌, ◌^◌, ◌==◌, length, is_some, None, OnOk, OnErr, IfNone, IfSome, OnSome, if◌then◌else◌};
-ghost use Rattle.farm_model.specs.Leases.{lease_on, held_count, holds, with_lease, without_task, without_host, without_judging, judging_count, has_ended, renewed, first_due};
+ghost use Rattle.std.specs.Prelude.{◌≡◌, ◌+◌, ◌-◌, ◌<◌, ◌≤◌, ◌^◌, ◌==◌, length, is_some, None, OnOk, OnErr, IfNone, IfSome, OnSome, if◌then◌else◌, count_by};
+ghost use Rattle.farm_model.specs.Leases.{lease_on, held_count, holds, with_lease, without_task, without_host, without_judging, judging_count, has_ended, renewed, renewed_of, first_due};
+ghost use Rattle.lease_tree.specs.declared.keys.Order.TheVariants as order;
+ghost use Rattle.lease_book.specs.Behind.{is_behind, without_behind, behind_count};
 ghost use Rattle.lease_book.specs.Book.{empty_book, room, IsSinglyLeased, without_lease, NoneEnds, OneEnds};
 ghost use Rattle.lease_book.specs.Changes.{EndsOne};
+ghost use Rattle.lease_book.specs.Walks.{FirstOf, IsNext, is_left, stands_after};
 
 use crate::change::Change;
 use farm_kinds::{NoMemory, Task};
@@ -11,8 +14,8 @@ use lease_tree::{Key, LeaseTree, Order};
 use std::alloc::Global;
 use std::marker::Model;
 
-/// The leases that are held, at most one on a task, in the order in which they were last granted or
-/// renewed. Only `reserve` takes memory.
+/// The leases that are held, at most one on a task, in the order in which they were granted. Only
+/// `reserve` takes memory.
 ///
 /// Each call but `reserve` takes a time that is logarithmic in the number of leases, for each lease that it
 /// grants, renews or ends, whatever their ends are and in which order the calls come. The leases are kept in
@@ -24,7 +27,7 @@ pub struct LeaseBook {
     by_end: LeaseTree,
     /// How many more leases each of the trees has room for.
     spare: usize,
-    /// What was granted and ended so far, which takes no bytes: contracts see the leases in its order.
+    /// What was granted, renewed and ended so far, which takes no bytes: contracts see the leases in its order.
     history: Log<Change, ()>,
 }
 
@@ -139,11 +142,27 @@ impl LeaseBook {
         ensures spare { self.new.spare ≡ self.old.spare }
         ensures room { room self.new ≡ room self.old }
     {
+        // Contracts see the lease renewed where it stands; in the trees it goes, and comes again.
+        let history = self.history.and(&Change::Renewed(task, until), &());
         let Some(lease) = self.take(task) else {
             return false;
         };
         self.grant(lease.host, task, until);
+        self.history = history;
         true
+    }
+
+    /// Gives the leases that the host holds on the judging's tasks another end.
+    pub fn renew_of(&mut self, host: u32, judging: u32, until: u64)
+        ensures leases { self.new.leases ≡ renewed_of self.old.leases host judging until }
+        ensures spare { self.new.spare ≡ self.old.spare }
+        ensures room { room self.new ≡ room self.old }
+    {
+        let mut last = None;
+        while let Some(task) = self.next_held(host, judging, last) {
+            self.renew(task, until);
+            last = Some(task.test);
+        }
     }
 
     /// Ends the lease on the task. False where no lease is held on it.
@@ -197,6 +216,20 @@ impl LeaseBook {
     {
         let held = self.len();
         while let Some(task) = self.task_of_judging(judging) {
+            self.end(task);
+        }
+        held - self.len()
+    }
+
+    /// Ends the leases on the judging's tasks of a greater rank than the test, and counts them.
+    pub fn end_behind(&mut self, judging: u32, test: u16) -> u32
+        ensures count { result ≡ behind_count self.old.leases judging test }
+        ensures leases { self.new.leases ≡ without_behind self.old.leases judging test }
+        ensures spare { self.new.spare ≡ self.old.spare + result }
+        ensures room { room self.new ≡ room self.old }
+    {
+        let held = self.len();
+        while let Some(task) = self.task_behind(judging, test) {
             self.end(task);
         }
         held - self.len()
@@ -257,6 +290,59 @@ impl LeaseBook {
         match self.by_judging.first_of(judging as u64) {
             Some(lease) => Some(lease.task),
             None => None,
+        }
+    }
+
+    /// A task of the judging of a greater rank than the test that is held.
+    fn task_behind(&self, judging: u32, test: u16) -> Option<Task>
+        ensures none { IfNone result (behind_count self.now.leases judging test ≡ 0) }
+        ensures one { IfSome result (λ task. EndsOne (is_behind judging test) self.now.leases task) }
+    {
+        let rank = judging as u64;
+        let task = Task { judging, test };
+        let Some(lease) = self.by_judging.first_behind(Key { rank, task }) else {
+            return None;
+        };
+        if lease.task.judging != judging {
+            return None;
+        }
+        Some(lease.task)
+    }
+
+    /// The judging's next task behind the last one, or its first, of those that the host holds.
+    fn next_held(&self, host: u32, judging: u32, last: Option<u16>) -> Option<Task>
+        ensures none { IfNone result (count_by (is_left host judging last) self.now.leases ≡ 0) }
+        ensures next { IfSome result (λ task. IsNext host judging last self.now.leases task) }
+        ensures fits { IfSome result (λ task. task.test < 2 ^ 16) }
+    {
+        let Some(lease) = self.first_after(host, judging, last) else {
+            return None;
+        };
+        if lease.host != host {
+            return None;
+        }
+        let task = lease.task;
+        if task.judging != judging {
+            return None;
+        }
+        Some(task)
+    }
+
+    /// In the order of hosts the first lease behind that on the last test, or the first that stands no
+    /// earlier than the host's on the judging's tasks.
+    fn first_after(&self, host: u32, judging: u32, last: Option<u16>) -> Option<Lease>
+        ensures { FirstOf order.Host (stands_after host judging last order.Host) self.now.leases result }
+    {
+        let rank = host as u64;
+        match last {
+            None => {
+                let task = Task { judging, test: 0 };
+                self.by_host.first_from(Key { rank, task })
+            }
+            Some(test) => {
+                let task = Task { judging, test };
+                self.by_host.first_behind(Key { rank, task })
+            }
         }
     }
 }

@@ -6,4 +6,6 @@ use farm_model::Lease;
 pub enum Change {
     Granted(Lease),
     Ended(Task),
+    /// The lease on the task has another end.
+    Renewed(Task, u64),
 }
