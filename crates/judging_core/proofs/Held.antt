@@ -1,13 +1,10 @@
 -- What each change of the leases keeps: each is one of the hosts', and none of them holds more than 64.
-use Rattle.std.proofs.Common.{ℕ, zero, suc, ◌≡◌, ◌≤◌, ◌<◌, ◌+◌, ◌*◌, List, [], ◌∷◌, ◌++◌, Some, None, Bool, true, false, not, cond, refl, ap, subst, arith, length, filter, find, count_by, eqb}
-use Rattle.std.specs.List.{All}
+use Rattle.std.proofs.Common.{ℕ, zero, suc, ◌≡◌, ◌≤◌, ◌<◌, ◌+◌, ◌*◌, List, [], ◌∷◌, ◌++◌, Bool, true, false, not, cond, refl, sym, ap, ◌∙◌, subst, arith, length, map, filter, eqb}
 use Rattle.std.proofs.lemmas.List.{length_push}
-use Rattle.std.proofs.lemmas.List.Elements.{All-head, All-tail, All-push, All-filter, filter_passes}
-use Rattle.std.proofs.lemmas.Bool.{eq-eqb}
+use Rattle.std.proofs.lemmas.List.Elements.{All-head, All-push, All-filter, All-map, All-weaker, filter_passes}
 use Rattle.std.proofs.lemmas.Bool.Decides.{nat_tests}
-use Rattle.farm_kinds.specs.declared.outcomes.Task.{Task}
 use Rattle.farm_model.specs.declared.records.Lease.{Lease}
-use Rattle.farm_model.specs.Leases.{same_task, lease_on, holds, held_count, without_task, without_host, renewed, renew_in}
+use Rattle.farm_model.specs.Leases.{holds, held_count, without_host, renew_if}
 use Rattle.lease_book.specs.Book.{Book, room}
 use Rattle.lease_book.proofs.Counts.{one_if, count_cons, count_push, count_parts, length_kept}
 use Rattle.judging_core.specs.Holding.{IsOfHosts, IsHeldWell}
@@ -40,36 +37,21 @@ one_held hosts xs lease h known few = record {
       omega (arith, e, fits (eqb lease.host host) refl);
 }
 
--- what is found is one of the items that pass
-pub found_counts : {X : Type 0} (p q : X → Bool) (xs : List X) (x : X) → find p xs ≡ Some x → one_if (q x) ≤ count_by q (filter p xs)
-found_counts p q [] x e = cc
-found_counts {X} p q (y ∷ ys) x e =
-    elim (p y) as (λ t. cond t (Some y) (find p ys) ≡ Some x → one_if (q x) ≤ count_by q (cond t (y ∷ filter p ys) (filter p ys))) [
-      | true ↦ λ f. let is : y ≡ x = cc in omega (arith, count_cons q y (filter p ys), ap (λ (z : X). one_if (q z)) is)
-      | false ↦ λ f. found_counts p q ys x f
-    ] e
+counted_renewed : (p : Lease → Bool) (until host : ℕ) (xs : List Lease) → held_count (map (renew_if p until) xs) host ≡ held_count xs host
+counted_renewed p until host [] = refl
+counted_renewed p until host (x ∷ xs) =
+    let same : (renew_if p until x).host ≡ x.host = elim (p x) as (λ b. (cond b (record x { until = until }) x).host ≡ x.host) [ true ↦ refl | false ↦ refl ] in
+    count_cons (holds host) (renew_if p until x) (map (renew_if p until) xs) ∙ ap (λ h. one_if (eqb h host) + held_count (map (renew_if p until) xs) host) same
+    ∙ ap (λ n. one_if (holds host x) + n) (counted_renewed p until host xs) ∙ sym (count_cons (holds host) x xs)
 
-pub found_holds : {X : Type 0} (p : X → Bool) (P : X → Type 0) (xs : List X) (x : X) → All P xs → find p xs ≡ Some x → P x
-found_holds p P [] x h e = cc
-found_holds {X} p P (y ∷ ys) x h e =
-    elim (p y) as (λ t. cond t (Some y) (find p ys) ≡ Some x → P x) [
-      | true ↦ λ f. let is : y ≡ x = cc in subst P is (All-head P y ys h)
-      | false ↦ λ f. found_holds p P ys x (All-tail P y ys h) f
-    ] e
-
--- the lease that is found is taken out, and one of its host's is put in
-pub renewed_held : (hosts : ℕ) (xs : List Lease) (task : Task) (until : ℕ) → IsHeldWell hosts xs → IsHeldWell hosts (renewed xs task until)
-renewed_held hosts xs task until h =
-    elim (lease_on xs task) as (λ o. lease_on xs task ≡ o → IsHeldWell hosts (renew_in xs task until o)) [
-      | None ↦ λ e. h
-      | Some lease ↦ λ e.
-          let left = some_held hosts (λ x. not (same_task x.task task)) xs h in
-          let known = found_holds (λ x. same_task x.task task) (IsOfHosts hosts) xs lease h.hosts_known e in
-          let here = found_counts (λ x. same_task x.task task) (holds lease.host) xs lease e in
-          let one : one_if (holds lease.host lease) ≡ 1 = ap one_if (eq-eqb lease.host lease.host refl) in
-          let few : held_count (without_task xs task) lease.host < 64 = omega (arith, count_parts (λ x. same_task x.task task) (holds lease.host) xs, h.few_each lease.host) in
-          one_held hosts (without_task xs task) (record { host = lease.host; task = task; until = until }) left known few
-    ] refl
+-- some of the leases end later
+pub renewed_held : (hosts : ℕ) (xs : List Lease) (p : Lease → Bool) (until : ℕ) → IsHeldWell hosts xs → IsHeldWell hosts (map (renew_if p until) xs)
+renewed_held hosts xs p until h = record {
+  hosts_known = All-map (IsOfHosts hosts) (renew_if p until) xs (All-weaker (IsOfHosts hosts) (λ x. IsOfHosts hosts (renew_if p until x)) known xs h.hosts_known);
+  few_each = λ host. rw (counted_renewed p until host xs) (h.few_each host);
+} where
+  known : (x : Lease) → IsOfHosts hosts x → IsOfHosts hosts (renew_if p until x)
+  known x k = elim (p x) as (λ b. IsOfHosts hosts (cond b (record x { until = until }) x)) [ true ↦ k | false ↦ k ]
 
 -- the leases of the hosts but the last
 front_held : (hosts : ℕ) (xs : List Lease) → IsHeldWell (suc hosts) xs → IsHeldWell hosts (without_host xs (suc hosts))

@@ -6,3 +6,6 @@ pub mod Shown
 pub mod Wanted
 pub mod Listed
 pub mod OpenTasks
+pub mod Cells
+pub mod Vain
+pub mod Batches

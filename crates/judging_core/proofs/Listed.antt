@@ -1,5 +1,5 @@
 -- What each change keeps: each open task is listed.
-use Rattle.std.proofs.Common.{ℕ, zero, suc, ◌≡◌, ◌≢◌, ◌+◌, ◌-◌, ◌<◌, ◌≤◌, ◌⊎◌, List, [], ◌∷◌, ◌++◌, Option, Some, None, Bool, true, false, not, ◌&&◌, refl, sym, ap, subst, ◌∙◌, arith, inl, inr, length, set, slice_get, filter, find, eqb}
+use Rattle.std.proofs.Common.{ℕ, zero, suc, ◌≡◌, ◌≢◌, ◌+◌, ◌-◌, ◌<◌, ◌≤◌, ◌⊎◌, List, [], ◌∷◌, ◌++◌, Option, Some, None, Bool, true, false, not, ◌&&◌, refl, sym, ap, subst, ◌∙◌, arith, inl, inr, length, map, cond, set, slice_get, filter, find, eqb}
 use Rattle.std.specs.Option.{is_none, option_map}
 use Rattle.std.specs.List.{All}
 use Rattle.std.proofs.lemmas.Bool.{cases_eq}
@@ -12,7 +12,7 @@ use Rattle.farm_kinds.specs.declared.outcomes.Task.{Task}
 use Rattle.farm_kinds.specs.RuleValue.{RuleValue}
 use Rattle.farm_model.specs.declared.records.Lease.{Lease}
 use Rattle.farm_model.specs.Numbered.{item_of}
-use Rattle.farm_model.specs.Leases.{same_task, lease_on, with_lease, without_task, without_judging, renewed, renew_in}
+use Rattle.farm_model.specs.Leases.{same_task, lease_on, with_lease, without_task, without_judging, renew_if, holds_of, renewed_of}
 use Rattle.farm_model.specs.Judgings.{Judging, task_of, cell_of, empty_judging, fill_cell, with_result, with_handed, with_asked, with_dropped, mark_handed, mark_asked, mark_dropped}
 use Rattle.farm_model.specs.Open.{is_free, is_wanted, is_active}
 use Rattle.lazy_stop.specs.Matters.{IsPossible}
@@ -146,7 +146,7 @@ handed_hidden rule js ls ts task host until h there =
 
 -- ---- results, renewals, and judgings that are dropped
 
-cell_there : (js : List Judging) (j test : ℕ) (o : Option Judging) → item_of js j ≡ o → cell_of js j test ≡ Some None → (judging : Judging) × (o ≡ Some judging) × (item_of judging.row test ≡ Some None)
+pub cell_there : (js : List Judging) (j test : ℕ) (o : Option Judging) → item_of js j ≡ o → cell_of js j test ≡ Some None → (judging : Judging) × (o ≡ Some judging) × (item_of judging.row test ≡ Some None)
 cell_there js j test None e h = let f : cell_of js j test ≡ None = rw e refl in cc
 cell_there js j test (Some judging) e h = let f : cell_of js j test ≡ item_of judging.row test = rw e refl in (judging, refl, sym f ∙ h)
 
@@ -209,25 +209,20 @@ pub result_listed : (rule : RuleValue) (js : List Judging) (ls : List Lease) (ts
 result_listed rule js ls ts j test kind h empty possible =
     fewer_open rule js (with_result js j test kind) ls (without_task ls (task_of j test)) ts h (kept_seen (λ x. x.class) js j (fill_cell test kind) (λ x. refl)) (result_open rule js ls j test kind empty possible)
 
--- a renewal leaves no task free that was not
-renewed_free : (ls : List Lease) (task t : Task) (until : ℕ) → is_free (renewed ls task until) t ≡ true → is_free ls t ≡ true
-renewed_free ls task t until h = at (lease_on ls task) h where
-  at : (o : Option Lease) → is_free (renew_in ls task until o) t ≡ true → is_free ls t ≡ true
-  at None f = f
-  at (Some lease) f =
-      let p = handed_in task t (without_task ls task) lease.host until f in
-      sym (free_others ls task t (turned task t p.1)) ∙ p.0 where
-        turned : (a b : Task) → same_task a b ≡ false → same_task b a ≡ false
-        turned a b e = by (same_task b a) refl where
-          by : (x : Bool) → same_task b a ≡ x → x ≡ false
-          by true k = let s : a ≡ b = sym (task_is b a k) in let z : same_task a b ≡ true = ap (same_task a) (sym s) ∙ same_self a in cc
-          by false k = refl
+-- a renewal leaves each task free that was, and no other
+renewed_free : (p : Lease → Bool) (until : ℕ) (ls : List Lease) (t : Task) → is_free (map (renew_if p until) ls) t ≡ is_free ls t
+renewed_free p until [] t = refl
+renewed_free p until (x ∷ ls) t =
+    let same : (renew_if p until x).task ≡ x.task = elim (p x) as (λ b. (cond b (record x { until = until }) x).task ≡ x.task) [ true ↦ refl | false ↦ refl ] in
+    rw same (elim (same_task x.task t) as (λ b. is_none (cond b (Some (renew_if p until x)) (lease_on (map (renew_if p until) ls) t)) ≡ is_none (cond b (Some x) (lease_on ls t))) [
+      | true ↦ refl
+      | false ↦ renewed_free p until ls t
+    ])
 
-pub renewed_listed : (rule : RuleValue) (js : List Judging) (ls : List Lease) (ts : List JudgingTasks) (task : Task) (until : ℕ) → IsListed rule js ls ts → IsListed rule js (renewed ls task until) ts
-renewed_listed rule js ls ts task until h =
-    fewer_open rule js js ls (renewed ls task until) ts h refl (λ t e.
-    let p = and_parts (is_open_in rule t.test (item_of js t.judging)) (is_free (renewed ls task until) t) e in
-    and_both _ _ p.0 (renewed_free ls task t until p.1))
+pub renewed_listed : (rule : RuleValue) (js : List Judging) (ls : List Lease) (ts : List JudgingTasks) (host j until : ℕ) → IsListed rule js ls ts → IsListed rule js (renewed_of ls host j until) ts
+renewed_listed rule js ls ts host j until h =
+    fewer_open rule js js ls (renewed_of ls host j until) ts h refl (λ t e.
+    sym (ap (λ b. is_open_in rule t.test (item_of js t.judging) && b) (renewed_free (holds_of host j) until ls t)) ∙ e)
 
 dropped_cell : (rule : RuleValue) (judging : Judging) (test : ℕ) (o : Option (Option Kind)) → is_open_cell rule (mark_dropped judging) test o ≡ false
 dropped_cell rule judging test None = refl

@@ -1,6 +1,6 @@
 -- The open tasks are those of the listed ones that are open.
 use Rattle.std.proofs.Common.{ℕ, zero, suc, ◌≡◌, ◌+◌, ◌-◌, ◌<◌, ◌≤◌, List, [], ◌∷◌, ◌++◌, Option, Some, None, Bool, true, false, cond, ltb, ◌&&◌, refl, sym, ap, subst, ◌∙◌, arith, length, map, slice_get, unwrap_or}
-use Rattle.std.specs.Prelude.{not, slice_index_or}
+use Rattle.std.specs.Prelude.{slice_index_or}
 use Rattle.std.specs.Option.{is_none}
 use Rattle.std.specs.List.{filter, flat_map, range_with_len, enumerate_from}
 use Rattle.std.proofs.lemmas.Bool.Decides.{nat_tests}
@@ -8,7 +8,6 @@ use Rattle.std.proofs.lemmas.List.Elements.{filter-append}
 use Rattle.farm_kinds.specs.declared.kinds.Kind.{Kind}
 use Rattle.farm_kinds.specs.declared.outcomes.Class.{Class}
 use Rattle.farm_kinds.specs.declared.outcomes.Class.TheVariants.{High, Normal, Low}
-use Rattle.farm_kinds.specs.declared.outcomes.Mode.{Mode}
 use Rattle.farm_kinds.specs.declared.outcomes.Task.{Task}
 use Rattle.farm_kinds.specs.RuleValue.{RuleValue}
 use Rattle.farm_model.specs.declared.records.Lease.{Lease}
@@ -20,7 +19,7 @@ use Rattle.judging_core.specs.Listed.{is_open, is_open_in, is_open_cell, judging
 
 -- ---- filters over a range
 
-fused : (p q : ℕ → Bool) (f : Task → Bool) (g : ℕ → Task) (xs : List ℕ) → filter f (map g (filter q (filter p xs))) ≡ map g (filter (λ x. p x && (q x && f (g x))) xs)
+pub fused : (p q : ℕ → Bool) (f : Task → Bool) (g : ℕ → Task) (xs : List ℕ) → filter f (map g (filter q (filter p xs))) ≡ map g (filter (λ x. p x && (q x && f (g x))) xs)
 fused p q f g [] = refl
 fused p q f g (x ∷ xs) = at (p x) (q x) (f (g x)) refl refl refl (fused p q f g xs) where
   at : (a b c : Bool) → p x ≡ a → q x ≡ b → f (g x) ≡ c → filter f (map g (filter q (filter p xs))) ≡ map g (filter (λ x. p x && (q x && f (g x))) xs)
@@ -58,7 +57,7 @@ same_in p q a (suc n) (suc m) h u v =
 
 -- ---- one judging
 
-item_next : {X : Type 0} (xs : List X) (i : ℕ) → item_of xs (1 + i) ≡ slice_get xs i
+pub item_next : {X : Type 0} (xs : List X) (i : ℕ) → item_of xs (1 + i) ≡ slice_get xs i
 item_next xs i =
     let here : 1 + i - 1 ≡ i = omega arith in
     let yes : ltb 0 (1 + i) ≡ true = grind (arith, nat_tests) in
@@ -153,7 +152,7 @@ none_of test n (t ∷ ts) h = rw (h t) (none_of test n ts h)
 
 -- ---- the judgings of a class
 
-abbrev open_from : RuleValue → List Lease → Class → ℕ → List Judging → List Task
+abbrev pub open_from : RuleValue → List Lease → Class → ℕ → List Judging → List Task
 open_from rule leases class n judgings =
     flat_map (open_in rule leases) (filter (λ p. same_class p.1.class class) (filter (λ p. is_active p.1) (enumerate_from n judgings)))
 

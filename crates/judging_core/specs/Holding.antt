@@ -1,8 +1,9 @@
--- How many leases hosts hold.
-use Rattle.std.specs.Prelude.{ℕ, ◌≤◌, List, All}
+-- How many leases hosts hold, and on what.
+use Rattle.std.specs.Prelude.{◌≡◌, ℕ, ◌≤◌, List, All, Some, None}
 use Rattle.farm_model.specs.Limits.{max_held}
 use Rattle.farm_model.specs.declared.records.Lease.{Lease}
 use Rattle.farm_model.specs.Leases.{held_count}
+use Rattle.farm_model.specs.Judgings.{Judging, cell_of}
 
 -- the lease is one of these hosts'
 abbrev pub IsOfHosts : ℕ → Lease → Type 0
@@ -12,3 +13,10 @@ IsOfHosts hosts lease = (1 ≤ lease.host) × (lease.host ≤ hosts)
 pub record IsHeldWell (hosts : ℕ) (leases : List Lease) : Type 0 where
   pub hosts_known : All (IsOfHosts hosts) leases
   pub few_each : (host : ℕ) → held_count leases host ≤ max_held
+
+-- the lease is on an empty cell of a judging that is there
+abbrev pub IsOnEmptyCell : List Judging → Lease → Type 0
+IsOnEmptyCell judgings lease = cell_of judgings lease.task.judging lease.task.test ≡ Some None
+
+abbrev pub AreOnEmptyCells : List Judging → List Lease → Type 0
+AreOnEmptyCells judgings leases = All (IsOnEmptyCell judgings) leases

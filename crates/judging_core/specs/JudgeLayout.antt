@@ -5,7 +5,7 @@ use Rattle.farm_model.specs.Judge.{JudgeState}
 use Rattle.lease_book.specs.Book.{room}
 use Rattle.judging_core.specs.JudgeValue.{JudgeValue}
 use Rattle.judging_core.specs.JudgeShape.{judging_values, AreWellKept, AreRuledBy, reserved_of, ArePrepared}
-use Rattle.judging_core.specs.Holding.{IsHeldWell}
+use Rattle.judging_core.specs.Holding.{IsHeldWell, AreOnEmptyCells}
 use Rattle.judging_core.specs.Listed.{IsListed}
 use Rattle.judging_core.specs.declared.judge.Judge.TheInside.{Inside}
 
@@ -32,6 +32,7 @@ pub record IsJudgeLayout (a : Inside) : Type 0 where
   pub ruled : AreRuledBy a.rule a.judgings.items
   pub few_hosts : a.hosts ≤ max_hosts
   pub held : IsHeldWell a.hosts a.leases.leases
+  pub cells : AreOnEmptyCells (judging_values a.judgings.items) a.leases.leases
   -- 64 leases for each host
   pub roomy : max_held * a.hosts ≤ room a.leases
   -- what is made ahead

@@ -1,19 +1,15 @@
 -- Which tasks a judge lists for claims: at least each open one.
-use Rattle.std.specs.Prelude.{◌≡◌, ◌≢◌, ℕ, ◌<◌, ◌≤◌, List, [], ◌∷◌, map, length, All, Option, Some, None, IsSome, Bool, true, false, not, ◌&&◌}
+use Rattle.std.specs.Prelude.{◌≡◌, ◌≢◌, ℕ, ◌<◌, ◌≤◌, List, [], ◌∷◌, map, length, All, Option, Some, None, Bool, true, false, ◌&&◌}
 use Rattle.farm_kinds.specs.declared.kinds.Kind.{Kind}
 use Rattle.farm_kinds.specs.declared.outcomes.Class.{Class}
-use Rattle.farm_kinds.specs.declared.outcomes.Mode.{Mode}
 use Rattle.farm_kinds.specs.declared.outcomes.Task.{Task}
 use Rattle.farm_kinds.specs.RuleValue.{RuleValue}
 use Rattle.farm_model.specs.Limits.{max_tests}
 use Rattle.farm_model.specs.declared.records.Lease.{Lease}
 use Rattle.farm_model.specs.Numbered.{item_of}
-use Rattle.farm_model.specs.Leases.{lease_on}
-use Rattle.farm_model.specs.Judgings.{Judging, task_of, cell_of}
+use Rattle.farm_model.specs.Judgings.{Judging, task_of}
 use Rattle.farm_model.specs.Open.{is_free, is_wanted, is_active}
 use Rattle.task_tree.specs.Shown.{JudgingTasks, is_shown}
-use Rattle.judging_core.specs.JudgeShape.{judging_values}
-use Rattle.judging_core.specs.declared.judgings.KeptJudging.{KeptJudging}
 
 -- the cell is there, empty and wanted, in a judging that was asked for and takes results
 abbrev pub is_open_cell : RuleValue → Judging → ℕ → Option (Option Kind) → Bool
@@ -71,10 +67,3 @@ pub record AreTestsShown (judging tests : ℕ) (old new : List JudgingTasks) : T
 -- no row has more cells than a judging can have tests
 pub record AreShort (judgings : List Judging) : Type 0 where
   pub each : (n : ℕ) (judging : Judging) → item_of judgings n ≡ Some judging → length judging.row ≤ max_tests
-
--- a free task on a cell of a judging that is there
-pub record IsOpenTask (judgings : List KeptJudging) (leases : List Lease) (task : Task) : Type 0 where
-  pub numbered : 1 ≤ task.judging
-  pub known : task.judging ≤ length judgings
-  pub cell : IsSome (cell_of (judging_values judgings) task.judging task.test)
-  pub unheld : lease_on leases task ≡ None

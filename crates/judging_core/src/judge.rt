@@ -1,22 +1,25 @@
-ghost use Rattle.std.specs.Prelude.{◌≡◌, Some, None, ◌+◌, ◌≤◌, ◌<◌, length, All, IfOk, IfNone, OnOk, OnErr, IsOk, IsTrue};
+ghost use Rattle.std.specs.Prelude.{◌≡◌, Some, None, true, ◌+◌, ◌≤◌, ◌<◌, ◌++◌, length, take, slice_get, All, IfOk, IfSome, OnOk, OnErr, IsOk, IsTrue};
 ghost use Rattle.farm_kinds.specs.Rules.{remap_of};
-ghost use Rattle.farm_model.specs.Leases.{is_held_by};
-ghost use Rattle.farm_model.specs.Limits.{max_tests, max_hosts, max_judgings};
-ghost use Rattle.farm_model.specs.Judge.{answer_of_judging, counted, judge_claim, judge_enter, judge_result, judge_renew, judge_tick, judge_down, judge_ask, drop_judging, renew_refusal};
+ghost use Rattle.farm_model.specs.Leases.{is_held_by, held_count};
+ghost use Rattle.farm_model.specs.Limits.{max_tests, max_hosts, max_judgings, max_held, max_batch};
+ghost use Rattle.farm_model.specs.Judge.{answer_of_judging, counted, first_open, hand_out, hand_out_all, lease_end, open_of, ranks_of, batch_size, judge_claim, judge_fetch, judge_enter, judge_result, judge_renew, judge_tick, judge_down, judge_ask, drop_judging, renew_refusal};
 ghost use Rattle.lazy_stop.specs.Matters.{IsPossible};
 ghost use Rattle.farm_model.specs.Judgings.{cell_of, is_asked, is_dropped};
 ghost use Rattle.judging_core.specs.JudgeValue.{first_judge, in_state, with_judging, starts_with};
+ghost use Rattle.judging_core.specs.Batches.{is_open_task, ComesFirst};
 
 use crate::judgings::{
     KeptJudging, answer_of, ask_refusal, cell_at, empty_judging, entry_refusal, fill, judging_at,
     mark_asked, mark_dropped, mark_handed, result_refusal, test_count,
 };
-use crate::listing::{end_due, end_host, list_judging, make_room, show_tests, unlist_judging};
+use crate::listing::{
+    end_due, end_host, end_in_vain, list_judging, make_room, show_tests, unlist_judging,
+};
 use crate::open::first_open;
 use crate::prepared::{is_next, prepared_judgings, take_prepared};
 use farm_kinds::{
-    Answer, AskEnd, Claim, Class, Count, Kind, MAX_HELD, Mode, NoMemory, Numbers, Renewed, Rule,
-    Task,
+    Answer, AskEnd, Claim, Class, Count, Fetched, Few, Kind, MAX_BATCH, MAX_HELD, Mode, NoMemory,
+    Numbers, Renewed, Rule, Task,
 };
 use lazy_stop::remapped_is_possible;
 use lease_book::LeaseBook;
@@ -166,21 +169,116 @@ impl Judge {
         ensures state { self.new ≡ in_state self.old (judge_claim self.old.state host).0 }
         ensures answer { result ≡ (judge_claim self.old.state host).1 }
     {
-        if self.leases.held(host) >= MAX_HELD {
+        if self.held(host) >= MAX_HELD {
             return Claim::Holding;
         }
-        let Some(task) = first_open(&self.judgings, &self.leases, &mut self.tasks) else {
+        let Some(task) = self.first_open() else {
             return Claim::Nothing;
         };
+        let until = self.hand_out(host, task);
+        Claim::Handed { task, until }
+    }
+
+    /// Gives the host the least open task by class, judging and test, and the next open tasks of its judging:
+    /// as many as it asks for, but at least one and at most 16, and not more than 64 with those that it holds.
+    ///
+    /// Each of them costs what a claim costs, however many tests the judging has.
+    pub fn fetch(&mut self, host: u32, most: u8) -> Fetched
+        requires numbered { 1 ≤ host }
+        requires known { host ≤ self.old.hosts }
+        ensures state { self.new ≡ in_state self.old (judge_fetch self.old.state host most).0 }
+        ensures answer { result ≡ (judge_fetch self.old.state host most).1 }
+    {
+        let held = self.held(host);
+        if held >= MAX_HELD {
+            return Fetched::Holding;
+        }
+        let Some(first) = self.first_open() else {
+            return Fetched::Nothing;
+        };
+        let until = self.hand_out(host, first);
+        let mut tests = Few::of(first.test);
+        let more = batch_size(most, held) - 1;
+        self.hand_out_more(host, first.judging, more, &mut tests);
+        Fetched::Batch {
+            judging: first.judging,
+            tests,
+            until,
+        }
+    }
+
+    /// Hands out the next open tasks of the judging, at most so many, and adds their tests. No other judging has
+    /// open tasks before it.
+    fn hand_out_more(&mut self, host: u32, judging: u32, more: u32, tests: &mut Few)
+        requires numbered { 1 ≤ host }
+        requires known { host ≤ self.old.hosts }
+        requires held { held_count self.old.state.leases host + more ≤ max_held }
+        requires few { length tests.old + more ≤ max_batch }
+        requires first { ComesFirst self.old.state judging }
+        ensures state { self.new
+            ≡ in_state self.old (hand_out_all self.old.state host (take more (open_of self.old.state judging))) }
+        ensures tests { tests.new ≡ tests.old ++ ranks_of (take more (open_of self.old.state judging)) }
+    {
+        for _ in 0..more {
+            let Some(task) = self.next_open(judging) else {
+                return;
+            };
+            self.hand_out(host, task);
+            tests.push(task.test);
+        }
+    }
+
+    /// The next open task of the judging, before which no other has open tasks.
+    fn next_open(&mut self, judging: u32) -> Option<Task>
+        requires { ComesFirst self.old.state judging }
+        ensures next { result ≡ slice_get (open_of self.old.state judging) 0 }
+        ensures same { self.new ≡ self.old }
+        ensures open_ { IfSome result (λ task. is_open_task self.old.state task ≡ true) }
+    {
+        let Some(task) = self.first_open() else {
+            return None;
+        };
+        if task.judging != judging {
+            return None;
+        }
+        Some(task)
+    }
+
+    /// How many leases the host holds.
+    fn held(&self, host: u32) -> u32
+        ensures { result ≡ held_count self.now.state.leases host }
+    {
+        self.leases.held(host)
+    }
+
+    /// The least open task by class, judging and test.
+    fn first_open(&mut self) -> Option<Task>
+        ensures first { result ≡ first_open self.old.state }
+        ensures same { self.new ≡ self.old }
+        ensures open_ { IfSome result (λ task. is_open_task self.old.state task ≡ true) }
+    {
+        first_open(&self.judgings, &self.leases, &mut self.tasks)
+    }
+
+    /// Hands the open task out to the host, which holds fewer than 64 leases, and answers until when.
+    fn hand_out(&mut self, host: u32, task: Task) -> u64
+        requires numbered { 1 ≤ host }
+        requires known { host ≤ self.old.hosts }
+        requires few { held_count self.old.state.leases host < max_held }
+        requires open_ { is_open_task self.old.state task ≡ true }
+        ensures state { self.new ≡ in_state self.old (hand_out self.old.state host task) }
+        ensures until { result ≡ lease_end self.old.state }
+    {
         let until = self.moment + self.lease;
         self.tasks.hide_task(task);
         mark_handed(&mut self.judgings, task);
         self.leases.grant(host, task, until);
-        Claim::Handed { task, until }
+        until
     }
 
     /// Enters a host's result of a task that was handed out. It counts as its remapped kind, where its cell
-    /// is empty, whether or not the lease has ended. The lease on its task ends.
+    /// is empty, whether or not the lease has ended. The lease on its task ends, and lazily so do those on the
+    /// judging's tasks whose results cannot change its verdict any more.
     pub fn result(&mut self, judging: u32, test: u32, kind: Kind) -> Count
         ensures state { self.new ≡ in_state self.old (judge_result self.old.state judging test kind).0 }
         ensures answer { result ≡ (judge_result self.old.state judging test kind).1 }
@@ -192,8 +290,8 @@ impl Judge {
         self.count(judging, test, given)
     }
 
-    /// Enters a result from outside. It counts as its remapped kind, where its cell is empty. The lease on
-    /// its task ends.
+    /// Enters a result from outside. It counts as its remapped kind, where its cell is empty. The same leases end
+    /// as after a host's result.
     pub fn enter(&mut self, judging: u32, test: u32, kind: Kind) -> Count
         ensures state { self.new ≡ in_state self.old (judge_enter self.old.state judging test kind).0 }
         ensures answer { result ≡ (judge_enter self.old.state judging test kind).1 }
@@ -205,7 +303,9 @@ impl Judge {
         self.count(judging, test, given)
     }
 
-    /// Fills the empty cell of the task, ends the lease on it, and takes it off the list.
+    /// Fills the empty cell of the task, ends the lease on it, and takes it off the list. Lazily the leases on
+    /// the judging's cells that do not matter any more end too: their tasks are not open, and so they need not be
+    /// listed again.
     fn count(&mut self, judging: u32, test: u32, given: Kind) -> Count
         requires numbered { 1 ≤ judging }
         requires known { judging ≤ length self.old.state.judgings }
@@ -221,11 +321,13 @@ impl Judge {
             test: test as u16,
         };
         self.leases.end(task);
+        end_in_vain(&self.judgings, &mut self.leases, judging);
         self.tasks.hide_task(task);
         Count::Counted
     }
 
-    /// Lets the host hold the task until a lease from now ends, where it holds it.
+    /// Lets the host hold the task, where it holds it, and all others of the judging that it holds, until a lease
+    /// from now ends.
     pub fn renew(&mut self, host: u32, judging: u32, test: u32) -> Renewed
         ensures state { self.new ≡ in_state self.old (judge_renew self.old.state host judging test).0 }
         ensures answer { result ≡ (judge_renew self.old.state host judging test).1 }
@@ -233,19 +335,14 @@ impl Judge {
         if let Some(refusal) = self.renew_refusal(host, judging, test) {
             return refusal;
         }
-        let task = Task {
-            judging,
-            test: test as u16,
-        };
         let until = self.moment + self.lease;
-        self.leases.renew(task, until);
+        self.leases.renew_of(host, judging, until);
         Renewed::Until { until }
     }
 
-    /// Why the host cannot renew the lease.
+    /// Why the host cannot renew its leases.
     fn renew_refusal(&self, host: u32, judging: u32, test: u32) -> Option<Renewed>
-        ensures refusal { result ≡ renew_refusal self.now.state host judging test }
-        ensures short { IfNone result (test ≤ max_tests) }
+        ensures { result ≡ renew_refusal self.now.state host judging test }
     {
         let Some(kept) = judging_at(&self.judgings, judging) else {
             return Some(Renewed::NoJudging);
@@ -335,6 +432,17 @@ impl Judge {
         let kept = judging_at(&self.judgings, judging)?;
         Some(answer_of(kept))
     }
+}
+
+/// How many tasks a host that holds so many is given, which asks for this many.
+fn batch_size(most: u8, held: u32) -> u32
+    requires { held < max_held }
+    ensures size { result ≡ batch_size most held }
+    ensures some { 1 ≤ result }
+    ensures few { result ≤ max_batch }
+    ensures held { held + result ≤ max_held }
+{
+    u32::from(most).max(1).min(MAX_BATCH).min(MAX_HELD - held)
 }
 
 /// What the kind counts as, which a cell can hold.

@@ -5,11 +5,15 @@ ghost use Rattle.farm_model.specs.declared.records.Lease.{Lease};
 ghost use Rattle.farm_model.specs.Limits.{max_tests, max_judgings};
 ghost use Rattle.farm_model.specs.Judgings.{Judging, task_of, empty_judging};
 ghost use Rattle.farm_model.specs.Leases.{left_after, ended_at, without_host, held_count, without_task};
+ghost use Rattle.farm_model.specs.Judge.{without_vain};
 ghost use Rattle.lease_book.specs.Book.{room};
 ghost use Rattle.task_tree.specs.Shown.{is_shown};
+ghost use Rattle.judging_core.specs.Holding.{AreOnEmptyCells};
+ghost use Rattle.judging_core.specs.JudgeShape.{judging_values, AreWellKept, AreRuledBy};
 ghost use Rattle.judging_core.specs.Listed.{is_open, IsListed, AreShort, AreWide, AreTestsShown};
 
-use farm_kinds::{Class, MAX_JUDGINGS, MAX_TESTS, NoMemory, Task};
+use crate::judgings::{KeptJudging, judging_at};
+use farm_kinds::{Class, MAX_JUDGINGS, MAX_TESTS, Mode, NoMemory, Task};
 use lease_book::LeaseBook;
 use task_tree::TaskTree;
 
@@ -128,4 +132,25 @@ pub fn end_host(leases: &mut LeaseBook, tasks: &mut TaskTree, judgings: usize, h
         list_again(tasks, judgings, task);
     }
     held - leases.len()
+}
+
+/// Ends the leases on cells of the judging that are not to be judged any more: lazily those behind the last one
+/// that matters. Each lease is on an empty cell.
+pub fn end_in_vain(judgings: &[KeptJudging], leases: &mut LeaseBook, judging: u32)
+    requires short { AreWellKept judgings.now }
+    requires cells { AreOnEmptyCells (judging_values judgings.now) leases.old.leases }
+    ensures leases { (rule : RuleValue) → AreRuledBy rule judgings.now
+        → leases.new.leases ≡ without_vain rule (judging_values judgings.now) judging leases.old.leases }
+    ensures room { room leases.new ≡ room leases.old }
+{
+    let Some(kept) = judging_at(judgings, judging) else {
+        return;
+    };
+    match kept.mode {
+        Mode::Full => {}
+        Mode::Lazy => {
+            let last = kept.row.matters_up_to().min(MAX_TESTS as usize);
+            leases.end_behind(judging, last as u16);
+        }
+    }
 }

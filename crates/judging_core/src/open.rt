@@ -3,7 +3,7 @@ ghost use Rattle.std.specs.Prelude.{◌≡◌, ◌≤◌, ◌-◌, length, slice
 ghost use Rattle.farm_kinds.specs.RuleValue.{RuleValue};
 ghost use Rattle.farm_model.specs.Open.{is_wanted, open_tasks};
 ghost use Rattle.task_tree.specs.Shown.{HasTask, first_shown, is_shown};
-ghost use Rattle.judging_core.specs.Listed.{is_open, IsListed, IsOpenTask};
+ghost use Rattle.judging_core.specs.Listed.{is_open, IsListed};
 ghost use Rattle.judging_core.specs.JudgeShape.{judging_values, IsWellKept, AreWellKept, AreRuledBy};
 
 use crate::judgings::{KeptJudging, cell_at, judging_at};
@@ -30,8 +30,8 @@ pub fn first_open(
         → IsListed rule (judging_values judgings.now) leases.now.leases tasks.old
         → IsListed rule (judging_values judgings.now) leases.now.leases tasks.new }
     ensures count { length tasks.new ≡ length tasks.old }
-    ensures facts { IfSome result (IsOpenTask judgings.now leases.now.leases) }
-    ensures there { IfSome result (HasTask tasks.new) }
+    ensures open_ { (rule : RuleValue) → AreRuledBy rule judgings.now
+        → IfSome result (λ task. is_open rule (judging_values judgings.now) leases.now.leases task ≡ true) }
 {
     while let Some(task) = first_listed(tasks) {
         if is_open(judgings, leases, task) {
@@ -70,7 +70,6 @@ fn is_open(judgings: &[KeptJudging], leases: &LeaseBook, task: Task) -> bool
     requires short { AreWellKept judgings.now }
     ensures open_ { (rule : RuleValue) → AreRuledBy rule judgings.now
         → result ≡ is_open rule (judging_values judgings.now) leases.now.leases task }
-    ensures facts { result ≡ true → IsOpenTask judgings.now leases.now.leases task }
 {
     let Some(kept) = judging_at(judgings, task.judging) else {
         return false;

@@ -2,8 +2,8 @@ ghost use Rattle.std.specs.Prelude.{◌≡◌, ◌∷◌, [], ◌≤◌, ◌<◌
 
 use crate::Judge;
 use farm_kinds::{
-    Answer, AskEnd, Claim, Class, Count, Kind, Mode, NoMemory, Numbers, Renewed, Rule, Task,
-    Verdict,
+    Answer, AskEnd, Claim, Class, Count, Fetched, Kind, Mode, NoMemory, Numbers, Renewed, Rule,
+    Task, Verdict,
 };
 use std::alloc::Global;
 use std::process::Abort;
@@ -35,6 +35,8 @@ enum Step {
     Handed(u32, u32, u16, u64),
     /// A host claims once for each of these tests, and is handed them in turn.
     ClaimEach(u32, u16, u16),
+    /// A host fetches at most so many tasks.
+    Fetch(u32, u8, Fetch),
     /// A host's result of a test of a judging.
     Result(u32, u32, Kind, Count),
     /// A result from outside, of a test of a judging.
@@ -53,6 +55,17 @@ enum Step {
     Answer(u32, Option<Answer>),
     /// How many judgings there are.
     Judgings(usize),
+}
+
+/// What a fetch should be answered.
+#[derive(Clone, Copy)]
+enum Fetch {
+    /// The host holds as many leases as it may.
+    Holding,
+    /// No task is open.
+    Nothing,
+    /// The tests of a judging from one to another, until a moment.
+    Tests(u32, u16, u16, u64),
 }
 
 const PENDING: Option<Answer> = Some(Answer::Pending);
@@ -93,6 +106,46 @@ fn claims_each(judge: &mut Judge, hosts: u32, host: u32, first: u16, last: u16) 
         }
     }
     true
+}
+
+/// Whether a host that is one of these fetches at most so many tasks, and is answered so.
+fn fetches(judge: &mut Judge, hosts: u32, host: u32, most: u8, wanted: Fetch) -> bool
+    requires { judge.old.hosts ≡ hosts }
+    ensures { judge.new.hosts ≡ hosts }
+{
+    if host == 0 || host > hosts {
+        return false;
+    }
+    is_fetched(&judge.fetch(host, most), wanted)
+}
+
+/// Whether the answer is as it should be.
+fn is_fetched(answer: &Fetched, wanted: Fetch) -> bool {
+    match (answer, wanted) {
+        (Fetched::Holding, Fetch::Holding) => true,
+        (Fetched::Nothing, Fetch::Nothing) => true,
+        (
+            Fetched::Batch {
+                judging,
+                tests,
+                until,
+            },
+            Fetch::Tests(of, first, last, end),
+        ) => *judging == of && *until == end && are_all(tests.as_slice(), first, last),
+        _ => false,
+    }
+}
+
+/// Whether these are the tests from one to another.
+fn are_all(tests: &[u16], first: u16, last: u16) -> bool {
+    let mut next = first;
+    for test in tests {
+        if *test != next {
+            return false;
+        }
+        next = next.saturating_add(1);
+    }
+    next == last.saturating_add(1)
 }
 
 /// Adds a host where there are not too many, and counts it.
@@ -244,6 +297,7 @@ fn is_answered(alloc: Global, judge: &mut Judge, hosts: &mut u32, mode: Mode, st
             claim(judge, *hosts, host) == Some(handed(judging, test, until))
         }
         Step::ClaimEach(host, first, last) => claims_each(judge, *hosts, host, first, last),
+        Step::Fetch(host, most, wanted) => fetches(judge, *hosts, host, most, wanted),
         Step::Result(judging, test, kind, wanted) => judge.result(judging, test, kind) == wanted,
         Step::Enter(judging, test, kind, wanted) => judge.enter(judging, test, kind) == wanted,
         Step::Renew(host, judging, test, wanted) => judge.renew(host, judging, test) == wanted,
@@ -558,6 +612,62 @@ const HOLDING_MANY: [Step; 7] = [
 #[test]
 fn holds_at_most_64(rt: HostRuntime) {
     play_lazily(&rt, rt.alloc(), HOLDING_MANY.as_slice());
+}
+
+const BATCHES: [Step; 12] = [
+    Step::SetUp(3),
+    Step::Fetch(1, 2, Fetch::Tests(1, 1, 2, 60)),
+    Step::Fetch(2, 16, Fetch::Tests(1, 3, 3, 60)),
+    Step::Fetch(2, 1, Fetch::Nothing),
+    Step::Tick(10, 0),
+    Step::Renew(1, 1, 2, Renewed::Until { until: 70 }),
+    Step::Tick(60, 1),
+    Step::Handed(2, 1, 3, 120),
+    // the first test decides: the leases on the others end
+    Step::Result(1, 1, Kind::RunError, Count::Counted),
+    Step::Renew(1, 1, 2, Renewed::NoLease),
+    Step::Down(2, 0),
+    Step::Result(1, 2, Kind::Correct, Count::Counted),
+];
+
+const BATCHES_IN_FULL: [Step; 5] = [
+    Step::SetUp(3),
+    Step::Fetch(1, 3, Fetch::Tests(1, 1, 3, 60)),
+    Step::Result(1, 1, Kind::RunError, Count::Counted),
+    Step::Renew(1, 1, 3, Renewed::Until { until: 60 }),
+    Step::Down(1, 2),
+];
+
+#[test]
+fn leases_end_where_nothing_is_left_to_judge(rt: HostRuntime) {
+    play_lazily(&rt, rt.alloc(), BATCHES.as_slice());
+    play_in_full(&rt, rt.alloc(), BATCHES_IN_FULL.as_slice());
+}
+
+const BATCH_SIZES: [Step; 8] = [
+    Step::SetUp(65),
+    Step::Fetch(1, 0, Fetch::Tests(1, 1, 1, 60)),
+    Step::Fetch(1, 255, Fetch::Tests(1, 2, 17, 60)),
+    Step::ClaimEach(1, 18, 60),
+    Step::Fetch(1, 16, Fetch::Tests(1, 61, 64, 60)),
+    Step::Fetch(1, 1, Fetch::Holding),
+    Step::Fetch(2, 16, Fetch::Tests(1, 65, 65, 60)),
+    Step::Fetch(2, 16, Fetch::Nothing),
+];
+
+const BATCHES_OF_TWO: [Step; 6] = [
+    Step::SetUp(3),
+    Step::Add(2, 2),
+    Step::Handed(1, 1, 1, 60),
+    Step::Fetch(2, 16, Fetch::Tests(1, 2, 3, 60)),
+    Step::Fetch(2, 16, Fetch::Tests(2, 1, 2, 60)),
+    Step::Fetch(2, 16, Fetch::Nothing),
+];
+
+#[test]
+fn a_batch_is_of_one_judging_and_of_at_most_16(rt: HostRuntime) {
+    play_in_each_mode(&rt, rt.alloc(), BATCH_SIZES.as_slice());
+    play_in_each_mode(&rt, rt.alloc(), BATCHES_OF_TWO.as_slice());
 }
 
 /// When a lease from the last moment ends.

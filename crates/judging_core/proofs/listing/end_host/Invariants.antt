@@ -1,6 +1,5 @@
 use Rattle.std.proofs.Common.{◌≡◌, ◌≤◌, List, length}
 use Rattle.farm_kinds.specs.RuleValue.{RuleValue}
-use Rattle.farm_kinds.specs.declared.outcomes.Mode.{Mode}
 use Rattle.farm_model.specs.Judgings.{Judging}
 use Rattle.farm_model.specs.Leases.{without_host}
 use Rattle.lease_book.specs.Book.{room}

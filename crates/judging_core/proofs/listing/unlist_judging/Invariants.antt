@@ -1,6 +1,5 @@
 use Rattle.std.proofs.Common.{ℕ, ◌≡◌, List, false}
 use Rattle.farm_kinds.specs.RuleValue.{RuleValue}
-use Rattle.farm_kinds.specs.declared.outcomes.Mode.{Mode}
 use Rattle.farm_model.specs.declared.records.Lease.{Lease}
 use Rattle.farm_model.specs.Judgings.{Judging, task_of}
 use Rattle.judging_core.specs.Listed.{is_open, widths, IsListed}

@@ -8,9 +8,11 @@ use Rattle.judging_core.specs.JudgeValue.{JudgeValue, with_judging, starts_with}
 use Rattle.judging_core.specs.JudgeLayout.{judge_value}
 use Rattle.judging_core.specs.declared.judgings.KeptJudging.{KeptJudging}
 use Rattle.judging_core.specs.JudgeShape.{judging_value, judging_values, IsWellKept, AreWellKept, IsRuledBy, AreRuledBy, reserved_of}
+use Rattle.judging_core.specs.Holding.{AreOnEmptyCells}
 use Rattle.judging_core.specs.Listed.{IsListed}
 use Rattle.judging_core.proofs.Listed.{count_is, ahead_kept}
 use Rattle.judging_core.proofs.MadeAhead.{none_left}
+use Rattle.judging_core.proofs.Cells.{added_cells}
 use Rattle.judging_core.proofs.judge.Judge.add_judging.Goals as goal
 
 -- whether or not the item was pushed
@@ -45,6 +47,7 @@ invariant_of-self-in_err-map_err c =
     let rows : AreWellKept c.push.new.self.items = rw same c.self.invariant.rows in
     let ruled : AreRuledBy at.rule c.push.new.self.items = rw same c.self.invariant.ruled in
     let few : length c.push.new.self.items ≤ 400000 = omega (arith, size, c.self.invariant.few) in
+    let cells : AreOnEmptyCells (judging_values c.push.new.self.items) at.leases.leases = rw same c.self.invariant.cells in
     search rules
 
 pub list_judging-requires-clause-known : goal.list_judging-requires-clause-known
@@ -83,6 +86,8 @@ invariant_of-self-2 c =
     let here : length (judging_values at) + 1 ≡ c.len-number.result + 1 = omega (arith, n, inside.judgings.ok, count_is at) in
     let listed : IsListed inside.rule (judging_values c.push.new.self.items) inside.leases.leases c.list_judging.new.tasks =
     rw value (c.list_judging.ensures.listed inside.rule c.args.mode (judging_values at) inside.leases.leases here (c.make_room.ensures.listed inside.rule (judging_values at) inside.leases.leases c.self.invariant.listed)) in
+    let cells : AreOnEmptyCells (judging_values c.push.new.self.items) inside.leases.leases =
+    rw value (added_cells (judging_values at) (empty_judging c.args.class c.args.tests c.args.mode c.args.asked) inside.leases.leases c.self.invariant.cells) in
     let size = c.list_judging.ensures.count in
     let more : length c.push.new.self.items ≡ length at + 1 = ap length pushed ∙ length_push at judging in
     let none : length c.new.result.items ≡ 0 = ap length c.new.ensures.items in

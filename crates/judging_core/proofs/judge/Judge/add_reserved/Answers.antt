@@ -4,9 +4,11 @@ use Rattle.std.proofs.lemmas.List.Elements.{All-push}
 use Rattle.farm_model.specs.Judgings.{Judging, task_of, empty_judging}
 use Rattle.judging_core.specs.JudgeValue.{JudgeValue}
 use Rattle.judging_core.specs.JudgeShape.{judging_value, judging_values, IsWellKept, AreWellKept, IsRuledBy, AreRuledBy, ArePrepared}
+use Rattle.judging_core.specs.Holding.{AreOnEmptyCells}
 use Rattle.judging_core.specs.Listed.{IsListed}
 use Rattle.judging_core.specs.declared.judgings.KeptJudging.{KeptJudging}
 use Rattle.judging_core.proofs.Listed.{count_is, ahead_kept}
+use Rattle.judging_core.proofs.Cells.{added_cells}
 use Rattle.judging_core.proofs.judge.Judge.add_reserved.Goals as goal
 
 one_more : {X : Type 0} (n : ℕ) (pushed : Bool) (xs : List X) (x : X) → length xs < n → length (if pushed then xs ++ x ∷ [] else xs) ≤ n
@@ -52,6 +54,8 @@ invariant_of-self-2 c =
     rw value (c.list_judging.ensures.listed inside.rule c.args.mode (judging_values at) inside.leases.leases here c.self.invariant.listed) in
     let less : length c.push_reserved.new.self.items + length c.take_prepared.new.prepared.items ≤ length at + length inside.prepared.items =
     omega (arith, l, p, inside.judgings.ok, inside.prepared.ok, c.push_reserved.new.self.ok, c.take_prepared.new.prepared.ok) in
+    let cells : AreOnEmptyCells (judging_values c.push_reserved.new.self.items) inside.leases.leases =
+    rw value (added_cells (judging_values at) (empty_judging c.args.class c.args.tests c.args.mode c.args.asked) inside.leases.leases c.self.invariant.cells) in
     let size = c.list_judging.ensures.count in
     let ahead : (k : ℕ) → k ≤ length c.push_reserved.new.self.items + length c.take_prepared.new.prepared.items → k ≤ 400000 → k ≤ length c.list_judging.new.tasks =
     ahead_kept (length at + length inside.prepared.items) (length c.push_reserved.new.self.items + length c.take_prepared.new.prepared.items) (length inside.tasks) (length c.list_judging.new.tasks) c.self.invariant.ahead less (omega (arith, size)) in

@@ -1,6 +1,5 @@
 use Rattle.std.proofs.Common.{ℕ, ◌≡◌, ◌∙◌, List, Some, sym, ap, subst}
 use Rattle.farm_kinds.specs.declared.outcomes.Answer.{Answer}
-use Rattle.farm_kinds.specs.declared.outcomes.Mode.{Mode}
 use Rattle.farm_kinds.specs.RuleValue.{RuleValue}
 use Rattle.farm_model.specs.Numbered.{item_of}
 use Rattle.farm_model.specs.Rows.{answer_of}

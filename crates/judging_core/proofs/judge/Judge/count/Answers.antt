@@ -1,18 +1,31 @@
-use Rattle.std.proofs.Common.{ℕ, ◌≡◌, ◌≤◌, ◌+◌, ◌∙◌, Some, None, rules, not, ap, sym, subst, arith, length, List, false}
+use Rattle.std.proofs.Common.{ℕ, ◌≡◌, ◌≤◌, ◌+◌, ◌∙◌, Some, None, rules, not, refl, ap, sym, subst, arith, length, List, false}
 use Rattle.farm_model.specs.Leases.{same_task, without_task}
 use Rattle.farm_model.specs.Judgings.{task_of}
-use Rattle.judging_core.specs.Holding.{IsHeldWell}
+use Rattle.judging_core.specs.Holding.{IsHeldWell, AreOnEmptyCells}
 use Rattle.farm_model.specs.Judgings.{Judging, cell_of, with_result}
 use Rattle.task_tree.specs.Shown.{HasTask}
 use Rattle.judging_core.specs.declared.judgings.KeptJudging.{KeptJudging}
 use Rattle.judging_core.proofs.Shown.{size_shown}
 use Rattle.lazy_stop.specs.Matters.{IsPossible}
-use Rattle.judging_core.specs.JudgeValue.{JudgeValue}
+use Rattle.judging_core.specs.JudgeValue.{JudgeValue, in_state}
+use Rattle.judging_core.specs.JudgeLayout.{judge_value}
 use Rattle.judging_core.specs.JudgeShape.{judging_values, AreRuledBy}
 use Rattle.judging_core.specs.Listed.{IsListed}
-use Rattle.judging_core.proofs.Listed.{result_listed, result_closed, closed_hidden, cell_in_room, ahead_kept}
+use Rattle.judging_core.proofs.Listed.{cell_there, result_listed, result_closed, closed_hidden, cell_in_room, ahead_kept}
+use Rattle.judging_core.proofs.Items.{item_within}
+use Rattle.judging_core.proofs.Cells.{filled_cells}
+use Rattle.judging_core.proofs.Vain.{vain_held, vain_cells, vain_listed}
+use Rattle.farm_kinds.specs.RuleValue.{RuleValue}
+use Rattle.farm_model.specs.declared.records.Lease.{Lease}
+use Rattle.farm_model.specs.Numbered.{item_of}
+use Rattle.farm_model.specs.Judge.{without_vain, counted}
+use Rattle.lease_book.specs.Book.{room}
 use Rattle.judging_core.proofs.Held.{some_held}
 use Rattle.judging_core.proofs.judge.Judge.count.Goals as goal
+
+-- the test of a cell is one from 1 on
+test_from_1 : (js : List Judging) (j test : ℕ) → cell_of js j test ≡ Some None → 1 ≤ test
+test_from_1 js j test e = let at = cell_there js j test (item_of js j) refl e in (item_within at.0.row test None at.2).0
 
 seen_empty : (judgings : List KeptJudging) (judge : JudgeValue) (j test : ℕ) → judging_values judgings ≡ judge.state.judgings → cell_of judge.state.judgings j test ≡ Some None → cell_of (judging_values judgings) j test ≡ Some None
 seen_empty judgings judge j test e empty = ap (λ (js : List Judging). cell_of js j test) e ∙ empty
@@ -23,18 +36,57 @@ hide_task-requires c =
     cell_in_room at.judgings.items at.tasks c.args.judging c.args.test c.self.invariant.rows c.self.invariant.listed.wide (c.self.invariant.ahead (length at.judgings.items) (omega arith) c.self.invariant.few)
     (seen_empty at.judgings.items c.args.self.now c.args.judging c.args.test (ap (λ (v : JudgeValue). v.state.judgings) c.self.view_is) c.requires.empty)
 
+-- the judgings are seen through a slice
+ended_in_vain : (rule : RuleValue) (seen js : List KeptJudging) (values : List Judging) (old left new : List Lease) (j : ℕ) → seen ≡ js → judging_values js ≡ values → old ≡ left
+    → ((r : RuleValue) → AreRuledBy r seen → new ≡ without_vain r (judging_values seen) j old) → AreRuledBy rule js → new ≡ without_vain rule values j left
+ended_in_vain rule seen js values old left new j e v l ended ruled =
+    ended rule (subst (AreRuledBy rule) (sym e) ruled)
+    ∙ ap (λ (xs : List KeptJudging). without_vain rule (judging_values xs) j old) e
+    ∙ ap (λ (xs : List Judging). without_vain rule xs j old) v
+    ∙ ap (without_vain rule values j) l
+
+pub end_in_vain-requires-clause-cells : goal.end_in_vain-requires-clause-cells
+end_in_vain-requires-clause-cells c =
+    let at = c.self.inside in
+    let empty = seen_empty at.judgings.items c.args.self.now c.args.judging c.args.test (ap (λ (v : JudgeValue). v.state.judgings) c.self.view_is) c.requires.empty in
+    rw (c.deref.ensures.value, c.fill.ensures.value, c.end.ensures.leases) (filled_cells (judging_values at.judgings.items) at.leases.leases c.args.judging c.args.test c.args.given (test_from_1 (judging_values at.judgings.items) c.args.judging c.args.test empty) c.self.invariant.cells)
+
 pub invariant_of-self : goal.invariant_of-self
 invariant_of-self c =
     let at = c.self.inside in
-    let held : IsHeldWell at.hosts c.end.new.self.leases = rw c.end.ensures.leases (some_held at.hosts (λ lease. not (same_task lease.task (task_of c.args.judging c.args.test))) at.leases.leases c.self.invariant.held) in
-    let ruled : AreRuledBy at.rule c.fill.new.judgings.items = c.fill.ensures.ruled at.rule c.self.invariant.ruled in
-    let empty : cell_of (judging_values at.judgings.items) c.args.judging c.args.test ≡ Some None = ap (λ (v : JudgeValue). cell_of v.state.judgings c.args.judging c.args.test) c.self.view_is ∙ c.requires.empty in
-    let possible : IsPossible at.rule c.args.given = subst (λ (v : JudgeValue). IsPossible v.state.rule c.args.given) (sym c.self.view_is) c.requires.possible in
+    let js = judging_values at.judgings.items in
     let task = task_of c.args.judging c.args.test in
+    let new = with_result js c.args.judging c.args.test c.args.given in
+    let left = without_task at.leases.leases task in
+    let empty = seen_empty at.judgings.items c.args.self.now c.args.judging c.args.test (ap (λ (v : JudgeValue). v.state.judgings) c.self.view_is) c.requires.empty in
+    let possible : IsPossible at.rule c.args.given = subst (λ (v : JudgeValue). IsPossible v.state.rule c.args.given) (sym c.self.view_is) c.requires.possible in
+    let ruled : AreRuledBy at.rule c.fill.new.judgings.items = c.fill.ensures.ruled at.rule c.self.invariant.ruled in
+    let vain : c.end_in_vain.new.leases.leases ≡ without_vain at.rule new c.args.judging left =
+    ended_in_vain at.rule c.deref.result.now c.fill.new.judgings.items new c.end.new.self.leases left c.end_in_vain.new.leases.leases c.args.judging c.deref.ensures.value c.fill.ensures.value c.end.ensures.leases c.end_in_vain.ensures.leases
+    (c.fill.ensures.ruled at.rule c.self.invariant.ruled) in
+    let held : IsHeldWell at.hosts c.end_in_vain.new.leases.leases =
+    rw vain (vain_held at.hosts at.rule new c.args.judging left (some_held at.hosts (λ lease. not (same_task lease.task task)) at.leases.leases c.self.invariant.held)) in
+    let cells : AreOnEmptyCells (judging_values c.fill.new.judgings.items) c.end_in_vain.new.leases.leases =
+    rw (c.fill.ensures.value, vain) (vain_cells at.rule new c.args.judging left (filled_cells js at.leases.leases c.args.judging c.args.test c.args.given (test_from_1 js c.args.judging c.args.test empty) c.self.invariant.cells)) in
+    let room : room c.end_in_vain.new.leases ≡ room at.leases = c.end_in_vain.ensures.room ∙ c.end.ensures.room in
     let there : HasTask at.tasks task = cell_in_room at.judgings.items at.tasks c.args.judging c.args.test c.self.invariant.rows c.self.invariant.listed.wide (c.self.invariant.ahead (length at.judgings.items) (omega arith) c.self.invariant.few) empty in
-    let closed = result_closed at.rule (judging_values at.judgings.items) (without_task at.leases.leases task) c.args.judging c.args.test c.args.given empty in
+    let closed = result_closed at.rule js (without_vain at.rule new c.args.judging left) c.args.judging c.args.test c.args.given empty in
     let size : length c.hide_task.new.self ≡ length at.tasks = ap length c.hide_task.ensures ∙ size_shown at.tasks task false in
-    let listed : IsListed at.rule (judging_values c.fill.new.judgings.items) c.end.new.self.leases c.hide_task.new.self =
-    rw (c.fill.ensures.value, c.end.ensures.leases, c.hide_task.ensures) (closed_hidden at.rule (with_result (judging_values at.judgings.items) c.args.judging c.args.test c.args.given) (without_task at.leases.leases task) at.tasks task (result_listed at.rule (judging_values at.judgings.items) at.leases.leases at.tasks c.args.judging c.args.test c.args.given c.self.invariant.listed empty possible) there closed) in
+    let listed : IsListed at.rule (judging_values c.fill.new.judgings.items) c.end_in_vain.new.leases.leases c.hide_task.new.self =
+    rw (c.fill.ensures.value, vain, c.hide_task.ensures) (closed_hidden at.rule new (without_vain at.rule new c.args.judging left) at.tasks task
+    (vain_listed at.rule new c.args.judging left at.tasks (result_listed at.rule js at.leases.leases at.tasks c.args.judging c.args.test c.args.given c.self.invariant.listed empty possible)) there closed) in
     let ahead : (k : ℕ) → k ≤ length c.fill.new.judgings.items + length at.prepared.items → k ≤ 400000 → k ≤ length c.hide_task.new.self = ahead_kept (length at.judgings.items + length at.prepared.items) (length c.fill.new.judgings.items + length at.prepared.items) (length at.tasks) (length c.hide_task.new.self) c.self.invariant.ahead (omega (arith, c.fill.ensures.count)) (omega (arith, size)) in
     search rules
+
+pub returns-clause-state : goal.returns-clause-state
+returns-clause-state c =
+    let at = c.self.inside in
+    let new = with_result (judging_values at.judgings.items) c.args.judging c.args.test c.args.given in
+    let left = without_task at.leases.leases (task_of c.args.judging c.args.test) in
+    let start : JudgeValue = judge_value at in
+    let vain : c.end_in_vain.new.leases.leases ≡ without_vain at.rule new c.args.judging left =
+    ended_in_vain at.rule c.deref.result.now c.fill.new.judgings.items new c.end.new.self.leases left c.end_in_vain.new.leases.leases c.args.judging c.deref.ensures.value c.fill.ensures.value c.end.ensures.leases c.end_in_vain.ensures.leases
+    (c.fill.ensures.ruled at.rule c.self.invariant.ruled) in
+    ap (λ (js : List Judging). record start { state = record start.state { judgings = js; leases = c.end_in_vain.new.leases.leases } }) c.fill.ensures.value
+    ∙ ap (λ (leases : List Lease). record start { state = record start.state { judgings = new; leases = leases } }) vain
+    ∙ ap (λ (v : JudgeValue). in_state v (counted v.state c.args.judging c.args.test c.args.given).0) c.self.view_is

@@ -1,0 +1,65 @@
+use Rattle.std.proofs.Common.{ℕ, ◌≡◌, ◌≤◌, ◌<◌, ◌+◌, ◌∙◌, rules, ap, sym, subst, arith, length, true, false}
+use Rattle.farm_kinds.specs.declared.outcomes.Task.{Task}
+use Rattle.farm_model.specs.declared.records.Lease.{Lease}
+use Rattle.farm_model.specs.Leases.{held_count}
+use Rattle.task_tree.specs.Shown.{HasTask}
+use Rattle.judging_core.specs.declared.judge.Judge.TheInside.{Inside}
+use Rattle.judging_core.specs.JudgeLayout.{judge_value, IsJudgeLayout}
+use Rattle.judging_core.specs.JudgeValue.{JudgeValue}
+use Rattle.judging_core.specs.Holding.{IsOfHosts, IsHeldWell, AreOnEmptyCells}
+use Rattle.judging_core.specs.JudgeShape.{judging_values, AreRuledBy}
+use Rattle.judging_core.specs.Listed.{is_open, IsListed}
+use Rattle.judging_core.specs.Batches.{is_open_task}
+use Rattle.judging_core.proofs.Shown.{size_shown}
+use Rattle.judging_core.proofs.Listed.{handed_hidden, open_there, short_rows, count_is, ahead_kept}
+use Rattle.judging_core.proofs.Held.{one_held, few_in_all, spare_left}
+use Rattle.judging_core.proofs.Cells.{open_cell, handed_cells}
+use Rattle.judging_core.proofs.judge.Judge.hand_out.Goals as goal
+
+-- what is asked of the judge's value holds of its fields
+seen_open : (at : Inside) (judge : JudgeValue) (task : Task) → judge_value at ≡ judge → is_open_task judge.state task ≡ true → is_open at.rule (judging_values at.judgings.items) at.leases.leases task ≡ true
+seen_open at judge task e o = subst (λ (v : JudgeValue). is_open_task v.state task ≡ true) (sym e) o
+
+seen_few : (at : Inside) (judge : JudgeValue) (host : ℕ) → judge_value at ≡ judge → held_count judge.state.leases host < 64 → held_count at.leases.leases host < 64
+seen_few at judge host e few = subst (λ (v : JudgeValue). held_count v.state.leases host < 64) (sym e) few
+
+seen_known : (at : Inside) (judge : JudgeValue) (lease : Lease) → judge_value at ≡ judge → 1 ≤ lease.host → lease.host ≤ judge.hosts → IsOfHosts at.hosts lease
+seen_known at judge lease e low high = (low, omega (arith, high, ap (λ (v : JudgeValue). v.hosts) e))
+
+has_room : (at : Inside) (task : Task) → IsJudgeLayout at → is_open at.rule (judging_values at.judgings.items) at.leases.leases task ≡ true → HasTask at.tasks task
+has_room at task h o =
+    let room = h.ahead (length at.judgings.items) (omega arith) h.few in
+    (open_there at.rule (judging_values at.judgings.items) at.leases.leases at.tasks task (short_rows at.judgings.items h.rows) h.listed.wide (omega (arith, room, count_is at.judgings.items)) o).1
+
+pub hide_task-requires : goal.hide_task-requires
+hide_task-requires c =
+    let at = c.self.inside in
+    has_room at c.args.task c.self.invariant (seen_open at c.args.self.now c.args.task c.self.view_is c.requires.open_)
+
+pub grant-requires-clause-spare : goal.grant-requires-clause-spare
+grant-requires-clause-spare c =
+    let at = c.self.inside in
+    let lease : Lease = record { host = c.args.host; task = c.args.task; until = at.moment + at.lease } in
+    spare_left at.hosts at.leases lease c.self.invariant.held c.self.invariant.roomy (seen_known at c.args.self.now lease c.self.view_is c.requires.numbered c.requires.known) (seen_few at c.args.self.now c.args.host c.self.view_is c.requires.few)
+
+pub grant-requires-clause-few : goal.grant-requires-clause-few
+grant-requires-clause-few c = omega (arith, few_in_all c.self.inside.hosts c.self.inside.leases.leases c.self.invariant.held)
+
+pub invariant_of-self : goal.invariant_of-self
+invariant_of-self c =
+    let at = c.self.inside in
+    let js = judging_values at.judgings.items in
+    let task = c.args.task in
+    let until = at.moment + at.lease in
+    let lease : Lease = record { host = c.args.host; task = task; until = until } in
+    let opened = seen_open at c.args.self.now task c.self.view_is c.requires.open_ in
+    let known = seen_known at c.args.self.now lease c.self.view_is c.requires.numbered c.requires.known in
+    let held : IsHeldWell at.hosts c.grant.new.self.leases = rw c.grant.ensures.leases (one_held at.hosts at.leases.leases lease c.self.invariant.held known (seen_few at c.args.self.now c.args.host c.self.view_is c.requires.few)) in
+    let ruled : AreRuledBy at.rule c.mark_handed.new.judgings.items = c.mark_handed.ensures.ruled at.rule c.self.invariant.ruled in
+    let cells : AreOnEmptyCells (judging_values c.mark_handed.new.judgings.items) c.grant.new.self.leases =
+    rw (c.mark_handed.ensures.value, c.grant.ensures.leases) (handed_cells js at.leases.leases c.args.host until task c.self.invariant.cells (open_cell at.rule js at.leases.leases task opened)) in
+    let listed : IsListed at.rule (judging_values c.mark_handed.new.judgings.items) c.grant.new.self.leases c.hide_task.new.self =
+    rw (c.mark_handed.ensures.value, c.grant.ensures.leases, c.hide_task.ensures) (handed_hidden at.rule js at.leases.leases at.tasks task c.args.host until c.self.invariant.listed (has_room at task c.self.invariant opened)) in
+    let size : length c.hide_task.new.self ≡ length at.tasks = ap length c.hide_task.ensures ∙ size_shown at.tasks task false in
+    let ahead : (k : ℕ) → k ≤ length c.mark_handed.new.judgings.items + length at.prepared.items → k ≤ 400000 → k ≤ length c.hide_task.new.self = ahead_kept (length at.judgings.items + length at.prepared.items) (length c.mark_handed.new.judgings.items + length at.prepared.items) (length at.tasks) (length c.hide_task.new.self) c.self.invariant.ahead (omega (arith, c.mark_handed.ensures.count)) (omega (arith, size)) in
+    search rules
