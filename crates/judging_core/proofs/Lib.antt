@@ -1,3 +1,4 @@
+pub mod Bits
 pub mod Changed
 pub mod Items
 pub mod Held

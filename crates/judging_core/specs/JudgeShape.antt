@@ -13,7 +13,7 @@ judging_value kept = record {
   mode = kept.mode;
   asked = kept.asked;
   row = kept.row.cells;
-  handed = kept.handed.items;
+  handed = kept.handed;
   dropped = kept.dropped;
 }
 
@@ -23,7 +23,7 @@ judging_values judgings = map judging_value judgings
 -- at most 1,000 cells, and for each whether its task was ever handed out
 pub record IsWellKept (kept : KeptJudging) : Type 0 where
   pub cells : length kept.row.cells ≤ max_tests
-  pub marks : length kept.handed.items ≡ length kept.row.cells
+  pub marks : length kept.handed ≡ length kept.row.cells
 
 abbrev pub AreWellKept : List KeptJudging → Type 0
 AreWellKept judgings = All IsWellKept judgings

@@ -411,7 +411,7 @@ impl Judge {
     {
         mark_dropped(&mut self.judgings, judging);
         self.leases.end_judging(judging);
-        let tests = self.judgings[judging as usize - 1].handed.len() as u16;
+        let tests = self.judgings[judging as usize - 1].handed.len();
         unlist_judging(&mut self.tasks, judging, tests);
     }
 

@@ -1,5 +1,5 @@
 ghost use Rattle.farm_model.specs.Limits.{max_tests};
-ghost use Rattle.std.specs.Prelude.{◌≡◌, ◌≤◌, ◌-◌, length, replicate, slice_get, slice_set, vec_len, vec_capacity, false, IfOk, IfNone, IfSome, OnSome, None, Some, IsSome};
+ghost use Rattle.std.specs.Prelude.{◌≡◌, ◌≤◌, ◌-◌, length, slice_get, slice_set, vec_len, vec_capacity, IfOk, IfNone, IfSome, OnSome, None, Some, IsSome};
 ghost use Rattle.farm_kinds.specs.RuleValue.{RuleValue};
 ghost use Rattle.farm_model.specs.Rows.{answer_of};
 ghost use Rattle.farm_model.specs.Numbered.{item_of};
@@ -10,6 +10,7 @@ ghost use Rattle.judging_core.specs.Refusals.{cell_refusal, is_never_handed};
 ghost use Rattle.std.specs.Option.{option_map};
 ghost use Rattle.judging_core.specs.JudgeShape.{judging_value, judging_values, row_length, IsWellKept, AreWellKept, IsRuledBy, AreRuledBy, CanAllHold};
 
+use crate::marks::Marks;
 use farm_kinds::{Answer, AskEnd, Class, Count, Kind, Mode, NoMemory, Rule, Task, Verdict};
 use lazy_stop::Row;
 use std::alloc::Global;
@@ -26,7 +27,7 @@ pub struct KeptJudging {
     /// One cell per test, in rank order: empty, or the kind of its result after remapping.
     pub row: Row,
     /// For each test whether its task was ever handed out.
-    pub handed: Vec<bool>,
+    pub handed: Marks,
     /// Whether it takes no more results.
     pub dropped: bool,
 }
@@ -46,7 +47,7 @@ pub fn empty_judging(
     ensures ruled { IfOk result (λ kept. IsRuledBy rule kept) }
 {
     let row = Row::new(alloc, rule, tests)?;
-    let handed = no_marks(alloc, tests)?;
+    let handed = Marks::new(alloc, tests)?;
     Ok(KeptJudging {
         class,
         mode,
@@ -55,13 +56,6 @@ pub fn empty_judging(
         handed,
         dropped: false,
     })
-}
-
-/// For each test that its task was not handed out.
-fn no_marks(alloc: Global, tests: u16) -> Result<Vec<bool>, NoMemory>
-    ensures { IfOk result (λ handed. handed.items ≡ replicate tests false) }
-{
-    vec![in alloc; false; tests as usize].map_err(|_| NoMemory)
 }
 
 /// The judging of this number.
@@ -87,7 +81,7 @@ pub fn cell_at(kept: &KeptJudging, test: u32) -> Option<Option<Kind>>
     ensures numbered { OnSome result (1 ≤ test) }
     ensures known { OnSome result (test ≤ length kept.now.row.cells) }
 {
-    if test == 0 || test as usize > kept.handed.len() {
+    if test == 0 || test > u32::from(kept.handed.len()) {
         return None;
     }
     Some(kept.row.cell(test as u16))
@@ -147,7 +141,7 @@ fn is_never_handed(judgings: &[KeptJudging], judging: u32, test: u32) -> bool
     if cell_at(kept, test).is_none() {
         return false;
     }
-    !kept.handed[test as usize - 1]
+    !kept.handed.has(test as u16)
 }
 
 /// Why a result of this cell does not count: it holds a kind, or its judging was dropped.
@@ -214,7 +208,7 @@ pub fn mark_handed(judgings: &mut Vec<KeptJudging>, task: Task)
     ensures capacity { vec_capacity judgings.new ≡ vec_capacity judgings.old }
 {
     let kept = &mut judgings[task.judging as usize - 1];
-    kept.handed[task.test as usize - 1] = true;
+    kept.handed.mark(task.test);
 }
 
 /// Why a judging cannot be asked for.
@@ -259,7 +253,7 @@ pub fn test_count(judgings: &[KeptJudging], judging: u32) -> u16
     ensures count { option_map row_length (item_of (judging_values judgings.now) judging) ≡ Some result }
     ensures short { result ≤ max_tests }
 {
-    judgings[judging as usize - 1].handed.len() as u16
+    judgings[judging as usize - 1].handed.len()
 }
 
 /// Marks the judging as dropped: it takes no more results.

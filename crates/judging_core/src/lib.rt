@@ -10,6 +10,7 @@
 mod judge;
 mod judgings;
 mod listing;
+mod marks;
 mod open;
 mod prepared;
 #[cfg(test)]

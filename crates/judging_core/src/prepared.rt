@@ -83,7 +83,7 @@ pub fn is_next(prepared: &[KeptJudging], tests: u16) -> bool
     ensures { result ≡ starts_with (reserved_of prepared.now) tests }
 {
     match prepared.last() {
-        Some(kept) => kept.handed.len() == tests as usize,
+        Some(kept) => kept.handed.len() == tests,
         None => false,
     }
 }
