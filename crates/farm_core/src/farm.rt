@@ -97,6 +97,7 @@ impl Farm {
                 broken,
             } => self.contest.submit(*problem, *class, *broken),
             Event::Claim { host } => self.contest.claim(*host),
+            Event::Fetch { host, most } => self.contest.fetch(*host, *most),
             Event::Result {
                 host,
                 judging,
@@ -116,6 +117,7 @@ impl Farm {
             Event::Tick { moment } => self.contest.tick(*moment),
             Event::Down { host } => self.contest.bring_down(*host),
             Event::Show { judging } => self.contest.show(*judging),
+            Event::Owner { judging } => self.contest.owner(*judging),
             Event::Board => self.contest.board(),
             Event::Matrix { rejudging } => self.contest.matrix(*rejudging),
             Event::Audit => self.audit_head(),

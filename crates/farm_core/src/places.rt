@@ -1,7 +1,7 @@
 ghost use Rattle.std.specs.Prelude.{◌≡◌, ◌≤◌};
 ghost use Rattle.farm_model.specs.Limits.{max_tests};
 ghost use Rattle.farm_model.specs.Numbered.{with_change};
-ghost use Rattle.farm_model.specs.State.{is_verified};
+ghost use Rattle.farm_model.specs.State.{is_verified, owner_of};
 ghost use Rattle.farm_model.specs.Changes.{cells_for, mark_verified};
 ghost use Rattle.farm_core.specs.FarmShape.{AreShort};
 
@@ -14,6 +14,16 @@ pub fn is_verified(details: &[JudgingDetails], judging: u32) -> bool
     match item_of(details, judging) {
         Some(judged) => judged.verified,
         None => false,
+    }
+}
+
+/// The submission that the judging of this number is of. 0 where there is no such judging.
+pub fn owner_of(details: &[JudgingDetails], judging: u32) -> u32
+    ensures { result ≡ owner_of details.now judging }
+{
+    match item_of(details, judging) {
+        Some(judged) => judged.submission,
+        None => 0,
     }
 }
 

@@ -1,9 +1,9 @@
 ghost use Rattle.std.specs.Prelude.{◌≡◌, ◌≢◌};
 ghost use Rattle.farm_kinds.specs.declared.events.Reply.TheVariants as reply;
-ghost use Rattle.farm_model.specs.Refusals.{claim_reply, count_reply, renewed_reply};
+ghost use Rattle.farm_model.specs.Refusals.{claim_reply, fetch_reply, count_reply, renewed_reply};
 ghost use Rattle.farm_core.specs.FarmShape.{fault_reply};
 
-use farm_kinds::{Claim, Count, MAX_HELD, Renewed, Reply};
+use farm_kinds::{Claim, Count, Fetched, MAX_HELD, Renewed, Reply};
 use rejudge_book::BookFault;
 
 /// What becomes of a result, as a reply.
@@ -29,6 +29,25 @@ pub fn claim_reply(claim: Claim) -> Reply
         Claim::Holding => Reply::Holding { limit: MAX_HELD },
         Claim::Nothing => Reply::Nothing,
         Claim::Handed { task, until } => Reply::Handed { task, until },
+    }
+}
+
+/// What a fetch is answered, as a reply.
+pub fn fetch_reply(fetched: Fetched) -> Reply
+    ensures { result ≡ fetch_reply fetched }
+{
+    match fetched {
+        Fetched::Holding => Reply::Holding { limit: MAX_HELD },
+        Fetched::Nothing => Reply::Nothing,
+        Fetched::Batch {
+            judging,
+            tests,
+            until,
+        } => Reply::Batch {
+            judging,
+            tests,
+            until,
+        },
     }
 }
 

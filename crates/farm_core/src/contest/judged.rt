@@ -2,7 +2,7 @@ ghost use Rattle.farm_kinds.specs.declared.events.Event.TheVariants as events;
 ghost use Rattle.farm_model.specs.Farm.{Stepped};
 
 use super::Contest;
-use crate::replies::{claim_reply, count_reply, renewed_reply};
+use crate::replies::{claim_reply, count_reply, fetch_reply, renewed_reply};
 use farm_kinds::{Kind, Name, Reply};
 
 impl Contest {
@@ -12,6 +12,16 @@ impl Contest {
     {
         match self.up_number(&host) {
             Some(number) => claim_reply(self.judge.claim(number)),
+            None => Reply::NoHost { name: host },
+        }
+    }
+
+    /// A host asks for tasks of one judging, which it then holds for as long as the settings say.
+    pub fn fetch(&mut self, host: Name, most: u8) -> Reply
+        ensures { Stepped self.old (events.Fetch host most) self.new result }
+    {
+        match self.up_number(&host) {
+            Some(number) => fetch_reply(self.judge.fetch(number, most)),
             None => Reply::NoHost { name: host },
         }
     }
@@ -33,7 +43,7 @@ impl Contest {
         count_reply(judging, test, self.judge.enter(judging, test, kind))
     }
 
-    /// A host asks to hold its task for as long again, from now on.
+    /// A host asks to hold its task, and the others of its judging that it holds, for as long again, from now on.
     pub fn renew(&mut self, host: Name, judging: u32, test: u32) -> Reply
         ensures { Stepped self.old (events.Renew host judging test) self.new result }
     {

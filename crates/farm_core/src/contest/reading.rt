@@ -4,7 +4,7 @@ ghost use Rattle.farm_model.specs.State.{answer_at, public_answer, public_answer
 ghost use Rattle.farm_model.specs.Farm.{Stepped};
 
 use super::Contest;
-use crate::places::is_verified;
+use crate::places::{is_verified, owner_of};
 use farm_kinds::{Answer, Answers, NoMemory, Reply};
 
 impl Contest {
@@ -15,6 +15,18 @@ impl Contest {
         match self.judge.answer(judging) {
             Some(answer) => Reply::Shown(answer),
             None => Reply::NoJudging { judging },
+        }
+    }
+
+    /// The submission that a judging is of.
+    pub fn owner(&self, judging: u32) -> Reply
+        ensures { Stepped self.now (events.Owner judging) self.now result }
+    {
+        if self.judge.answer(judging).is_none() {
+            return Reply::NoJudging { judging };
+        }
+        Reply::Owned {
+            submission: owner_of(&self.details, judging),
         }
     }
 

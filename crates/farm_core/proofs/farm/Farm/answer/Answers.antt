@@ -9,6 +9,11 @@ returns-in-Claim c =
     by_contest c.self.inside.contest c.claim.new.self c.args.self.now c.self.inside.audit.texts c.args.event.now _ c.claim.result
     c.self.view_is c.in-Claim.is (record { unaudited = refl; other = λ e. cc }) c.claim.ensures
 
+pub returns-in-Fetch : goal.returns-in-Fetch
+returns-in-Fetch c =
+    by_contest c.self.inside.contest c.fetch.new.self c.args.self.now c.self.inside.audit.texts c.args.event.now _ c.fetch.result
+    c.self.view_is c.in-Fetch.is (record { unaudited = refl; other = λ e. cc }) c.fetch.ensures
+
 pub returns-in-Result : goal.returns-in-Result
 returns-in-Result c =
     by_contest c.self.inside.contest c.result.new.self c.args.self.now c.self.inside.audit.texts c.args.event.now _ c.result.result
