@@ -1,5 +1,5 @@
 -- What the pass of a host enters.
-use Rattle.std.proofs.Common.{◌≡◌, Bool, true, false, List, [], ◌∷◌, ◌++◌, Option, Some, None, refl, sym, ap, ◌∙◌, subst, eqb-true, eq-eqb, ℕ}
+use Rattle.std.proofs.Common.{◌≡◌, Bool, true, List, [], ◌∷◌, ◌++◌, Option, Some, None, refl, sym, ap, ◌∙◌, subst, eq-eqb, ℕ}
 use Rattle.std.proofs.lemmas.Slice.Eq.{bytes_eq-Decides}
 use Rattle.std.specs.Prelude.{Ok}
 use Rattle.std.specs.List.{list_all}
@@ -14,12 +14,11 @@ use Rattle.farm_kinds.specs.declared.events.Reply.{Reply}
 use Rattle.farm_kinds.specs.declared.events.Reply.TheVariants as replies
 use Rattle.farm_model.specs.Rows.{same_kind}
 use Rattle.farm_model.specs.Judgings.{task_of}
-use Rattle.farm_model.specs.Replay.{given_by}
 use Rattle.case_run.specs.Cases.{TestCase}
 use Rattle.case_run.specs.Values.{case_value}
 use Rattle.farm_board.specs.Benches.{is_host_entry, pending_case, posted_by}
-use Rattle.farm_board.specs.Passes.{PassValue, Calls, call_of}
-use Rattle.farm_board.specs.Trusts.{Admits, is_value_of, IsAdmitted}
+use Rattle.farm_board.specs.Passes.{PassValue, call_of}
+use Rattle.farm_board.specs.Trusts.{Admits, is_value_of}
 use Rattle.farm_board.specs.declared.entries.Entry.{Entry}
 use Rattle.farm_board.specs.declared.entries.Entry.TheVariants as entry
 

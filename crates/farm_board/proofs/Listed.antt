@@ -5,15 +5,17 @@ use Rattle.farm_kinds.specs.declared.events.Event.TheVariants as event
 use Rattle.farm_kinds.specs.declared.events.Reply.{Reply}
 use Rattle.farm_kinds.specs.declared.outcomes.Claim.{Claim}
 use Rattle.farm_kinds.specs.declared.outcomes.Claim.TheVariants as claim
+use Rattle.farm_kinds.specs.declared.outcomes.Fetched.{Fetched}
+use Rattle.farm_kinds.specs.declared.outcomes.Fetched.TheVariants as fetch
 use Rattle.farm_kinds.specs.declared.outcomes.Count.{Count}
 use Rattle.farm_kinds.specs.declared.outcomes.Count.TheVariants as count
 use Rattle.farm_kinds.specs.declared.outcomes.Renewed.{Renewed}
 use Rattle.farm_kinds.specs.declared.outcomes.Renewed.TheVariants as lease
-use Rattle.farm_model.specs.State.{State, host_number, up_number}
+use Rattle.farm_model.specs.State.{State, up_number}
 use Rattle.farm_model.specs.Numbered.{number_or_0}
-use Rattle.farm_model.specs.Judge.{judge_claim, judge_result, judge_enter, judge_renew}
+use Rattle.farm_model.specs.Judge.{judge_claim, judge_fetch, judge_result, judge_enter, judge_renew}
 use Rattle.farm_model.specs.Refusing.{refused_or}
-use Rattle.farm_model.specs.Refusals.{refusal_of, claim_reply, count_reply, renewed_reply}
+use Rattle.farm_model.specs.Refusals.{refusal_of, claim_reply, fetch_reply, count_reply, renewed_reply}
 use Rattle.farm_model.specs.Changes.{accepted}
 use Rattle.farm_model.specs.Farm.{farm_step}
 use Rattle.farm_board.specs.Copies.{has_list}
@@ -22,6 +24,11 @@ unlisted_claim : (c : Claim) → has_list (claim_reply c) ≡ false
 unlisted_claim claim.Holding = refl
 unlisted_claim claim.Nothing = refl
 unlisted_claim (claim.Handed task until) = refl
+
+unlisted_fetch : (f : Fetched) → has_list (fetch_reply f) ≡ false
+unlisted_fetch fetch.Holding = refl
+unlisted_fetch fetch.Nothing = refl
+unlisted_fetch (fetch.Batch judging tests until) = refl
 
 unlisted_count : (j test : ℕ) → (c : Count) → has_list (count_reply j test c) ≡ false
 unlisted_count j test count.NoJudging = refl
@@ -51,6 +58,8 @@ listed_accepted s (event.Host name) h = refuted h
 listed_accepted s (event.Submit problem class broken) h = refuted h
 listed_accepted s (event.Claim host) h =
     let r = judge_claim s.judge (number_or_0 (up_number s.hosts host)) in never (has_list (claim_reply r.1)) (unlisted_claim r.1) h
+listed_accepted s (event.Fetch host most) h =
+    let r = judge_fetch s.judge (number_or_0 (up_number s.hosts host)) most in never (has_list (fetch_reply r.1)) (unlisted_fetch r.1) h
 listed_accepted s (event.Result host j test kind) h =
     let r = judge_result s.judge j test kind in never (has_list (count_reply j test r.1)) (unlisted_count j test r.1) h
 listed_accepted s (event.Entry j test kind) h =
@@ -61,6 +70,7 @@ listed_accepted s (event.Renew host j test) h =
 listed_accepted s (event.Tick moment) h = refuted h
 listed_accepted s (event.Down host) h = refuted h
 listed_accepted s (event.Show j) h = refl
+listed_accepted s (event.Owner j) h = refl
 listed_accepted s event.Board h = refl
 listed_accepted s (event.Rejudge who list) h = refuted h
 listed_accepted s (event.Matrix r) h = refl

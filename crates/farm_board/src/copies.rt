@@ -56,6 +56,10 @@ pub(crate) fn copy_event(alloc: Global, event: &Event) -> Result<Event, NoMemory
             broken: *broken,
         },
         Event::Claim { host } => Event::Claim { host: *host },
+        Event::Fetch { host, most } => Event::Fetch {
+            host: *host,
+            most: *most,
+        },
         Event::Result {
             host,
             judging,
@@ -88,6 +92,7 @@ pub(crate) fn copy_event(alloc: Global, event: &Event) -> Result<Event, NoMemory
         Event::Tick { moment } => Event::Tick { moment: *moment },
         Event::Down { host } => Event::Down { host: *host },
         Event::Show { judging } => Event::Show { judging: *judging },
+        Event::Owner { judging } => Event::Owner { judging: *judging },
         Event::Board => Event::Board,
         Event::Rejudge { who, list } => Event::Rejudge {
             who: *who,
@@ -138,6 +143,15 @@ pub(crate) fn copy_reply(alloc: Global, reply: &Reply) -> Result<Reply, NoMemory
             task: *task,
             until: *until,
         },
+        Reply::Batch {
+            judging,
+            tests,
+            until,
+        } => Reply::Batch {
+            judging: *judging,
+            tests: *tests,
+            until: *until,
+        },
         Reply::Nothing => Reply::Nothing,
         Reply::Counted => Reply::Counted,
         Reply::Repeat { kept } => Reply::Repeat { kept: *kept },
@@ -149,6 +163,9 @@ pub(crate) fn copy_reply(alloc: Global, reply: &Reply) -> Result<Reply, NoMemory
         Reply::Until { until } => Reply::Until { until: *until },
         Reply::Ended { count } => Reply::Ended { count: *count },
         Reply::Shown(x) => Reply::Shown(*x),
+        Reply::Owned { submission } => Reply::Owned {
+            submission: *submission,
+        },
         Reply::Board { rows } => Reply::Board {
             rows: copy_answers(alloc, rows)?,
         },

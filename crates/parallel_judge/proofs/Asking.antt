@@ -1,5 +1,5 @@
 -- Judgings that wait are asked for, and then each judging of a contest can be run.
-use Rattle.std.proofs.Common.{ℕ, zero, suc, ◌≡◌, ◌≢◌, ◌+◌, ◌≤◌, ◌⊎◌, List, [], ◌∷◌, Option, Some, None, Bool, true, false, cond, refl, sym, ap, ◌∙◌, subst, arith, inl, inr, length, map, slice_get}
+use Rattle.std.proofs.Common.{ℕ, zero, suc, ◌≡◌, ◌+◌, ◌≤◌, ◌⊎◌, List, [], ◌∷◌, Option, Some, Bool, true, false, cond, refl, sym, ap, ◌∙◌, subst, arith, inl, inr, length, map, slice_get}
 use Rattle.std.specs.Prelude.{IsSome}
 use Rattle.std.specs.Option.{option_map, unwrap_or, is_some}
 use Rattle.std.proofs.lemmas.Bool.{cases_eq}
@@ -9,8 +9,6 @@ use Rattle.farm_kinds.specs.declared.outcomes.NamedMode.{NamedMode}
 use Rattle.farm_kinds.specs.declared.outcomes.Task.{Task}
 use Rattle.farm_kinds.specs.declared.events.Event.TheVariants as event
 use Rattle.farm_kinds.specs.declared.events.Reply.{Reply}
-use Rattle.farm_model.specs.declared.records.Host.{Host}
-use Rattle.farm_model.specs.declared.records.Lease.{Lease}
 use Rattle.farm_model.specs.Numbered.{item_of}
 use Rattle.farm_model.specs.Refusing.{when, unless, first_of, refused_or}
 use Rattle.farm_model.specs.Judgings.{Judging, task_of, is_dropped, is_asked, mark_asked, with_asked}
@@ -23,7 +21,7 @@ use Rattle.farm_laws.proofs.Items.{change_other}
 use Rattle.farm_laws.proofs.Kept.{lengths_of, changed_same}
 use Rattle.case_run.specs.Cases.{TestCase}
 use Rattle.parallel_judge.specs.Entering.{NamedSubmission, waiting, ask_event}
-use Rattle.parallel_judge.specs.Working.{IsRunnable, AreRunnable, row_lengths}
+use Rattle.parallel_judge.specs.Working.{AreRunnable, row_lengths}
 use Rattle.parallel_judge.proofs.HostEvents.{changed_was}
 
 -- ---- one judging is asked for

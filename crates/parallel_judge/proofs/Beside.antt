@@ -1,6 +1,5 @@
 -- What the opening pass knows while passes of hosts are out, and once it has taken them in.
-use Rattle.std.proofs.Common.{◌≡◌, ◌≢◌, ℕ, zero, suc, ◌+◌, ◌≤◌, ◌⊎◌, ◌||◌, Bool, true, false, Option, List, [], ◌∷◌, ◌++◌, length, map, eqb, refl, sym, ap, ◌∙◌, subst, inl, inr, ⊎_elim, arith, eq-eqb}
-use Rattle.std.specs.Prelude.{if◌then◌else◌}
+use Rattle.std.proofs.Common.{◌≡◌, ℕ, Option, List, [], ◌∷◌, ◌++◌, sym, ap, ◌∙◌, subst, ⊎_elim}
 use Rattle.std.specs.Prelude.{All}
 use Rattle.std.proofs.lemmas.List.{append_assoc, append-nil}
 use Rattle.std.proofs.lemmas.List.Elements.{All-nil, All-cons, All-head, All-tail}
@@ -8,13 +7,13 @@ use Rattle.farm_kinds.specs.declared.outcomes.Task.{Task}
 use Rattle.farm_kinds.specs.declared.events.Event.{Event}
 use Rattle.case_run.specs.Cases.{TestCase}
 use Rattle.farm_board.specs.BoardState.{BoardState}
-use Rattle.farm_board.specs.Histories.{is_in, IsOpening, IsLegal, entries_by}
+use Rattle.farm_board.specs.Histories.{IsOpening, IsLegal, entries_by}
 use Rattle.farm_board.specs.Passes.{PassValue, SplitsOff, TakesIn, IsJoined}
 use Rattle.farm_board.specs.declared.entries.Call.{Call}
 use Rattle.farm_board.specs.declared.entries.Entry.{Entry}
 use Rattle.farm_board.specs.declared.entries.Entry.TheVariants as entry
-use Rattle.farm_board.proofs.Numbers.{in_either, in_from, in_front, in_end}
-use Rattle.farm_board.proofs.Histories.{after_call_out, next_out, entries_append, entries_mine}
+use Rattle.farm_board.proofs.Numbers.{in_either, in_front, in_end}
+use Rattle.farm_board.proofs.Histories.{entries_append}
 use Rattle.farm_board.proofs.Callers.{joined_grows, joined_joins, joins}
 use Rattle.parallel_judge.specs.Hosts.{as_entries, HasEntered, EachEntry, IsHostEntry, IsSeatEntry, IsBeside}
 use Rattle.parallel_judge.proofs.Opening.{own_calls}

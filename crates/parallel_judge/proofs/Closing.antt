@@ -1,7 +1,7 @@
 -- The farm and the journal once the board is closed.
-use Rattle.std.proofs.Common.{◌≡◌, ◌≢◌, ℕ, ◌+◌, ◌≤◌, ◌<◌, Bool, true, false, List, [], ◌∷◌, ◌++◌, Option, Some, None, map, refl, sym, ap, ◌∙◌, subst}
+use Rattle.std.proofs.Common.{◌≡◌, ℕ, ◌+◌, Bool, true, false, List, [], ◌∷◌, ◌++◌, Option, Some, None, map, refl, sym, ap, ◌∙◌, subst}
 use Rattle.std.specs.Prelude.{is_some}
-use Rattle.std.proofs.lemmas.List.{append_assoc, append-nil}
+use Rattle.std.proofs.lemmas.List.{append-nil}
 use Rattle.farm_kinds.specs.declared.outcomes.NamedMode.{NamedMode}
 use Rattle.farm_kinds.specs.declared.outcomes.Task.{Task}
 use Rattle.farm_kinds.specs.declared.events.Event.{Event}
@@ -12,7 +12,7 @@ use Rattle.farm_laws.specs.Laws.{reached}
 use Rattle.farm_laws.proofs.Each.{Each, each_append}
 use Rattle.case_run.specs.Cases.{TestCase}
 use Rattle.farm_board.specs.BoardState.{BoardState}
-use Rattle.farm_board.specs.Histories.{is_no_memory, opening_board, empty_journal, board_after, IsLegal, call_unless, effective_calls, journal_with_calls}
+use Rattle.farm_board.specs.Histories.{is_no_memory, opening_board, empty_journal, board_after, call_unless, effective_calls, journal_with_calls}
 use Rattle.farm_board.specs.Passes.{PassValue, board_seen}
 use Rattle.farm_board.specs.declared.entries.Call.{Call}
 use Rattle.farm_board.specs.declared.entries.Entry.{Entry}

@@ -1,15 +1,13 @@
 -- The hosts die one after the other, and then the caller is a host.
-use Rattle.std.proofs.Common.{ℕ, zero, suc, ◌≡◌, ◌+◌, ◌-◌, ◌<◌, ◌≤◌, List, [], ◌∷◌, ◌++◌, Option, Some, None, Bool, true, false, cond, eqb, refl, sym, ap, ◌∙◌, subst, arith, length, map, set, slice_get, nat_lt, nat_le}
+use Rattle.std.proofs.Common.{ℕ, zero, suc, ◌≡◌, ◌+◌, ◌-◌, ◌<◌, List, [], ◌∷◌, ◌++◌, Option, Some, None, Bool, true, false, cond, eqb, refl, sym, ap, ◌∙◌, subst, arith, length, map, set, slice_get, nat_lt}
 use Rattle.std.specs.Prelude.{not, ◌&&◌, ◌≢◌, All, is_some, is_none, IsSome}
 use Rattle.std.specs.Option.{option_map}
-use Rattle.std.specs.List.{filter, position, position_or_len}
+use Rattle.std.specs.List.{position_or_len}
 use Rattle.std.specs.Str.{bytes_eq}
 use Rattle.std.proofs.lemmas.List.{length-append, append_assoc, append-nil}
 use Rattle.std.proofs.lemmas.List.Elements.{All-nil}
-use Rattle.std.proofs.lemmas.Bool.{eqb-true}
 use Rattle.std.proofs.lemmas.Bool.Decides.{nat_tests}
 use Rattle.std.proofs.lemmas.Slice.Eq.{bytes_eq-Decides}
-use Rattle.farm_kinds.specs.declared.kinds.Kind.{Kind}
 use Rattle.farm_kinds.specs.declared.outcomes.Task.{Task}
 use Rattle.farm_kinds.specs.declared.events.Event.{Event}
 use Rattle.farm_kinds.specs.declared.events.Event.TheVariants as event
@@ -18,21 +16,21 @@ use Rattle.farm_kinds.specs.declared.events.Reply.TheVariants as reply
 use Rattle.farm_model.specs.declared.records.Host.{Host}
 use Rattle.farm_model.specs.declared.records.Lease.{Lease}
 use Rattle.farm_model.specs.Limits.{max_hosts}
-use Rattle.farm_model.specs.Numbered.{item_of, with_item, number_or_0, number_where}
+use Rattle.farm_model.specs.Numbered.{with_item, number_or_0}
 use Rattle.farm_model.specs.Refusing.{when, unless, first_of, refused_or}
-use Rattle.farm_model.specs.Refusals.{is_full, host_refusal, refusal_of}
-use Rattle.farm_model.specs.Changes.{by_judge, host_as, hosts_with, with_host, with_host_down, accepted}
-use Rattle.farm_model.specs.Leases.{holds, without_host}
+use Rattle.farm_model.specs.Refusals.{is_full, host_refusal}
+use Rattle.farm_model.specs.Changes.{by_judge, host_as, hosts_with, with_host, with_host_down}
+use Rattle.farm_model.specs.Leases.{without_host}
 use Rattle.farm_model.specs.Judge.{judge_down}
 use Rattle.farm_model.specs.State.{State, SettingsValue, up_number, host_number}
 use Rattle.farm_model.specs.Farm.{farm_step}
-use Rattle.farm_model.specs.Replay.{given_by, counted_in, AgreesWith}
-use Rattle.farm_laws.proofs.Each.{Each, each_append}
+use Rattle.farm_model.specs.Replay.{given_by, AgreesWith}
+use Rattle.farm_laws.proofs.Each.{Each}
 use Rattle.case_run.specs.Cases.{TestCase}
-use Rattle.parallel_judge.specs.Working.{truth_of, IsHonestRun, IsReady, IsEntered}
-use Rattle.parallel_judge.specs.UnderWay.{hosts_of, IsHeldAfter, AreHeldAfter, IsUnderWay}
+use Rattle.parallel_judge.specs.Working.{truth_of, IsHonestRun, IsEntered}
+use Rattle.parallel_judge.specs.UnderWay.{hosts_of, AreHeldAfter, IsUnderWay}
 use Rattle.parallel_judge.proofs.Runs.{goes_on}
-use Rattle.parallel_judge.proofs.Contests.{does, counts_none, none_found, not_there, less_than}
+use Rattle.parallel_judge.proofs.Contests.{does, counts_none, none_found, less_than}
 use Rattle.parallel_judge.proofs.HostEvents.{passed_over, number_after, down_fails, mapped_length}
 
 abbrev pub downs : List (List ℕ) → List Host

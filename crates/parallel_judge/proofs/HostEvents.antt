@@ -1,8 +1,8 @@
 -- What hosts enter leaves a contest under way.
 use Rattle.std.proofs.Common.{ℕ, ◌≡◌, ◌≢◌, ◌+◌, ◌-◌, ◌<◌, ◌≤◌, ◌⊎◌, List, [], ◌∷◌, ◌++◌, Option, Some, None, Bool, true, false, cond, eqb, refl, sym, ap, ◌∙◌, subst, arith, length, map, nat_lt, inl, inr}
-use Rattle.std.specs.Prelude.{not, ◌&&◌, All, IsSomeAnd, is_some, option_and_then, filter_map}
+use Rattle.std.specs.Prelude.{not, ◌&&◌, All, IsSomeAnd, is_some}
 use Rattle.std.specs.Option.{option_map}
-use Rattle.std.specs.List.{filter, position, position_or_len, cons_option}
+use Rattle.std.specs.List.{filter, position_or_len, cons_option}
 use Rattle.std.specs.Str.{bytes_eq}
 use Rattle.std.proofs.lemmas.List.{length-append, length-set}
 use Rattle.std.proofs.lemmas.List.Elements.{All-nil, All-cons}
@@ -24,18 +24,18 @@ use Rattle.farm_model.specs.Numbered.{item_of, with_change, number_or_0, number_
 use Rattle.farm_model.specs.Refusing.{unless, first_of, refused_or}
 use Rattle.farm_model.specs.Refusals.{claim_reply, count_reply}
 use Rattle.farm_model.specs.Changes.{by_judge, host_as}
-use Rattle.farm_model.specs.Leases.{same_task, with_lease, without_task}
-use Rattle.farm_model.specs.Judgings.{Judging, task_of, result_refusal, mark_handed, fill_cell}
-use Rattle.farm_model.specs.Judge.{JudgeState, claim_refusal, claimed, hand_out, first_open, counted, lease_end}
+use Rattle.farm_model.specs.Leases.{same_task, without_task}
+use Rattle.farm_model.specs.Judgings.{Judging, task_of, result_refusal, with_result, mark_handed, fill_cell}
+use Rattle.farm_model.specs.Judge.{claim_refusal, claimed, hand_out, first_open, is_in_vain, without_vain_in, counted, lease_end}
 use Rattle.farm_model.specs.State.{State, SettingsValue, up_number}
 use Rattle.farm_model.specs.Farm.{farm_step}
-use Rattle.farm_model.specs.Replay.{reply_to, if_counted, counted_by, counted_in, AgreesWith}
+use Rattle.farm_model.specs.Replay.{reply_to, if_counted, AgreesWith}
 use Rattle.farm_laws.proofs.Each.{Each}
-use Rattle.farm_laws.proofs.Items.{change_same, change_other, there}
+use Rattle.farm_laws.proofs.Items.{change_same, change_other}
 use Rattle.farm_laws.proofs.Kept.{changed_same}
 use Rattle.farm_laws.proofs.Counting.{same_number}
 use Rattle.case_run.specs.Cases.{TestCase}
-use Rattle.parallel_judge.specs.Working.{truth_of, IsRunnable, AreRunnable, IsHonestRun, row_lengths}
+use Rattle.parallel_judge.specs.Working.{truth_of, IsRunnable, AreRunnable, IsHonestRun}
 use Rattle.parallel_judge.specs.UnderWay.{IsHostEvent, hosts_of, IsHeldAfter, AreHeldAfter, IsUnderWay}
 use Rattle.parallel_judge.proofs.Runs.{goes_on}
 use Rattle.parallel_judge.proofs.Contests.{counts_none}
@@ -145,6 +145,10 @@ fewer_held a b p (l ∷ leases) h = elim (p l) as (λ c. AreHeldAfter a b (cond 
   | false ↦ fewer_held a b p leases h.1
 ]
 
+vain_held : (a b : ℕ) (rule : RuleValue) (j : ℕ) (leases : List Lease) (o : Option Judging) → AreHeldAfter a b leases → AreHeldAfter a b (without_vain_in rule j leases o)
+vain_held a b rule j leases None h = h
+vain_held a b rule j leases (Some g) h = fewer_held a b (λ lease. not (is_in_vain rule j g lease)) leases h
+
 -- ---- claims
 
 -- nothing changes, or the host, which is up, gets a task
@@ -213,7 +217,8 @@ counted_under_way settings case_at cells down up s j test kind w run = record {
   honest = run;
   lengths = changed_same (λ (g : Judging). length g.row) (fill_cell test kind) (λ g. length-set g.row (test - 1) (Some kind)) s.judge.judgings j (item_of s.judge.judgings j) refl ∙ w.lengths;
   hosts = w.hosts;
-  held = fewer_held (length down) (length up) (λ lease. not (same_task lease.task (task_of j test))) s.judge.leases w.held;
+  held = vain_held (length down) (length up) s.judge.rule j (without_task s.judge.leases (task_of j test)) (item_of (with_result s.judge.judgings j test kind) j)
+      (fewer_held (length down) (length up) (λ lease. not (same_task lease.task (task_of j test))) s.judge.leases w.held);
 }
 
 claim_under_way : (settings : SettingsValue) (case_at : Task → Option TestCase) (cells : List ℕ) (down up : List (List ℕ)) (s new : State) (host : List ℕ)

@@ -14,7 +14,7 @@ use Rattle.farm_board.specs.Histories.{effective_calls, journal_with_call}
 use Rattle.farm_board.specs.Passes.{call_of}
 use Rattle.farm_board.specs.declared.entries.Call.{Call}
 use Rattle.parallel_judge.specs.declared.noted.NotedFarm.{NotedFarm}
-use Rattle.parallel_judge.specs.Journal.{events_in, AreAnswered, AreCallers, AreJudging, IsJudgingEvent, IsKept, KeepsJournal}
+use Rattle.parallel_judge.specs.Journal.{events_in, AreAnswered, AreJudging, IsJudgingEvent, IsKept}
 use Rattle.parallel_judge.specs.Noting.{Notes, StillKeeps}
 use Rattle.parallel_judge.proofs.Opening.{callers_more}
 

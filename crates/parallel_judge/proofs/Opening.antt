@@ -1,22 +1,20 @@
 -- The opening pass enters events while no other pass is out.
-use Rattle.std.proofs.Common.{◌≡◌, ◌≢◌, ℕ, zero, suc, ◌+◌, ◌≤◌, Bool, true, false, List, [], ◌∷◌, ◌++◌, length, map, eqb, refl, sym, ap, ◌∙◌, subst, arith}
+use Rattle.std.proofs.Common.{◌≡◌, ◌≢◌, ℕ, Bool, false, List, [], ◌∷◌, ◌++◌, eqb, refl, sym, ap, ◌∙◌, subst, arith}
 use Rattle.std.specs.Prelude.{if◌then◌else◌}
-use Rattle.std.proofs.lemmas.List.{append_assoc, append-nil, map-append}
+use Rattle.std.proofs.lemmas.List.{append-nil, map-append}
 use Rattle.farm_kinds.specs.declared.events.Event.{Event}
 use Rattle.farm_kinds.specs.declared.events.Reply.{Reply}
 use Rattle.farm_kinds.specs.declared.events.Reply.TheVariants as reply
-use Rattle.farm_model.specs.State.{State}
-use Rattle.farm_model.specs.Farm.{farm_step}
-use Rattle.farm_model.specs.Replay.{state_after, reply_to}
+use Rattle.farm_model.specs.Replay.{state_after}
 use Rattle.farm_board.specs.BoardState.{BoardState}
-use Rattle.farm_board.specs.Histories.{is_no_memory, IsOut, IsAlone, is_in, number_of, board_after_call, next_board, board_after, IsLegal, entries_by, call_unless, effective_calls}
+use Rattle.farm_board.specs.Histories.{is_no_memory, IsAlone, is_in, board_after_call, next_board, board_after, IsLegal, entries_by}
 use Rattle.farm_board.specs.Passes.{PassValue, Calls, call_of}
 use Rattle.farm_board.specs.declared.entries.Call.{Call}
 use Rattle.farm_board.specs.declared.entries.Entry.{Entry}
 use Rattle.farm_board.specs.declared.entries.Entry.TheVariants as entry
 use Rattle.farm_board.proofs.Numbers.{in_single, in_here}
-use Rattle.farm_board.proofs.Histories.{after_call_out, entries_append, entries_mine, nothing_since, legal_front}
-use Rattle.parallel_judge.specs.Journal.{events_in, AreAnswered, AreCallers}
+use Rattle.farm_board.proofs.Histories.{after_call_out, entries_mine, nothing_since, legal_front}
+use Rattle.parallel_judge.specs.Journal.{events_in, AreCallers}
 use Rattle.parallel_judge.specs.Hosts.{as_entries, AreEffective, HasEntered}
 
 -- ---- lists

@@ -1,10 +1,8 @@
 -- The calls of a legal history have the replies of the farm.
-use Rattle.std.proofs.Common.{◌≡◌, ◌≢◌, Bool, true, false, List, [], ◌∷◌, ◌++◌, refl, sym, ap, ◌∙◌, subst}
+use Rattle.std.proofs.Common.{◌≡◌, ◌≢◌, Bool, true, false, List, [], ◌∷◌, refl, sym, ap, ◌∙◌}
 use Rattle.farm_kinds.specs.declared.events.Reply.{Reply}
 use Rattle.farm_kinds.specs.declared.events.Reply.TheVariants as reply
-use Rattle.farm_model.specs.State.{State}
-use Rattle.farm_model.specs.Farm.{farm_step}
-use Rattle.farm_model.specs.Replay.{state_after, reply_to}
+use Rattle.farm_model.specs.Replay.{state_after}
 use Rattle.farm_board.specs.BoardState.{BoardState}
 use Rattle.farm_board.specs.Histories.{is_no_memory, IsReply, board_after_call, next_board, board_after, IsLegal, call_unless, effective_calls}
 use Rattle.farm_board.specs.declared.entries.Call.{Call}

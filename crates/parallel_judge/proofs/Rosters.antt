@@ -9,7 +9,7 @@ use Rattle.std.specs.Ordering.{is_eq}
 use Rattle.std.specs.declared.cmp.Ordering.TheVariants.{Less}
 use Rattle.std.proofs.lemmas.List.{length-map, map-append, append-nil}
 use Rattle.std.proofs.lemmas.List.Elements.{All-head, All-tail}
-use Rattle.std.proofs.lemmas.List.{take-map, take_all}
+use Rattle.std.proofs.lemmas.List.{take_all}
 use Rattle.std.proofs.lemmas.List.FromFn.{length-enumerate_from}
 use Rattle.std.proofs.lemmas.Option.{slice_get-get_or, slice_get-map}
 use Rattle.std.proofs.lemmas.Bool.Decides.{nat_tests}
@@ -21,7 +21,6 @@ use Rattle.farm_kinds.specs.declared.outcomes.Class.TheVariants.{Normal}
 use Rattle.farm_kinds.specs.declared.outcomes.NamedMode.{NamedMode}
 use Rattle.farm_kinds.specs.declared.outcomes.TableRow.{TableRow}
 use Rattle.farm_kinds.specs.declared.outcomes.Verdict.{Verdict}
-use Rattle.farm_kinds.specs.declared.events.Event.{Event}
 use Rattle.farm_kinds.specs.declared.events.Event.TheVariants as event
 use Rattle.farm_kinds.specs.declared.events.Reply.TheVariants as reply
 use Rattle.farm_model.specs.declared.records.Problem.{Problem as Version}
@@ -45,7 +44,7 @@ use Rattle.contest_folder.specs.RosterShape.{IsContest, IsPlaced, names_of, prob
 use Rattle.contest_folder.specs.JudgingCases.{numbered, case_with, case_in, case_for, case_at}
 use Rattle.case_run.specs.Images.{is_image}
 use Rattle.parallel_judge.specs.Entering.{NamedProblem, NamedSubmission, problem_event, submission_event, ask_event, waiting}
-use Rattle.parallel_judge.specs.Table.{named_problem, named_submission, tests_for, roster_events, verdict_for, row_for, table_rows}
+use Rattle.parallel_judge.specs.Table.{named_problem, named_submission, tests_for, verdict_for, row_for, table_rows}
 use Rattle.parallel_judge.specs.Working.{IsFinished}
 use Rattle.parallel_judge.proofs.Contests.{HasTests, Apart, IsKnown, first_version, cells_of_named, judging_named, numbered_as, tests_named, asked_of_named}
 use Rattle.parallel_judge.specs.Hosts.{all_hosts, host_names, with_hosts}

@@ -6,7 +6,6 @@ use Rattle.std.proofs.lemmas.List.{append_assoc, append-nil, length-append}
 use Rattle.std.proofs.lemmas.List.Elements.{All-nil}
 use Rattle.farm_kinds.specs.declared.outcomes.NamedMode.{NamedMode}
 use Rattle.farm_kinds.specs.declared.outcomes.Task.{Task}
-use Rattle.farm_kinds.specs.declared.events.Event.{Event}
 use Rattle.farm_kinds.specs.declared.events.Event.TheVariants as event
 use Rattle.farm_model.specs.declared.records.Host.{Host}
 use Rattle.farm_model.specs.Limits.{max_hosts}

@@ -7,6 +7,7 @@ use Rattle.std.proofs.lemmas.List.Elements.{All-nil, All-cons}
 use Rattle.std.specs.Option.{option_map, unwrap_or}
 use Rattle.std.proofs.lemmas.List.{length-set}
 use Rattle.std.proofs.lemmas.Option.{slice_get_within, slice_get-get_or, slice_get-map}
+use Rattle.farm_kinds.specs.RuleValue.{RuleValue}
 use Rattle.farm_kinds.specs.declared.kinds.Kind.{Kind}
 use Rattle.farm_kinds.specs.declared.outcomes.Task.{Task}
 use Rattle.farm_kinds.specs.declared.outcomes.Count.{Count}
@@ -23,7 +24,7 @@ use Rattle.farm_model.specs.Refusals.{claim_reply, count_reply}
 use Rattle.farm_model.specs.Changes.{by_judge}
 use Rattle.farm_model.specs.Leases.{same_task, with_lease, without_task}
 use Rattle.farm_model.specs.Judgings.{Judging, judging_rows, kept_count, result_refusal, mark_handed, fill_cell}
-use Rattle.farm_model.specs.Judge.{JudgeState, claim_refusal, claimed, lease_end, first_open, counted}
+use Rattle.farm_model.specs.Judge.{JudgeState, claim_refusal, claimed, lease_end, first_open, without_vain_in, without_vain, counted}
 use Rattle.farm_model.specs.State.{State, SettingsValue, up_number}
 use Rattle.farm_model.specs.Farm.{farm_step}
 use Rattle.farm_model.specs.Replay.{state_after, reply_to, counted_by, counted_in, AgreesWith}
@@ -125,6 +126,10 @@ given_back : (leases : List Lease) (host : ℕ) (task : Task) (until : ℕ) → 
 given_back [] host task until e = ap (λ b. cond (not b) (record { host = host; task = task; until = until } ∷ []) []) (same_as_itself task)
 given_back (l ∷ ls) host task until e = cc
 
+none_in_vain : (rule : RuleValue) (j : ℕ) (o : Option Judging) → without_vain_in rule j [] o ≡ []
+none_in_vain rule j None = refl
+none_in_vain rule j (Some g) = refl
+
 -- the judging after the turn
 abbrev turned : Task → Kind → Judging → Judging
 turned task kind g = fill_cell task.test kind (mark_handed task.test g)
@@ -170,7 +175,10 @@ pub ready_again : (case_at : Task → Option TestCase) (s : State) (host : List 
     → IsReady case_at host s → IsReady case_at host (with_kind s host task kind)
 ready_again case_at s host task g kind x ready = record {
   up = ready.up;
-  free = given_back s.judge.leases (number_of_host s host) task (lease_end s.judge) ready.free;
+  free =
+      let judgings = (with_kind s host task kind).judge.judgings in
+      ap (λ (leases : List Lease). without_vain s.judge.rule judgings task.judging leases) (given_back s.judge.leases (number_of_host s host) task (lease_end s.judge) ready.free)
+      ∙ none_in_vain s.judge.rule task.judging (item_of judgings task.judging);
   runnable = keeps_runnable case_at s host task g kind x ready.runnable;
 }
 

@@ -1,15 +1,15 @@
 -- Once all passes of hosts are taken in, it is known what every entry is: so the contest is under way, and the journal
 -- is that of a judging.
-use Rattle.std.proofs.Common.{◌≡◌, ◌≢◌, ℕ, zero, suc, ◌+◌, ◌≤◌, ◌⊎◌, ◌||◌, Bool, true, false, List, [], ◌∷◌, ◌++◌, Option, Some, None, length, map, eqb, refl, sym, ap, ◌∙◌, subst, inl, inr, ⊎_elim, arith, eq-eqb}
+use Rattle.std.proofs.Common.{◌≡◌, ℕ, suc, ◌⊎◌, Bool, true, false, List, [], ◌∷◌, ◌++◌, Option, length, eqb, refl, sym, ap, ◌∙◌, subst, inl, inr, ⊎_elim, arith, eq-eqb}
 use Rattle.std.specs.Prelude.{if◌then◌else◌}
 use Rattle.farm_kinds.specs.declared.outcomes.Task.{Task}
 use Rattle.farm_kinds.specs.declared.events.Event.{Event}
 use Rattle.farm_kinds.specs.declared.events.Event.TheVariants as event
-use Rattle.farm_model.specs.State.{State, SettingsValue, start}
+use Rattle.farm_model.specs.State.{SettingsValue, start}
 use Rattle.case_run.specs.Cases.{TestCase}
 use Rattle.farm_board.specs.BoardState.{BoardState}
 use Rattle.farm_board.specs.Histories.{is_no_memory, is_in, IsOut, number_of, board_after_call, next_board, board_after, IsLegal, entries_by, call_unless, effective_calls}
-use Rattle.farm_board.specs.Passes.{PassValue, board_seen}
+use Rattle.farm_board.specs.Passes.{PassValue}
 use Rattle.farm_board.specs.declared.entries.Call.{Call}
 use Rattle.farm_board.specs.declared.entries.Entry.{Entry}
 use Rattle.farm_board.specs.declared.entries.Entry.TheVariants as entry

@@ -1,4 +1,4 @@
-use Rattle.std.proofs.Common.{sym, ◌≡◌, ◌≢◌, ℕ}
+use Rattle.std.proofs.Common.{◌≢◌, ℕ}
 use Rattle.farm_kinds.specs.declared.outcomes.Task.{Task}
 use Rattle.farm_kinds.specs.declared.events.Reply.TheVariants as reply
 use Rattle.parallel_judge.proofs.NotedCalls.{step_keeps}

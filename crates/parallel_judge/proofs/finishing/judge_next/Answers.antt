@@ -3,7 +3,6 @@ use Rattle.std.specs.Prelude.{IsSome, IfSome}
 use Rattle.std.specs.Option.{option_map}
 use Rattle.farm_kinds.specs.declared.kinds.Kind.{Kind}
 use Rattle.farm_kinds.specs.declared.outcomes.Task.{Task}
-use Rattle.farm_model.specs.Judge.{first_open}
 use Rattle.case_run.specs.Cases.{TestCase, test_case}
 use Rattle.case_run.specs.Values.{case_value}
 use Rattle.parallel_judge.specs.Working.{with_task}

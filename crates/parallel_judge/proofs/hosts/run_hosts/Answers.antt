@@ -1,4 +1,4 @@
-use Rattle.std.proofs.Common.{ℕ, ◌≡◌, ◌+◌, ◌-◌, ◌≤◌, ◌++◌, [], List, Bool, refl, sym, ap, ◌∙◌, subst, arith, All, vec_len, map, length, Option}
+use Rattle.std.proofs.Common.{ℕ, ◌≡◌, ◌+◌, ◌-◌, ◌≤◌, ◌++◌, [], List, Bool, refl, sym, ap, ◌∙◌, subst, arith, All, map, Option}
 use Rattle.std.specs.Prelude.{is_some}
 use denote.Ref.{Bor}
 use Rattle.farm_kinds.specs.declared.kinds.Kind.{Kind}
@@ -9,7 +9,7 @@ use Rattle.contest_folder.specs.RosterValue.{RosterValue}
 use Rattle.contest_folder.specs.JudgingCases.{case_at}
 use Rattle.farm_board.specs.BoardState.{BoardState}
 use Rattle.farm_board.specs.Histories.{IsOpening, opening_board, effective_calls}
-use Rattle.farm_board.specs.Passes.{BoardId, PassValue, opening_pass, board_seen}
+use Rattle.farm_board.specs.Passes.{BoardId, PassValue, opening_pass}
 use Rattle.farm_board.specs.declared.entries.Call.{Call}
 use Rattle.farm_board.specs.Trusts.{is_value_of}
 use Rattle.farm_board.specs.declared.trust.Proved.{Proved}

@@ -1,4 +1,4 @@
-use Rattle.std.proofs.Common.{ℕ, ◌≡◌, ◌+◌, ◌*◌, ◌≤◌, List, [], Option, All, vec_len}
+use Rattle.std.proofs.Common.{◌≡◌, ◌+◌, ◌*◌, ◌≤◌, List, [], Option, All, vec_len}
 use Rattle.std.specs.Vec.{vec_capacity}
 use Rattle.farm_kinds.specs.declared.outcomes.Task.{Task}
 use Rattle.case_run.specs.Cases.{TestCase}

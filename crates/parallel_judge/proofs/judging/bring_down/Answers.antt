@@ -1,4 +1,4 @@
-use Rattle.std.proofs.Common.{◌≡◌, ◌≤◌, ◌∙◌, arith}
+use Rattle.std.proofs.Common.{◌≤◌, ◌∙◌, arith}
 use Rattle.parallel_judge.proofs.Starting.{one_more_dies, all_die}
 use Rattle.parallel_judge.proofs.judging.bring_down.Goals as goal
 

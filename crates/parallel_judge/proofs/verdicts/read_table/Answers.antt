@@ -1,4 +1,4 @@
-use Rattle.std.proofs.Common.{arith, ◌≡◌, ◌≤◌, ◌∙◌, length, refl}
+use Rattle.std.proofs.Common.{arith, ◌≤◌, ◌∙◌, length}
 use Rattle.parallel_judge.proofs.Rosters.{row_next, rows_whole}
 use Rattle.parallel_judge.proofs.verdicts.read_table.Goals as goal
 

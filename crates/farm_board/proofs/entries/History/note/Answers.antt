@@ -1,7 +1,6 @@
-use Rattle.std.proofs.Common.{◌≡◌, ◌≢◌, ◌∙◌, refl, subst, IsTrue}
+use Rattle.std.proofs.Common.{◌≢◌, ◌∙◌, refl, subst, IsTrue}
 use Rattle.farm_kinds.specs.declared.events.Reply.{Reply}
 use Rattle.farm_kinds.specs.declared.events.Reply.TheVariants as reply
-use Rattle.farm_model.specs.Farm.{farm_step}
 use Rattle.farm_board.specs.Copies.{has_list}
 use Rattle.farm_board.proofs.Listed.{listed_keeps, refuted}
 use Rattle.farm_board.proofs.entries.History.note.Goals as goal
