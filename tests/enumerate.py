@@ -1,13 +1,14 @@
 #!/usr/bin/env python3
-"""Compares `show` and `claim` of `farm script` with all ways to fill rows, by brute force.
+"""Compares `show`, `claim` and `fetch` of `farm script` with all ways to fill rows, by brute force.
 
     tests/enumerate.py [PROGRAM] [COUNT]
 
 PROGRAM is the built program, `crates/farm/out/farm` of this repository if none is given. COUNT judgings
 (5,000 if no number is given) of 2 to 4 tests are filled with random results in random order, ten under each
 settings: priorities from few values, remapping that leaves one to eight kinds, lazy or full judging. Before the
-first result and after each one the row is compared: what `show` replies, and the tasks that `claim` hands out
-until there is nothing. The walk of `rule_model.py` is compared too. Printed are how many rows were compared and
+first result and after each one the row is compared: what `show` replies, the tasks that `claim` hands out until there
+is nothing, and then those that `fetch` hands out at once. While all wanted tests are held a result is entered, and the
+leases that are left then are counted: those on the cells that matter still. The walk of `rule_model.py` is compared too. Printed are how many rows were compared and
 the first difference, and the status is 1 where there is one.
 """
 
@@ -126,12 +127,25 @@ class Script:
         self.put("claim h", "nothing")
         self.put("down h", f"ended {len(tests)}")
         self.put("host h", "host h")
+        self.fetch(tests)
         if self.wanted.walk(self.row) != self.wanted.look(self.row):
             self.wrong_walk = self.wrong_walk or self.row
         self.counts["rows"] += 1
         self.counts["early"] += None in self.row and report != "pending"
         self.counts["empty"] += self.row.count(None)
         self.counts["handed"] += len(tests)
+
+    def fetch(self, tests):
+        """Fetches the same tests at once, which are few enough for that, and holds them."""
+        words = ",".join(str(test) for test in tests)
+        self.put("fetch h 16", f"batch {self.judging} {words} until {self.until}" if tests else "nothing")
+        self.put("fetch h 1", "nothing")
+
+    def count_leases(self):
+        """Counts the leases that are left once a result came: each is on a cell that is wanted still."""
+        _, tests = self.wanted.answer(self.row)
+        self.put("down h", f"ended {len(tests)}")
+        self.put("host h", "host h")
 
     def record(self, test):
         """Fills the cell, and enters another result, which does not count."""
@@ -151,6 +165,7 @@ class Script:
         self.look()
         for test in self.chance.sample(range(1, tests + 1), tests):
             self.record(test)
+            self.count_leases()
             self.look()
 
 

@@ -129,21 +129,25 @@ class Farm:
         entered = self.submissions[submission - 1]
         tests = 0 if entered["broken"] else self.problems[entered["problem"]][1]
         mode = self.modes.get(entered["problem"], "lazy" if self.lazy else "full")
-        kept = {"rank": rank, "row": [None] * tests, "handed": set(), "dropped": False, "verified": False}
+        kept = {"rank": rank, "row": [None] * tests, "handed": set(), "dropped": False, "verified": False, "of": submission}
         # Judgings on demand wait to be asked for, but for those of rejudgings.
         self.judgings.append({**kept, "lazy": mode != "full", "asked": again or mode != "on-demand"})
         return len(self.judgings)
 
-    def first_open(self):
-        tasks = [
+    def is_wanted(self, judging, test):
+        """Whether the test is still to be judged: its cell is empty, and lazily matters."""
+        kept = self.judgings[judging - 1]
+        return kept["row"][test - 1] is None and (not kept["lazy"] or self.rule.matters(kept["row"], test - 1))
+
+    def open_tasks(self):
+        """The open tasks, by class, judging and test."""
+        return sorted(
             (kept["rank"], judging, test)
             for judging, kept in enumerate(self.judgings, 1)
             if kept["asked"] and not kept["dropped"]
-            for test, cell in enumerate(kept["row"], 1)
-            if cell is None and (judging, test) not in self.leases
-            if not kept["lazy"] or self.rule.matters(kept["row"], test - 1)
-        ]
-        return min(tasks)[1:] if tasks else None
+            for test in range(1, len(kept["row"]) + 1)
+            if (judging, test) not in self.leases and self.is_wanted(judging, test)
+        )
 
     # Problems, hosts, submissions
 
@@ -201,19 +205,34 @@ class Farm:
 
     # Tasks
 
-    def on_claim(self, words):
-        host = name_of(*count(words, 1))
+    def hand_out(self, host, most):
+        """What a host is answered that asks for so many tasks, or the judging and the tests that it is given."""
         if not self.up.get(host):
-            return [f"no-host {host}"]
-        if sum(holder == host for holder, _ in self.leases.values()) >= 64:
-            return ["holding 64"]
-        task = self.first_open()
-        if task is None:
-            return ["nothing"]
-        judging, test = task
-        self.leases[task] = (host, self.now + self.lease)
-        self.judgings[judging - 1]["handed"].add(test)
-        return [f"task {judging} {test} until {self.now + self.lease}"]
+            return [f"no-host {host}"], None
+        held = sum(holder == host for holder, _ in self.leases.values())
+        if held >= 64:
+            return ["holding 64"], None
+        tasks = self.open_tasks()
+        if not tasks:
+            return ["nothing"], None
+        judging = tasks[0][1]
+        tests = [test for _, other, test in tasks if other == judging][: min(most, 64 - held)]
+        for test in tests:
+            self.leases[judging, test] = (host, self.now + self.lease)
+            self.judgings[judging - 1]["handed"].add(test)
+        return None, (judging, tests)
+
+    def on_claim(self, words):
+        reply, given = self.hand_out(name_of(*count(words, 1)), 1)
+        return reply or [f"task {given[0]} {given[1][0]} until {self.now + self.lease}"]
+
+    def on_fetch(self, words):
+        host, most = count(words, 2)
+        host, most = name_of(host), number_of(most, 16)
+        if most == 0:
+            raise Bad
+        reply, given = self.hand_out(host, most)
+        return reply or [f"batch {given[0]} {','.join(map(str, given[1]))} until {self.now + self.lease}"]
 
     def task_fault(self, judging, test):
         if not 1 <= judging <= len(self.judgings):
@@ -232,6 +251,8 @@ class Farm:
             return ["dropped"]
         kept["row"][test - 1] = given
         self.leases.pop((judging, test), None)
+        # A lease ends with its use: on a cell that lazily does not matter any more.
+        self.end_leases(lambda task, host, until: task[0] == judging and not self.is_wanted(*task))
         return ["counted"]
 
     def on_result(self, words):
@@ -258,7 +279,9 @@ class Farm:
         if fault is None and self.leases.get((judging, test), (None, 0))[0] != host:
             fault = ["no-lease"]
         if fault is None:
-            self.leases[judging, test] = (host, self.now + self.lease)
+            for task, (holder, _) in self.leases.items():
+                if holder == host and task[0] == judging:
+                    self.leases[task] = (host, self.now + self.lease)
         return fault or [f"until {self.now + self.lease}"]
 
     def end_leases(self, ends):
@@ -285,6 +308,12 @@ class Farm:
         if not 1 <= judging <= len(self.judgings):
             return [f"no-judging {judging}"]
         return [self.report(judging)]
+
+    def on_owner(self, words):
+        judging = number_of(*count(words, 1))
+        if not 1 <= judging <= len(self.judgings):
+            return [f"no-judging {judging}"]
+        return [f"owner {self.judgings[judging - 1]['of']}"]
 
     def on_board(self, words):
         count(words, 0)

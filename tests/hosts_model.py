@@ -85,6 +85,30 @@ class Contest(LineWriter):
         if self.is_wanted(judging, test):
             heapq.heappush(self.open, (self.classes[judging - 1], judging, test))
 
+    def tasks(self, judging):
+        return [(judging, test) for test in range(1, TESTS + 1)]
+
+    def fetch(self):
+        host = self.random.choice(self.up)
+        most = self.random.randrange(1, 5)
+        line = f"fetch {host} {most}"
+        held = len(self.tasks_of[host])
+        if held >= HELD:
+            self.put(line, f"holding {HELD}")
+            return
+        first = self.first_open()
+        if first is None:
+            self.put(line, "nothing")
+            return
+        until = self.now + LEASE
+        tests = []
+        for task in self.tasks(first[0]):
+            if task not in self.leases and self.is_wanted(*task) and len(tests) < min(most, HELD - held):
+                self.grant(host, task, until)
+                self.handed.append((task, host))
+                tests.append(str(task[1]))
+        self.put(line, f"batch {first[0]} {','.join(tests)} until {until}")
+
     def claim(self):
         host = self.random.choice(self.up)
         if len(self.tasks_of[host]) >= HELD:
@@ -125,8 +149,9 @@ class Contest(LineWriter):
             self.put(line, f"repeat {kept}" if kept == kind else f"differs {kept} {kind}")
             return
         self.rows[judging - 1][test - 1] = kind
-        if (judging, test) in self.leases:
-            self.end((judging, test))
+        for task in self.tasks(judging):
+            if task in self.leases and not self.is_wanted(*task):
+                self.end(task)
         self.put(line, "counted")
 
     def renew(self):
@@ -138,7 +163,9 @@ class Contest(LineWriter):
             self.put(line, "no-lease")
         else:
             until = self.now + LEASE
-            self.grant(host, (judging, test), until)
+            for task in self.tasks(judging):
+                if self.leases.get(task, (None, 0))[0] == host:
+                    self.grant(host, task, until)
             self.put(line, f"until {until}")
 
     def tick(self):
@@ -182,7 +209,7 @@ def write_contest(lines, replies, submissions):
                 contest.submit()
         elif part < 600:
             if held < HOSTS:
-                contest.claim()
+                contest.fetch() if part >= 520 else contest.claim()
         elif part < 900:
             if contest.handed:
                 contest.result()

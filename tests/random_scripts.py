@@ -75,7 +75,8 @@ class Drawer:
         host, task = self.random.choice(HOSTS), self.task()
         return self.one_of([
             (8, f"result {task} {self.kind()}"),
-            (7, f"claim {host}"),
+            (5, f"claim {host}"),
+            (4, f"fetch {host} {self.random.choice([1, 2, 2, 3, 16])}"),
             (2, f"renew {task}"),
             (2, f"host {host}"),
             (1, f"down {host}"),
@@ -83,7 +84,7 @@ class Drawer:
 
     def question(self):
         rejudging, judging = self.near(self.farm.rejudgings), self.near(self.farm.judgings)
-        return self.random.choice([f"matrix {rejudging}", f"show {judging}", "board", "audit"])
+        return self.random.choice([f"matrix {rejudging}", f"show {judging}", f"owner {judging}", "board", "audit"])
 
     def line(self):
         judging, test = self.near(self.farm.judgings), self.random.choice([0, 1, 1, 1, 1, 1, 2, 2, 2, 3])
@@ -122,6 +123,11 @@ BAD_LINES = [
     "verify x",
     "ask",
     "ask 1 1",
+    "fetch h1",
+    "fetch h1 0",
+    "fetch h1 17",
+    "@ann fetch h1 1",
+    "owner",
 ]
 
 

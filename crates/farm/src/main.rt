@@ -39,12 +39,14 @@ script reads event lines from standard input and writes a reply to each:
   host NAME                      a judgehost comes up
   submit NAME [CLASS] [broken]   a submission; CLASS is high, normal or low
   claim HOST                     the host asks for a task
+  fetch HOST B                   the host asks for up to B tests of one judging
   result HOST J T KIND           the host's result of test T of judging J
   record J T KIND                a result from outside
-  renew HOST J T                 the host asks to hold the task for longer
+  renew HOST J T                 the host asks to hold what it has of J for longer
   tick N                         time goes on to moment N, in seconds
   down HOST                      the host goes down
   show J                         what is reported of judging J
+  owner J                        the submission that judging J is of
   board                          what the public sees of each submission
   rejudge S,S,..                 has submissions judged anew, out of sight
   matrix R                       old and new answers of rejudging R

@@ -510,4 +510,48 @@ pub const SCRIPTS: [Row; 23] = [
             submission 1 judging 1\n\
             task 1 1 until 7\n",
     },
+    Row {
+        name: "batches_and_leases_that_end_with_their_use",
+        settings: b"",
+        input: b"problem A 3\n\
+            host h1\n\
+            host h2\n\
+            submit A\n\
+            fetch h1 2\n\
+            fetch h2 16\n\
+            fetch h2 1\n\
+            tick 10\n\
+            renew h1 1 2\n\
+            tick 60\n\
+            claim h2\n\
+            result h1 1 1 run-error\n\
+            show 1\n\
+            renew h1 1 2\n\
+            down h2\n\
+            result h1 1 2 correct\n\
+            owner 1\n\
+            owner 7\n\
+            fetch h1 17\n\
+            fetch h9 1\n",
+        output: b"problem A version 1\n\
+            host h1\n\
+            host h2\n\
+            submission 1 judging 1\n\
+            batch 1 1,2 until 60\n\
+            batch 1 3 until 60\n\
+            nothing\n\
+            ended 0\n\
+            until 70\n\
+            ended 1\n\
+            task 1 3 until 120\n\
+            counted\n\
+            final run-error\n\
+            no-lease\n\
+            ended 0\n\
+            counted\n\
+            owner 1\n\
+            no-judging 7\n\
+            bad-line\n\
+            no-host h9\n",
+    },
 ];
