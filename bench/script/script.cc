@@ -1,4 +1,4 @@
-// Plays the lines of a contest as a straightforward C++ program does: problems, hosts, submissions, claims, results,
+// Plays the lines of a contest as a straightforward C++ program does: problems, hosts, submissions, claims, fetches, results,
 // records, renewals, ticks, deaths and shows, with the standard settings. It keeps no audit log and knows no rejudging.
 // It is the peer of `farm script` in run.py and hosts.py, and no part of the product.
 #include <cstdint>
@@ -149,6 +149,11 @@ struct Farm {
         kept.put((uint32_t)test - 1, kind);
         auto lease = leases.find({(uint32_t)judging, (uint32_t)test});
         if (lease != leases.end()) release(lease);
+        // Leases on cells that do not matter any more end too. Where an empty cell matters, all before it do.
+        for (uint32_t last = (uint32_t)kept.row.size(); last > 0 && !kept.matters(last - 1); last--) {
+            lease = leases.find({(uint32_t)judging, last});
+            if (lease != leases.end()) release(lease);
+        }
         reply("counted");
     }
 
@@ -208,6 +213,32 @@ struct Farm {
         reply("nothing");
         return true;
     }
+    bool fetch(const std::vector<Word> &words) {
+        uint64_t most;
+        if (words.size() != 3 || !is_name(words[1]) || !read_number(words[2], 16, most) || most == 0) return false;
+        Host *host = host_of(words[1]);
+        if (!host) return true;
+        if (host->tasks.size() >= HELD) return reply("holding 64"), true;
+        uint32_t first = 0, count = 0;
+        while (!open.empty() && count < most && host->tasks.size() < HELD) {
+            auto [rank, judging, test] = open.top();
+            Judging &kept = judgings[judging - 1];
+            if (leases.count({judging, test}) || !kept.matters(test - 1)) {
+                open.pop();
+                continue;
+            }
+            if (count > 0 && judging != first) break;
+            open.pop();
+            grant(host, {judging, test});
+            kept.handed[test - 1] = true;
+            if (count == 0) text("batch "), number(judging), text(" ");
+            else text(",");
+            number(test), first = judging, count++;
+        }
+        if (count == 0) return reply("nothing"), true;
+        reply(" until ", now + LEASE);
+        return true;
+    }
     bool result(const std::vector<Word> &words) {
         uint64_t judging, test;
         if (words.size() != 5 || !is_name(words[1]) || !read_number(words[2], judging) || !read_number(words[3], test))
@@ -236,8 +267,13 @@ struct Farm {
         Task task(judging, test);
         auto lease = leases.find(task);
         if (lease == leases.end() || lease->second.host != host) return reply("no-lease"), true;
-        ends.erase({lease->second.until, task});
-        grant(host, task);
+        auto held = host->tasks.lower_bound({(uint32_t)judging, 0});
+        for (; held != host->tasks.end() && held->first == judging; ++held) {
+            Lease &kept = leases.find(*held)->second;
+            ends.erase({kept.until, *held});
+            kept.until = now + LEASE;
+            ends.insert({kept.until, *held});
+        }
         reply("until ", now + LEASE);
         return true;
     }
@@ -275,6 +311,7 @@ struct Farm {
         if (word == "show") return show(words);
         if (word == "submit") return submit(words);
         if (word == "claim") return claim(words);
+        if (word == "fetch") return fetch(words);
         if (word == "result") return result(words);
         if (word == "renew") return renew(words);
         if (word == "tick") return tick(words);
