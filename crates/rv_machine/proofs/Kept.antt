@@ -1,20 +1,22 @@
-use Rattle.std.proofs.Common.{◌≡◌, ◌≢◌, ℕ, zero, suc, ◌+◌, ◌*◌, ◌/◌, ◌%◌, ◌<◌, ◌≤◌, ◌^◌, ◌⊎◌, inl, inr, true, false, List, [], ◌∷◌, ◌++◌, length, get_or, set, replicate, refl, arith, ap, ◌∙◌, sym, lit<, subst, length-append}
-use Rattle.std.specs.Prelude.{ℤ, Some}
+use Rattle.std.proofs.Common.{◌≡◌, ◌≢◌, ℕ, zero, suc, ◌+◌, ◌-◌, ◌*◌, ◌/◌, ◌%◌, ◌<◌, ◌≤◌, ◌^◌, ◌⊎◌, inl, inr, true, false, List, [], ◌∷◌, ◌++◌, length, get_or, set, replicate, refl, arith, ap, ◌∙◌, sym, lit<, subst, map, drop, take}
+use Rattle.std.specs.Prelude.{ℤ, Some, Box, max, Result, Ok, Err, IfErr}
+use Rattle.std.specs.List.{insert}
+use Rattle.std.specs.List.Sorted.{IsBinarySearchResult}
+use Rattle.std.specs.Ordering.{nat_cmp}
 use Rattle.std.specs.Int.{cast_signed, cast_unsigned, w32}
 use Rattle.std.proofs.lemmas.Bool.{cases_eq, cases_lt}
 use Rattle.std.proofs.lemmas.Grind.{common_steps}
-use Rattle.std.proofs.lemmas.List.{get_or-set_same, get_or-set_other, get_or_default}
-use Rattle.std.proofs.Math.ListN.{get_or-append}
-use Rattle.std.proofs.Math.Seq.{get_or-append_seam}
+use Rattle.std.proofs.lemmas.List.{get_or-map, get_or-set_same, get_or_default, length-map, map-set}
+use Rattle.std.proofs.lemmas.List.Sorted.{searched}
+use Rattle.std.proofs.lemmas.List.Edits.{get_or-insert_at, get_or-insert_below, get_or-insert_above, length-insert}
 use Rattle.rv_word.specs.declared.instr.Instr.{Instr}
 use Rattle.rv_memory.specs.Paged as memory
-use Rattle.rv_memory.specs.declared.page.Page.{Page}
 use Rattle.rv_memory.proofs.Laws.{word_at_store8, word_at_store16, word_at_store32, word_at_store_bytes, is_touched_store8, is_touched_store16, is_touched_store32}
 use Rattle.rv_memory.proofs.Storing.{is_touched_store_bytes, place_after_write}
 use Rattle.rv_memory.proofs.Touching.{is_touched_touch, is_touched_by, place_kept}
 use Rattle.rv_memory.proofs.Bytes.{word_at_touch, touch_cases}
 use Rattle.rv_word.specs.Table.{instruction_of}
-use Rattle.rv_machine.specs.Decoded.{IsStep, IsFresh, IsCode, Keeps, DiffersAt, step_of, instr_of, is_decoded, undecoded, blank}
+use Rattle.rv_machine.specs.Decoded.{IsStep, IsFresh, IsAscending, IsCode, IsBetween, Keeps, DiffersAt, pages, step_of, instr_of, is_decoded, undecoded, blank}
 use Rattle.rv_machine.specs.declared.code.Code.{Code}
 
 -- ---- places of touched pages
@@ -36,18 +38,6 @@ pub place_store_bytes : (m : memory.State) (a q : ℕ) (bs : List ℕ) → memor
 place_store_bytes m a q [] h = refl
 place_store_bytes m a q (b ∷ bs) h =
     place_store_bytes (memory.put m a b) (a + 1) q bs (is_touched_store_bytes m a q (b ∷ []) h) ∙ place_put m a b q h
-
--- the page at the place of a number has that number, so two touched pages stand at two places
-number_at_place : (ps : List Page) (p : ℕ) → memory.place ps p < length ps → (get_or ps (memory.place ps p) memory.no_page).number ≡ p
-number_at_place [] p h = absurd (omega arith)
-number_at_place (q ∷ qs) p h = elim (cases_eq q.number p) [
-  | inl t ↦ grind arith
-  | inr t ↦ let l : memory.place qs p < length qs = grind arith in let rest : (get_or qs (memory.place qs p) memory.no_page).number ≡ p = number_at_place qs p l in grind arith
-]
-
-same_number : (m : memory.State) (p q : ℕ) → memory.is_touched m p ≡ true → memory.is_touched m q ≡ true → memory.place m.pages p ≡ memory.place m.pages q → p ≡ q
-same_number m p q h g e =
-    sym (number_at_place m.pages p (is_touched_by m.pages p h)) ∙ ap (λ (k : ℕ). (get_or m.pages k memory.no_page).number) e ∙ number_at_place m.pages q (is_touched_by m.pages q g)
 
 -- ---- what each change of the memory keeps
 
@@ -80,8 +70,9 @@ kept m n c k w =
     record {
       count = w.count;
       whole = w.whole;
+      ascending = w.ascending;
       touched = λ i l. k.pages (get_or c.numbers.items i 0) (w.touched i l);
-      found = λ i l. ap (λ (x : ℕ). get_or c.marks.items x 0) (k.places (get_or c.numbers.items i 0) (w.touched i l)) ∙ w.found i l;
+      placed = λ i l. rw (k.places (get_or c.numbers.items i 0) (w.touched i l)) (w.placed i l);
       fresh = λ i j l g. subst (λ (x : ℕ). IsFresh x (step_of c i j)) (sym (k.words (4096 * get_or c.numbers.items i 0 + 4 * j))) (w.fresh i j l g);
     }
 
@@ -131,24 +122,25 @@ no_code m c e f =
     record {
       count = ap length f ∙ sym none;
       whole = λ k l. absurd (omega arith);
+      ascending = λ i j g l. absurd (omega arith);
       touched = λ k l. absurd (omega arith);
-      found = λ k l. absurd (omega arith);
+      placed = λ k l. absurd (omega arith);
       fresh = λ k j l g. absurd (omega arith);
     }
 
 -- the step of the word that was written is not decoded any more
-pub forgotten : (m n : memory.State) (c d : Code) (place at : ℕ) → IsCode m c → DiffersAt m n (at / 4 * 4) → place ≡ memory.place n.pages (at / 4096) →
-    d.numbers ≡ c.numbers → d.marks ≡ c.marks → length d.steps.items ≡ length c.steps.items →
-    ((i : ℕ) → length (get_or d.steps.items i []) ≡ length (get_or c.steps.items i [])) →
+pub forgotten : (m n : memory.State) (c d : Code) (at : ℕ) → IsCode m c → DiffersAt m n (at / 4 * 4) → d.numbers ≡ c.numbers → d.last ≡ c.last → length d.steps.items ≡ length c.steps.items →
+    ((i : ℕ) → length (get_or (pages d.steps.items) i []) ≡ length (get_or (pages c.steps.items) i [])) →
     ((i j : ℕ) → (step_of d i j ≡ step_of c i j) ⊎ (step_of d i j ≡ undecoded)) →
-    ((k : ℕ) → get_or c.marks.items place 0 ≡ k + 1 → is_decoded (step_of d k (at / 4 % 1024)).op ≡ false) → IsCode n d
-forgotten m n c d place at w differs at_place numbers marks count whole others there =
+    ((k : ℕ) → k < length c.numbers.items → get_or c.numbers.items k 0 ≡ at / 4096 → is_decoded (step_of d k (at / 4 % 1024)).op ≡ false) → IsCode n d
+forgotten m n c d at w differs numbers last count whole others there =
     let same_items : d.numbers.items ≡ c.numbers.items = ap (λ x. x.items) numbers in
     record {
       count = count ∙ w.count ∙ sym (ap length same_items);
       whole = λ k l. let l' : k < length c.numbers.items = rw same_items at l in whole k ∙ w.whole k l';
+      ascending = rw same_items w.ascending;
       touched = λ k l. let l' : k < length c.numbers.items = rw same_items at l in rw same_items (differs.pages (get_or c.numbers.items k 0) (w.touched k l'));
-      found = λ k l. let l' : k < length c.numbers.items = rw same_items at l in rw (same_items, marks) (ap (λ (x : ℕ). get_or c.marks.items x 0) (differs.places (get_or c.numbers.items k 0) (w.touched k l')) ∙ w.found k l');
+      placed = λ k l. let l' : k < length c.numbers.items = rw same_items at l in rw (same_items, last, differs.places (get_or c.numbers.items k 0) (w.touched k l')) (w.placed k l');
       fresh = λ k j l g.
           let l' : k < length c.numbers.items = rw same_items at l in
           let p : ℕ = get_or c.numbers.items k 0 in
@@ -160,15 +152,38 @@ forgotten m n c d place at w differs at_place numbers marks count whole others t
               | inl here ↦
                   let page : p ≡ at / 4096 = omega arith in
                   let offset : j ≡ at / 4 % 1024 = omega arith in
-                  let mark : get_or c.marks.items place 0 ≡ k + 1 =
-                  ap (λ (x : ℕ). get_or c.marks.items x 0) (at_place ∙ ap (λ (x : ℕ). memory.place n.pages x) (sym page) ∙ differs.places p (w.touched k l')) ∙ w.found k l' in
-                  fresh_unready word (step_of d k j) (subst IsStep (sym stays) (w.fresh k j l' g).small) (ap (λ (x : ℕ). is_decoded (step_of d k x).op) offset ∙ there k mark)
+                  fresh_unready word (step_of d k j) (subst IsStep (sym stays) (w.fresh k j l' g).small) (ap (λ (x : ℕ). is_decoded (step_of d k x).op) offset ∙ there k l' page)
               | inr other ↦
                   fresh_same word (step_of d k j) (step_of c k j) stays
                   (subst (λ (x : ℕ). IsFresh x (step_of c k j)) (sym (ap (λ (x : ℕ). memory.word_at n (4096 * x + 4 * j)) same_page ∙ differs.words (4096 * p + 4 * j) (omega arith) other)) (w.fresh k j l' g))
             ]
           ];
     }
+
+-- no word of a page at a place behind the last one is decoded
+pub behind : (m n : memory.State) (c : Code) (place at : ℕ) → IsCode m c → DiffersAt m n (at / 4 * 4) → place ≡ memory.place n.pages (at / 4096) → c.last < place → IsCode n c
+behind m n c place at w differs at_place far =
+    forgotten m n c c at w differs refl refl refl (λ i. refl) (λ i j. inl refl)
+    (λ k l page.
+    let same : memory.place n.pages (get_or c.numbers.items k 0) ≡ memory.place m.pages (get_or c.numbers.items k 0) = differs.places (get_or c.numbers.items k 0) (w.touched k l) in
+    let there : place ≡ memory.place m.pages (get_or c.numbers.items k 0) = at_place ∙ ap (λ (x : ℕ). memory.place n.pages x) (sym page) ∙ same in
+    let near : memory.place m.pages (get_or c.numbers.items k 0) ≤ c.last = w.placed k l in
+    absurd (omega arith))
+
+-- the bytes lie in one page, which is not decoded
+pub elsewhere : (m : memory.State) (c : Code) (a : ℕ) (bs : List ℕ) → IsCode m c → a % 4096 + length bs ≤ 4096 → ((k : ℕ) → k < length c.numbers.items → get_or c.numbers.items k 0 ≢ a / 4096) → IsCode (memory.store_bytes m a bs) c
+elsewhere m c a bs w h other =
+    record {
+      count = w.count;
+      whole = w.whole;
+      ascending = w.ascending;
+      touched = λ k l. is_touched_store_bytes m a (get_or c.numbers.items k 0) bs (w.touched k l);
+      placed = λ k l. rw (place_store_bytes m a (get_or c.numbers.items k 0) bs (w.touched k l)) (w.placed k l);
+      fresh = λ k j l g. subst (λ (x : ℕ). IsFresh x (step_of c k j)) (sym (word_at_store_bytes m a (4096 * get_or c.numbers.items k 0 + 4 * j) bs (apart_pages a (length bs) (get_or c.numbers.items k 0) j h g (other k l)))) (w.fresh k j l g);
+    }
+  where
+    apart_pages : (a n p j : ℕ) → a % 4096 + n ≤ 4096 → j < 1024 → p ≢ a / 4096 → (4096 * p + 4 * j + 4 ≤ a) ⊎ (a + n ≤ 4096 * p + 4 * j)
+    apart_pages a n p j h g other = elim (cases_lt p (a / 4096)) [ inl l ↦ inl (omega arith) | inr m ↦ inr (omega arith) ]
 
 -- what is found in a list where one element was set
 set_cases : {A : Type 0} → (xs : List A) (i k : ℕ) (y d : A) → (get_or (set xs i y) k d ≡ get_or xs k d) ⊎ ((k ≡ i) × (get_or (set xs i y) k d ≡ y))
@@ -192,29 +207,34 @@ set_step steps here o k j s =
       ]
     ]
 
+-- setting a page changes no count
+pub set_count : {A : Type 0} → (old new : List (Box (List Instr) A)) (k : ℕ) (page : List Instr) → pages new ≡ set (pages old) k page → length new ≡ length old
+set_count old new k page e = sym (length-map new (λ b. b.value)) ∙ ap length e ∙ grind (arith, common_steps) ∙ length-map old (λ b. b.value)
+
 -- the step of a word that is fresh is kept
 pub stepped : (m : memory.State) (c d : Code) (here pc : ℕ) (s : Instr) → IsCode m c → get_or c.numbers.items here 0 ≡ pc / 4096 → pc % 4 ≡ 0 → IsFresh (memory.word_at m pc) s →
-    d.numbers ≡ c.numbers → d.marks ≡ c.marks → d.steps.items ≡ set c.steps.items here (set (get_or c.steps.items here []) (pc / 4 % 1024) s) → IsCode m d
-stepped m c d here pc s w page aligned fresh numbers marks steps =
+    d.numbers ≡ c.numbers → d.last ≡ c.last → pages d.steps.items ≡ set (pages c.steps.items) here (set (get_or (pages c.steps.items) here []) (pc / 4 % 1024) s) → IsCode m d
+stepped m c d here pc s w page aligned fresh numbers last steps =
     let same_items : d.numbers.items ≡ c.numbers.items = ap (λ x. x.items) numbers in
     record {
-      count = ap length steps ∙ grind (arith, common_steps, w.count, same_items);
+      count = set_count c.steps.items d.steps.items here (set (get_or (pages c.steps.items) here []) (pc / 4 % 1024) s) steps ∙ w.count ∙ sym (ap length same_items);
       whole = λ k l.
           let l' : k < length c.numbers.items = rw same_items at l in
           ap (λ (xs : List (List Instr)). length (get_or xs k [])) steps
-          ∙ elim (set_cases c.steps.items here k (set (get_or c.steps.items here []) (pc / 4 % 1024) s) []) [
+          ∙ elim (set_cases (pages c.steps.items) here k (set (get_or (pages c.steps.items) here []) (pc / 4 % 1024) s) []) [
             | inl same ↦ ap length same ∙ w.whole k l'
-            | inr changed ↦ ap length changed.1 ∙ grind (arith, common_steps) ∙ ap (λ (x : ℕ). length (get_or c.steps.items x [])) (sym changed.0) ∙ w.whole k l'
+            | inr changed ↦ ap length changed.1 ∙ grind (arith, common_steps) ∙ ap (λ (x : ℕ). length (get_or (pages c.steps.items) x [])) (sym changed.0) ∙ w.whole k l'
           ];
+      ascending = rw same_items w.ascending;
       touched = λ k l. let l' : k < length c.numbers.items = rw same_items at l in rw same_items (w.touched k l');
-      found = λ k l. let l' : k < length c.numbers.items = rw same_items at l in rw (same_items, marks) (w.found k l');
+      placed = λ k l. let l' : k < length c.numbers.items = rw same_items at l in rw (same_items, last) (w.placed k l');
       fresh = λ k j l g.
           let l' : k < length c.numbers.items = rw same_items at l in
           let p : ℕ = get_or c.numbers.items k 0 in
           let word : ℕ = memory.word_at m (4096 * p + 4 * j) in
-          let now : step_of d k j ≡ get_or (get_or (set c.steps.items here (set (get_or c.steps.items here []) (pc / 4 % 1024) s)) k []) j undecoded = ap (λ (xs : List (List Instr)). get_or (get_or xs k []) j undecoded) steps in
+          let now : step_of d k j ≡ get_or (get_or (set (pages c.steps.items) here (set (get_or (pages c.steps.items) here []) (pc / 4 % 1024) s)) k []) j undecoded = ap (λ (xs : List (List Instr)). get_or (get_or xs k []) j undecoded) steps in
           rw same_items
-          (elim (set_step c.steps.items here (pc / 4 % 1024) k j s) [
+          (elim (set_step (pages c.steps.items) here (pc / 4 % 1024) k j s) [
             | inl same ↦ fresh_same word (step_of d k j) (step_of c k j) (now ∙ same) (w.fresh k j l' g)
             | inr new ↦
                 let on_page : p ≡ pc / 4096 = ap (λ (x : ℕ). get_or c.numbers.items x 0) new.0 ∙ page in
@@ -225,17 +245,15 @@ stepped m c d here pc s w page aligned fresh numbers marks steps =
 
 -- ---- reading and adding
 
-pub read_step : (steps : List (List Instr)) (page : List Instr) (here o : ℕ) (d : Instr) → page ≡ get_or steps here page → here < length steps → length (get_or steps here []) ≡ 1024 → o < 1024 →
-    get_or page o d ≡ get_or (get_or steps here []) o undecoded
-read_step steps page here o d e l whole small =
-    ap (λ (xs : List Instr). get_or xs o d) (e ∙ get_or_default steps here page [] l) ∙ get_or_default (get_or steps here []) o d undecoded (omega arith)
+-- the steps that are read through a box
+pub read_page : {A : Type 0} → (boxes : List (Box (List Instr) A)) (box : Box (List Instr) A) (here : ℕ) → box ≡ get_or boxes here box → here < length boxes → box.value ≡ get_or (pages boxes) here []
+read_page boxes box here e l = ap (λ b. b.value) e ∙ sym (get_or-map (λ b. b.value) boxes here box [] l)
 
 -- a step that was kept
-pub kept_step : (steps : List (List Instr)) (page : List Instr) (here o : ℕ) (s : Instr) → page ≡ get_or steps here page → here < length steps → length (get_or steps here []) ≡ 1024 → o < 1024 →
-    get_or (get_or (set steps here (set page o s)) here []) o undecoded ≡ s
-kept_step steps page here o s e l whole small =
-    let same : page ≡ get_or steps here [] = e ∙ get_or_default steps here page [] l in
-    ap (λ (xs : List Instr). get_or xs o undecoded) (get_or-set_same steps here (set page o s) [] l) ∙ get_or-set_same page o s undecoded (rw (same, whole) small)
+pub kept_step : (steps : List (List Instr)) (here o : ℕ) (s : Instr) → here < length steps → length (get_or steps here []) ≡ 1024 → o < 1024 →
+    get_or (get_or (set steps here (set (get_or steps here []) o s)) here []) o undecoded ≡ s
+kept_step steps here o s l whole small =
+    ap (λ (xs : List Instr). get_or xs o undecoded) (get_or-set_same steps here (set (get_or steps here []) o s) [] l) ∙ get_or-set_same (get_or steps here []) o s undecoded (rw whole small)
 
 -- a step that is read field by field
 pub read_fields : (page : List Instr) (o : ℕ) (d : Instr) → length page ≡ 1024 → o < 1024 → IsStep (get_or page o undecoded) →
@@ -243,28 +261,23 @@ pub read_fields : (page : List Instr) (o : ℕ) (d : Instr) → length page ≡ 
 read_fields page o d whole small step =
     rw (get_or_default page o d undecoded (rw whole small)) (let s : Instr = get_or page o undecoded in ap (λ (z : ℤ). record { op = s.op; rd = s.rd; rs1 = s.rs1; rs2 = s.rs2; imm = z }) step.imm)
 
--- the steps of a page
-pub page_is : (steps : List (List Instr)) (page : List Instr) (here : ℕ) → page ≡ get_or steps here page → here < length steps → page ≡ get_or steps here []
-page_is steps page here e l = e ∙ get_or_default steps here page [] l
+pub map_insert : {A B : Type 0} → (f : A → B) (xs : List A) (i : ℕ) (y : A) → map f (insert xs i y) ≡ insert (map f xs) i (f y)
+map_insert f xs zero y = refl
+map_insert f [] (suc i) y = refl
+map_insert f (x ∷ xs) (suc i) y = ap (λ ys. f x ∷ ys) (map_insert f xs i y)
 
--- marks that were added change nothing
-pub marked : (m : memory.State) (c d : Code) → IsCode m c → d.numbers.items ≡ c.numbers.items → d.steps.items ≡ c.steps.items →
-    ((k : ℕ) → get_or d.marks.items k 0 ≡ get_or c.marks.items k 0) → IsCode m d
-marked m c d w numbers steps marks =
-    record {
-      count = ap length steps ∙ w.count ∙ sym (ap length numbers);
-      whole = λ k l. rw steps (w.whole k (rw numbers at l));
-      touched = λ k l. rw numbers (w.touched k (rw numbers at l));
-      found = λ k l. marks (memory.place m.pages (get_or d.numbers.items k 0)) ∙ rw numbers (w.found k (rw numbers at l));
-      fresh = λ k j l g. rw (numbers, steps) (w.fresh k j (rw numbers at l) g);
-    }
-
-snoc_cases : {A : Type 0} → (xs : List A) (y : A) (k : ℕ) (d : A) → k < length (xs ++ y ∷ []) →
-    ((k < length xs) × (get_or (xs ++ y ∷ []) k d ≡ get_or xs k d)) ⊎ ((k ≡ length xs) × (get_or (xs ++ y ∷ []) k d ≡ y))
-snoc_cases [] y zero d l = inr (refl, refl)
-snoc_cases [] y (suc k) d l = absurd (omega arith)
-snoc_cases (x ∷ xs) y zero d l = inl (omega arith, refl)
-snoc_cases (x ∷ xs) y (suc k) d l = elim (snoc_cases xs y k d (omega arith)) [ inl a ↦ inl (let b : k < length xs = a.0 in omega arith, a.1) | inr e ↦ inr (ap suc e.0, e.1) ]
+-- what is found in a list into which an element was put
+insert_cases : {A : Type 0} → (xs : List A) (i : ℕ) (y d : A) (k : ℕ) → i ≤ length xs →
+    ((k < i) × (get_or (insert xs i y) k d ≡ get_or xs k d)) ⊎ (((k ≡ i) × (get_or (insert xs i y) k d ≡ y)) ⊎ ((i < k) × (get_or (insert xs i y) k d ≡ get_or xs (k - 1) d)))
+insert_cases xs i y d k within = elim (cases_lt k i) [
+  | inl before ↦ inl (before, get_or-insert_below xs i y d k before within)
+  | inr not ↦ elim (cases_eq k i) [
+    | inl here ↦ inr (inl (here, ap (λ (x : ℕ). get_or (insert xs i y) x d) here ∙ get_or-insert_at xs i y d within))
+    | inr other ↦
+        let back : k ≡ k - 1 + 1 = omega arith in
+        inr (inr (omega arith, ap (λ (x : ℕ). get_or (insert xs i y) x d) back ∙ get_or-insert_above xs i y d (k - 1) (omega arith) within))
+  ]
+]
 
 length_fill : (n : ℕ) → length (replicate n undecoded) ≡ n
 length_fill zero = refl
@@ -283,49 +296,116 @@ undecoded_blank : (k : ℕ) → get_or blank k undecoded ≡ undecoded
 unfolding blank
 undecoded_blank k = undecoded_fill 1024 k
 
--- a page of which no word is decoded is added, with its mark
-pub added : (m : memory.State) (c d : Code) (marks : List ℕ) (place number : ℕ) → IsCode m c → memory.is_touched m number ≡ true → place ≡ memory.place m.pages number →
-    ((k : ℕ) → k < length c.numbers.items → get_or c.numbers.items k 0 ≢ number) → d.numbers.items ≡ c.numbers.items ++ number ∷ [] → d.steps.items ≡ c.steps.items ++ blank ∷ [] →
-    d.marks.items ≡ set marks place (length c.numbers.items + 1) → place < length marks → ((k : ℕ) → get_or marks k 0 ≡ get_or c.marks.items k 0) → IsCode m d
-added m c d marks place number w touched at_place fresh numbers steps new_marks room same =
+-- numbers in ascending order stay so where one is put between them
+ascending_insert : (numbers : List ℕ) (at number : ℕ) → IsAscending numbers → at ≤ length numbers → IsBetween numbers at number → IsAscending (insert numbers at number)
+ascending_insert numbers at number w within between i j less l =
+    let count : length (insert numbers at number) ≡ length numbers + 1 = length-insert numbers at number within in
+    elim (insert_cases numbers at number 0 i within) [
+      | inl a ↦ let ia : i < at = a.0 in elim (insert_cases numbers at number 0 j within) [
+        | inl b ↦ rw (a.1, b.1) (let jb : j < at = b.0 in w i j less (omega arith))
+        | inr (inl b) ↦ rw (a.1, b.1) (between.below i ia)
+        | inr (inr b) ↦ rw (a.1, b.1) (let jb : at < j = b.0 in w i (j - 1) (omega arith) (omega arith))
+      ]
+      | inr (inl a) ↦ let ia : i ≡ at = a.0 in elim (insert_cases numbers at number 0 j within) [
+        | inl b ↦ let jb : j < at = b.0 in absurd (omega arith)
+        | inr (inl b) ↦ let jb : j ≡ at = b.0 in absurd (omega arith)
+        | inr (inr b) ↦ rw (a.1, b.1) (let jb : at < j = b.0 in between.above (j - 1) (omega arith) (omega arith))
+      ]
+      | inr (inr a) ↦ let ia : at < i = a.0 in elim (insert_cases numbers at number 0 j within) [
+        | inl b ↦ let jb : j < at = b.0 in absurd (omega arith)
+        | inr (inl b) ↦ let jb : j ≡ at = b.0 in absurd (omega arith)
+        | inr (inr b) ↦ rw (a.1, b.1) (let jb : at < j = b.0 in w (i - 1) (j - 1) (omega arith) (omega arith))
+      ]
+    ]
+
+-- a number stands at one place
+pub same_place : (numbers : List ℕ) (i j : ℕ) → IsAscending numbers → i < length numbers → j < length numbers → get_or numbers i 0 ≡ get_or numbers j 0 → i ≡ j
+same_place numbers i j w l g e = elim (cases_eq i j) [
+  | inl same ↦ same
+  | inr other ↦ elim (cases_lt i j) [
+    | inl less ↦ let f : get_or numbers i 0 < get_or numbers j 0 = w i j less g in absurd (omega (arith, e, f))
+    | inr not ↦ let f : get_or numbers j 0 < get_or numbers i 0 = w j i (omega arith) l in absurd (omega (arith, e, f))
+  ]
+]
+
+-- what a search finds where a number does not stand
+pub between : (numbers : List ℕ) (number : ℕ) (r : Result ℕ ℕ) → IsBinarySearchResult (λ y. nat_cmp y number) numbers r → IfErr r (λ k. IsAscending numbers → IsBetween numbers k number)
+between numbers number (Ok k) h = tt
+between numbers number (Err k) h =
+    λ w. let found = searched numbers number (Err k) h (λ i j le l. elim (cases_eq i j) [ inl same ↦ rw same (omega arith) | inr other ↦ let less : get_or numbers i 0 < get_or numbers j 0 = w i j (omega arith) l in omega arith ]) in
+    record { below = found.1; above = found.2 }
+
+-- the pages that are decoded stay
+pub same_code : (m : memory.State) (c d : Code) → IsCode m c → d.numbers.items ≡ c.numbers.items → d.steps.items ≡ c.steps.items → d.last ≡ c.last → IsCode m d
+same_code m c d w numbers steps last =
     record {
-      count = ap length steps ∙ length-append c.steps.items (blank ∷ []) ∙ ap (λ (x : ℕ). x + 1) w.count ∙ sym (ap length numbers ∙ length-append c.numbers.items (number ∷ []));
-      whole = λ k l. elim (pages k l) [
-        | inl old ↦ ap length (old_steps k old.0) ∙ w.whole k old.0
-        | inr new ↦ ap length (new_steps k new.0) ∙ length_blank
+      count = ap length steps ∙ w.count ∙ sym (ap length numbers);
+      whole = λ k l. rw steps (w.whole k (rw numbers at l));
+      ascending = rw numbers w.ascending;
+      touched = λ k l. rw numbers (w.touched k (rw numbers at l));
+      placed = λ k l. rw (numbers, last) (w.placed k (rw numbers at l));
+      fresh = λ k j l g. rw (numbers, steps) (w.fresh k j (rw numbers at l) g);
+    }
+
+-- a page of d is one of c
+record IsOld (c d : Code) (k : ℕ) : Type 0 where
+  old : ℕ
+  some : old < length c.numbers.items
+  number : get_or d.numbers.items k 0 ≡ get_or c.numbers.items old 0
+  steps : get_or (pages d.steps.items) k [] ≡ get_or (pages c.steps.items) old []
+
+-- a page where one was added is the new one or one of those before
+new_or_old : (c d : Code) (at number k : ℕ) → length (pages c.steps.items) ≡ length c.numbers.items → at ≤ length c.numbers.items → d.numbers.items ≡ insert c.numbers.items at number → pages d.steps.items ≡ insert (pages c.steps.items) at blank → k < length d.numbers.items →
+    ((get_or d.numbers.items k 0 ≡ number) × (get_or (pages d.steps.items) k [] ≡ blank)) ⊎ IsOld c d k
+new_or_old c d at number k count within numbers steps l =
+    let more : length d.numbers.items ≡ length c.numbers.items + 1 = ap length numbers ∙ length-insert c.numbers.items at number within in
+    let n : get_or d.numbers.items k 0 ≡ get_or (insert c.numbers.items at number) k 0 = ap (λ (xs : List ℕ). get_or xs k 0) numbers in
+    let s : get_or (pages d.steps.items) k [] ≡ get_or (insert (pages c.steps.items) at blank) k [] = ap (λ (xs : List (List Instr)). get_or xs k []) steps in
+    let room : at ≤ length (pages c.steps.items) = rw count within in
+    elim (cases_lt k at) [
+      | inl before ↦ inr (record { old = k; some = omega arith; number = n ∙ get_or-insert_below c.numbers.items at number 0 k before within; steps = s ∙ get_or-insert_below (pages c.steps.items) at blank [] k before room })
+      | inr not ↦ elim (cases_eq k at) [
+        | inl here ↦ inl (
+          n ∙ ap (λ (x : ℕ). get_or (insert c.numbers.items at number) x 0) here ∙ get_or-insert_at c.numbers.items at number 0 within,
+          s ∙ ap (λ (x : ℕ). get_or (insert (pages c.steps.items) at blank) x []) here ∙ get_or-insert_at (pages c.steps.items) at blank [] room,
+        )
+        | inr other ↦
+            let back : k ≡ k - 1 + 1 = omega arith in
+            inr (record {
+              old = k - 1;
+              some = omega arith;
+              number = n ∙ ap (λ (x : ℕ). get_or (insert c.numbers.items at number) x 0) back ∙ get_or-insert_above c.numbers.items at number 0 (k - 1) (omega arith) within;
+              steps = s ∙ ap (λ (x : ℕ). get_or (insert (pages c.steps.items) at blank) x []) back ∙ get_or-insert_above (pages c.steps.items) at blank [] (k - 1) (omega arith) room;
+            })
+      ]
+    ]
+
+-- a page of which no word is decoded is added, at its place among the others
+pub added : (m : memory.State) (c d : Code) (at place number : ℕ) → IsCode m c → memory.is_touched m number ≡ true → place ≡ memory.place m.pages number → at ≤ length c.numbers.items → IsBetween c.numbers.items at number →
+    d.numbers.items ≡ insert c.numbers.items at number → pages d.steps.items ≡ insert (pages c.steps.items) at blank → d.last ≡ max c.last place → IsCode m d
+added m c d at place number w touched at_place within between numbers steps last =
+    let count : length (pages c.steps.items) ≡ length c.numbers.items = length-map c.steps.items (λ b. b.value) ∙ w.count in
+    let page = λ (k : ℕ) (l : k < length d.numbers.items). new_or_old c d at number k count within numbers steps l in
+    record {
+      count = sym (length-map d.steps.items (λ b. b.value)) ∙ ap length steps ∙ length-insert (pages c.steps.items) at blank (rw count within) ∙ ap (λ (x : ℕ). x + 1) count ∙ sym (ap length numbers ∙ length-insert c.numbers.items at number within);
+      whole = λ k l. elim (page k l) [
+        | inl e ↦ ap length e.1 ∙ length_blank
+        | inr o ↦ ap length o.steps ∙ w.whole o.old o.some
       ];
-      touched = λ k l. elim (pages k l) [
-        | inl old ↦ rw old.1 (w.touched k old.0)
-        | inr new ↦ rw new.1 touched
+      ascending = rw numbers (ascending_insert c.numbers.items at number w.ascending within between);
+      touched = λ k l. elim (page k l) [
+        | inl e ↦ rw e.0 touched
+        | inr o ↦ rw o.number (w.touched o.old o.some)
       ];
-      found = λ k l. elim (pages k l) [
-        | inl old ↦
-            let other : memory.place m.pages (get_or c.numbers.items k 0) ≢ place = λ e. fresh k old.0 (same_number m (get_or c.numbers.items k 0) number (w.touched k old.0) touched (e ∙ at_place)) in
-            ap (λ (x : ℕ). get_or d.marks.items (memory.place m.pages x) 0) old.1
-            ∙ ap (λ (xs : List ℕ). get_or xs (memory.place m.pages (get_or c.numbers.items k 0)) 0) new_marks
-            ∙ get_or-set_other marks place (memory.place m.pages (get_or c.numbers.items k 0)) (length c.numbers.items + 1) 0 other
-            ∙ same (memory.place m.pages (get_or c.numbers.items k 0)) ∙ w.found k old.0
-        | inr new ↦
-            ap (λ (x : ℕ). get_or d.marks.items (memory.place m.pages x) 0) new.1
-            ∙ ap (λ (x : ℕ). get_or d.marks.items x 0) (sym at_place)
-            ∙ ap (λ (xs : List ℕ). get_or xs place 0) new_marks
-            ∙ get_or-set_same marks place (length c.numbers.items + 1) 0 room
-            ∙ ap (λ (x : ℕ). x + 1) (sym new.0)
+      placed = λ k l. elim (page k l) [
+        | inl e ↦ rw (e.0, last, ← at_place) (omega arith)
+        | inr o ↦ let le : memory.place m.pages (get_or c.numbers.items o.old 0) ≤ c.last = w.placed o.old o.some in rw (o.number, last) (omega arith)
       ];
-      fresh = λ k j l g. elim (pages k l) [
-        | inl old ↦ rw old.1 (fresh_same (memory.word_at m (4096 * get_or c.numbers.items k 0 + 4 * j)) (step_of d k j) (step_of c k j) (ap (λ (xs : List Instr). get_or xs j undecoded) (old_steps k old.0)) (w.fresh k j old.0 g))
-        | inr new ↦ fresh_same (memory.word_at m (4096 * get_or d.numbers.items k 0 + 4 * j)) (step_of d k j) undecoded (ap (λ (xs : List Instr). get_or xs j undecoded) (new_steps k new.0) ∙ undecoded_blank j) (fresh_undecoded (memory.word_at m (4096 * get_or d.numbers.items k 0 + 4 * j)))
+      fresh = λ k j l g. elim (page k l) [
+        | inl e ↦ fresh_same (memory.word_at m (4096 * get_or d.numbers.items k 0 + 4 * j)) (step_of d k j) undecoded (ap (λ (xs : List Instr). get_or xs j undecoded) e.1 ∙ undecoded_blank j) (fresh_undecoded (memory.word_at m (4096 * get_or d.numbers.items k 0 + 4 * j)))
+        | inr o ↦ rw o.number (fresh_same (memory.word_at m (4096 * get_or c.numbers.items o.old 0 + 4 * j)) (step_of d k j) (step_of c o.old j) (ap (λ (xs : List Instr). get_or xs j undecoded) o.steps) (w.fresh o.old j o.some g))
       ];
     }
-  where
-    pages : (k : ℕ) → k < length d.numbers.items → ((k < length c.numbers.items) × (get_or d.numbers.items k 0 ≡ get_or c.numbers.items k 0)) ⊎ ((k ≡ length c.numbers.items) × (get_or d.numbers.items k 0 ≡ number))
-    pages k l = rw numbers (snoc_cases c.numbers.items number k 0 (rw numbers at l))
-
-    old_steps : (k : ℕ) → k < length c.numbers.items → get_or d.steps.items k [] ≡ get_or c.steps.items k []
-    old_steps k l = ap (λ (xs : List (List Instr)). get_or xs k []) steps ∙ get_or-append c.steps.items (blank ∷ []) [] k (rw w.count l)
-
-    new_steps : (k : ℕ) → k ≡ length c.numbers.items → get_or d.steps.items k [] ≡ blank
-    new_steps k e = ap (λ (xs : List (List Instr)). get_or xs k []) steps ∙ ap (λ (x : ℕ). get_or (c.steps.items ++ blank ∷ []) x []) (e ∙ sym w.count) ∙ get_or-append_seam c.steps.items blank [] []
 
 -- ---- the step at an address in a decoded page
 
@@ -340,13 +420,13 @@ fresh_at m c here pc w some page aligned =
 -- ---- the step at a place in a decoded page
 
 -- the step at a place is small
-pub small_at : (m : memory.State) (c : Code) (page : List Instr) (here word : ℕ) → IsCode m c → here < length c.numbers.items → word < 1024 → page ≡ get_or c.steps.items here page →
+pub small_at : (m : memory.State) (c : Code) (page : List Instr) (here word : ℕ) → IsCode m c → here < length c.numbers.items → word < 1024 → page ≡ get_or (pages c.steps.items) here [] →
     IsStep (get_or page word undecoded)
-small_at m c page here word w some within e = rw (page_is c.steps.items page here e (rw w.count some)) (w.fresh here word some within).small
+small_at m c page here word w some within e = rw e (w.fresh here word some within).small
 
 -- the step that is read at a place
-pub read_kept : (m : memory.State) (c : Code) (page : List Instr) (here word : ℕ) (i : Instr) → IsCode m c → here < length c.numbers.items → page ≡ get_or c.steps.items here page → i ≡ get_or page word undecoded → i ≡ step_of c here word
-read_kept m c page here word i w some e read = read ∙ ap (λ (xs : List Instr). get_or xs word undecoded) (page_is c.steps.items page here e (rw w.count some))
+pub read_kept : (c : Code) (page : List Instr) (here word : ℕ) (i : Instr) → page ≡ get_or (pages c.steps.items) here [] → i ≡ get_or page word undecoded → i ≡ step_of c here word
+read_kept c page here word i e read = read ∙ ap (λ (xs : List Instr). get_or xs word undecoded) e
 
 -- a decoded step is the instruction at its address, whose page is touched
 pub record IsReadyStep (m : memory.State) (page word pc : ℕ) (i : Instr) : Type 0 where
@@ -354,9 +434,9 @@ pub record IsReadyStep (m : memory.State) (page word pc : ℕ) (i : Instr) : Typ
   pub same : instruction_of (memory.word_at m pc) ≡ Some (instr_of i)
 
 pub ready_step : (m : memory.State) (c : Code) (steps : List Instr) (here page word pc : ℕ) (i : Instr) → IsCode m c → here < length c.numbers.items → page ≡ 4096 * get_or c.numbers.items here 0 → page < 2 ^ 32 →
-    word < 1024 → pc ≡ (page + 4 * word) % 2 ^ 32 → steps ≡ get_or c.steps.items here steps → i ≡ get_or steps word undecoded → is_decoded i.op ≡ true → IsReadyStep m page word pc i
+    word < 1024 → pc ≡ (page + 4 * word) % 2 ^ 32 → steps ≡ get_or (pages c.steps.items) here [] → i ≡ get_or steps word undecoded → is_decoded i.op ≡ true → IsReadyStep m page word pc i
 ready_step m c steps here page word pc i w some at small within address e step ready =
-    let kept : i ≡ step_of c here word = read_kept m c steps here word i w some e step in
+    let kept : i ≡ step_of c here word = read_kept c steps here word i e step in
     let number : get_or c.numbers.items here 0 ≡ pc / 4096 = omega arith in
     let aligned : pc % 4 ≡ 0 = omega arith in
     let there : pc / 4 % 1024 ≡ word = omega arith in

@@ -1,4 +1,4 @@
-use Rattle.std.specs.Prelude.{◌≡◌, ◌≢◌, ℕ, ◌+◌, ◌*◌, ◌/◌, ◌%◌, ◌<◌, ◌⊎◌, Bool, true, false, List, [], replicate, length, get_or, Option, None, Some, pos, nat_eq, if◌then◌else◌}
+use Rattle.std.specs.Prelude.{◌≡◌, ◌≢◌, ℕ, ◌+◌, ◌*◌, ◌/◌, ◌%◌, ◌<◌, ◌≤◌, ◌⊎◌, Bool, true, false, List, [], replicate, map, length, get_or, Option, None, Some, pos, nat_eq, if◌then◌else◌, Box}
 use Rattle.std.specs.Int.{cast_signed, cast_unsigned, w32}
 use Rattle.rv_word.specs.declared.instr.Op.{Op}
 use Rattle.rv_word.specs.declared.instr.Op.TheVariants.{Ebreak}
@@ -36,21 +36,35 @@ blank = replicate 1024 undecoded
 
 -- ---- decoded pages beside a memory
 
+-- the steps of each decoded page
+abbrev pub pages : {A : Type 0} → List (Box (List Instr) A) → List (List Instr)
+pages boxes = map (λ b. b.value) boxes
+
 abbrev pub step_of : Code → ℕ → ℕ → Instr
-step_of c k j = get_or (get_or c.steps.items k []) j undecoded
+step_of c k j = get_or (get_or (pages c.steps.items) k []) j undecoded
+
+-- numbers in ascending order
+abbrev pub IsAscending : List ℕ → Type 0
+IsAscending numbers = (i j : ℕ) → i < j → j < length numbers → get_or numbers i 0 < get_or numbers j 0
+
+-- the numbers before a place are below a number, and those from there on above it
+pub record IsBetween (numbers : List ℕ) (k number : ℕ) : Type 0 where
+  pub below : (i : ℕ) → i < k → get_or numbers i 0 < number
+  pub above : (i : ℕ) → k ≤ i → i < length numbers → number < get_or numbers i 0
 
 -- a step is the word's instruction, or the word is not decoded
 pub record IsFresh (word : ℕ) (s : Instr) : Type 0 where
   pub small : IsStep s
   pub same : is_decoded s.op ≡ true → instruction_of word ≡ Some (instr_of s)
 
--- each decoded page is a touched page, is found by the place of that page, and each of its steps is fresh
+-- the decoded pages stand in the order of their numbers; each is a touched page, at no place behind the last, and each of
+-- its steps is fresh
 pub record IsCode (m : memory.State) (c : Code) : Type 0 where
   pub count : length c.steps.items ≡ length c.numbers.items
-  pub whole : (k : ℕ) → k < length c.numbers.items → length (get_or c.steps.items k []) ≡ 1024
+  pub whole : (k : ℕ) → k < length c.numbers.items → length (get_or (pages c.steps.items) k []) ≡ 1024
+  pub ascending : IsAscending c.numbers.items
   pub touched : (k : ℕ) → k < length c.numbers.items → memory.is_touched m (get_or c.numbers.items k 0) ≡ true
-  pub found : (k : ℕ) → k < length c.numbers.items
-      → get_or c.marks.items (memory.place m.pages (get_or c.numbers.items k 0)) 0 ≡ k + 1
+  pub placed : (k : ℕ) → k < length c.numbers.items → memory.place m.pages (get_or c.numbers.items k 0) ≤ c.last
   pub fresh : (k j : ℕ) → k < length c.numbers.items → j < 1024
       → IsFresh (memory.word_at m (4096 * get_or c.numbers.items k 0 + 4 * j)) (step_of c k j)
 

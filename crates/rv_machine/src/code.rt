@@ -1,9 +1,8 @@
-ghost use Rattle.std.specs.Prelude.{ℕ, ◌≡◌, ◌≢◌, ◌+◌, ◌*◌, ◌/◌, ◌%◌, ◌^◌, ◌<◌, ◌≤◌, ◌↔◌, ◌++◌, ◌∷◌, [], IfOk, IfErr, IfSome, IfNone, OnOk, OnErr, IsTrue, true, false, length, get_or};
+ghost use Rattle.std.specs.Prelude.{ℕ, List, ◌≡◌, ◌≢◌, ◌+◌, ◌*◌, ◌/◌, ◌%◌, ◌^◌, ◌<◌, ◌≤◌, ◌↔◌, [], IfOk, IfErr, IfSome, IfNone, OnOk, IsTrue, true, false, length, get_or, set};
 ghost use Rattle.rv_machine.specs.Decoded as decoded;
 ghost use Rattle.rv_memory.specs.Paged as paged;
 
 use crate::processor::Stored;
-use rv_memory::Memory;
 use rv_word::{Instr, Op};
 use std::alloc::{AllocError, Global};
 
@@ -22,15 +21,16 @@ const UNDECODED: Instr = Instr {
 // A page of which no word is decoded. It is copied as it stands; one that is made on the spot is filled and then copied.
 static BLANK: [Instr; 1024] = [UNDECODED; 1024];
 
-/// The decoded pages: those to which control came, word by word as it comes to them.
+/// The decoded pages: those to which control came, word by word as it comes to them. A page that is not decoded takes
+/// nothing here.
 #[derive(Drop)]
 pub struct Code {
-    /// The number of each decoded page.
+    /// The number of each decoded page, in ascending order.
     pub numbers: Vec<u32>,
     /// The steps of each decoded page, one for each word.
-    pub steps: Vec<[Instr; 1024]>,
-    /// For the place of a page in memory 1 plus its place here, or 0 where it is not decoded.
-    pub marks: Vec<usize>,
+    pub steps: Vec<Box<[Instr; 1024]>>,
+    /// No decoded page stands in memory at a place behind this one.
+    pub last: usize,
 }
 
 impl Code {
@@ -42,7 +42,7 @@ impl Code {
         Code {
             numbers: Vec::new(alloc),
             steps: Vec::new(alloc),
-            marks: Vec::new(alloc),
+            last: 0,
         }
     }
 }
@@ -75,14 +75,23 @@ pub fn is_decoded(op: Op) -> bool
     }
 }
 
+/// The steps of a decoded page.
+#[inline(always)]
+pub fn steps_at(steps: &Vec<Box<[Instr; 1024]>>, here: usize) -> &[Instr; 1024]
+    requires { here < length steps.now.items }
+    ensures { result.now ≡ get_or (decoded.pages steps.now.items) here [] }
+{
+    &steps[here]
+}
+
 /// The operation of the step of the word at an address in a decoded page.
 #[inline(always)]
 pub fn operation_at(code: &Code, here: usize, pc: u32) -> Op
     requires here { here < length code.now.steps.items }
-    requires whole { length (get_or code.now.steps.items here []) ≡ 1024 }
+    requires whole { length (get_or (decoded.pages code.now.steps.items) here []) ≡ 1024 }
     ensures { result ≡ (decoded.step_of code.now here (pc / 4 % 1024)).op }
 {
-    code.steps[here][(pc / 4 % 1024) as usize].op
+    steps_at(&code.steps, here)[(pc / 4 % 1024) as usize].op
 }
 
 /// The step at a place in a page.
@@ -104,24 +113,27 @@ pub fn step_at(page: &[Instr; 1024], word: usize) -> Instr
     }
 }
 
-/// Whether the word that has the address is decoded, in a page that stands at a place in memory.
+/// Whether the word that has the address is decoded, whose page stands at a place in memory. The page that runs is looked
+/// at first.
 #[inline(always)]
-pub fn is_stale(code: &Code, place: usize, at: u32) -> bool
+pub fn is_stale(code: &Code, here: usize, place: usize, at: u32) -> bool
     ensures { result ≡ false → (m n : paged.State) → decoded.IsCode m code.now → decoded.DiffersAt m n (at / 4 * 4) → place ≡ paged.place n.pages (at / 4096) → decoded.IsCode n code.now }
 {
-    let mark = mark_of(&code.marks, place);
-    if mark == 0 {
+    if place > code.last {
         return false;
     }
-    has_step(&code.steps, mark - 1, at)
+    match find_near(code, here, at / 4096) {
+        Some(k) => has_step(&code.steps, k, at),
+        None => false,
+    }
 }
 
 // Whether the word that has the address is decoded in a page, where there is such a page.
-fn has_step(steps: &Vec<[Instr; 1024]>, k: usize, at: u32) -> bool
-    ensures { result ≡ false → decoded.is_decoded (get_or (get_or steps.now.items k []) (at / 4 % 1024) decoded.undecoded).op ≡ false }
+fn has_step(steps: &Vec<Box<[Instr; 1024]>>, k: usize, at: u32) -> bool
+    ensures { result ≡ false → decoded.is_decoded (get_or (get_or (decoded.pages steps.now.items) k []) (at / 4 % 1024) decoded.undecoded).op ≡ false }
 {
     if k < steps.len() {
-        is_decoded(steps[k][(at / 4 % 1024) as usize].op)
+        is_decoded(steps_at(steps, k)[(at / 4 % 1024) as usize].op)
     } else {
         false
     }
@@ -131,32 +143,45 @@ fn has_step(steps: &Vec<[Instr; 1024]>, k: usize, at: u32) -> bool
 pub fn keep(code: &mut Code, here: usize, pc: u32, step: Instr)
     requires here { here < length code.old.steps.items }
     requires aligned { pc % 4 ≡ 0 }
-    ensures kept { length (get_or code.old.steps.items here []) ≡ 1024 → decoded.step_of code.new here (pc / 4 % 1024) ≡ step }
+    ensures kept { length (get_or (decoded.pages code.old.steps.items) here []) ≡ 1024 → decoded.step_of code.new here (pc / 4 % 1024) ≡ step }
     ensures fresh { (m : paged.State) → decoded.IsCode m code.old → get_or code.old.numbers.items here 0 ≡ pc / 4096 → decoded.IsFresh (paged.word_at m pc) step → decoded.IsCode m code.new }
     ensures numbers { code.new.numbers ≡ code.old.numbers }
 {
-    code.steps[here][(pc / 4 % 1024) as usize] = step;
+    set_step(&mut code.steps, here, (pc / 4 % 1024) as usize, step);
+}
+
+// Sets the step of a word in a decoded page.
+fn set_step(steps: &mut Vec<Box<[Instr; 1024]>>, k: usize, word: usize, step: Instr)
+    requires some { k < length steps.old.items }
+    requires within { word < 1024 }
+    ensures { decoded.pages steps.new.items ≡ set (decoded.pages steps.old.items) k (set (get_or (decoded.pages steps.old.items) k []) word step) }
+{
+    steps[k][word] = step;
 }
 
 /// The decoded page of the page with a number, which stands at a place in memory; a new one where it is not decoded.
 pub fn decoded_page(code: &mut Code, place: usize, number: u32) -> Result<usize, AllocError>
+    requires { length code.old.steps.items ≡ length code.old.numbers.items }
     ensures here { IfOk result (λ here. (here < length code.new.numbers.items) × (get_or code.new.numbers.items here 0 ≡ number)) }
     ensures code { (m : paged.State) → decoded.IsCode m code.old → paged.is_touched m number ≡ true → place ≡ paged.place m.pages number → decoded.IsCode m code.new }
 {
-    match find(code, place, number) {
-        Some(here) => Ok(here),
-        None => add(code, place, number),
+    match search(&code.numbers, number) {
+        Ok(here) => Ok(here),
+        Err(here) => {
+            add(code, here, place, number)?;
+            Ok(here)
+        }
     }
 }
 
-/// Forgets the step of the word that has the address, in a page that stands at a place in memory.
-pub fn forget(code: &mut Code, place: usize, at: u32)
-    ensures fresh { (m n : paged.State) → decoded.IsCode m code.old → decoded.DiffersAt m n (at / 4 * 4) → place ≡ paged.place n.pages (at / 4096) → decoded.IsCode n code.new }
+/// Forgets the step of the word that has the address.
+pub fn forget(code: &mut Code, at: u32)
+    ensures fresh { (m n : paged.State) → decoded.IsCode m code.old → decoded.DiffersAt m n (at / 4 * 4) → decoded.IsCode n code.new }
     ensures numbers { code.new.numbers ≡ code.old.numbers }
 {
-    let mark = mark_of(&code.marks, place);
-    if mark != 0 {
-        clear(&mut code.steps, mark - 1, at);
+    match find(&code.numbers, at / 4096) {
+        Some(k) => clear(&mut code.steps, k, at),
+        None => {}
     }
 }
 
@@ -165,48 +190,33 @@ pub fn forget_stale(code: &mut Code, stale: Option<Stored>)
     ensures { (m : paged.State) → decoded.IsKept stale m code.old → decoded.IsCode m code.new }
 {
     match stale {
-        Some(stored) => forget(code, stored.place, stored.at),
+        Some(stored) => forget(code, stored.at),
         None => {}
     }
 }
 
-// The mark of a place in memory, 0 where there is none.
-#[inline(always)]
-fn mark_of(marks: &Vec<usize>, place: usize) -> usize
-    ensures { result ≡ get_or marks.now.items place 0 }
-{
-    match marks.get(place) {
-        Some(mark) => *mark,
-        None => 0,
-    }
-}
-
 // Forgets the step of the word that has the address, where there is such a page.
-fn clear(steps: &mut Vec<[Instr; 1024]>, k: usize, at: u32)
+fn clear(steps: &mut Vec<Box<[Instr; 1024]>>, k: usize, at: u32)
     ensures count { length steps.new.items ≡ length steps.old.items }
-    ensures whole { (i : ℕ) → length (get_or steps.new.items i []) ≡ length (get_or steps.old.items i []) }
-    ensures there { get_or (get_or steps.new.items k []) (at / 4 % 1024) decoded.undecoded ≡ decoded.undecoded }
-    ensures others { (i j : ℕ) → decoded.IsClearedAt steps.old.items steps.new.items i j }
+    ensures whole { (i : ℕ) → length (get_or (decoded.pages steps.new.items) i []) ≡ length (get_or (decoded.pages steps.old.items) i []) }
+    ensures there { get_or (get_or (decoded.pages steps.new.items) k []) (at / 4 % 1024) decoded.undecoded ≡ decoded.undecoded }
+    ensures others { (i j : ℕ) → decoded.IsClearedAt (decoded.pages steps.old.items) (decoded.pages steps.new.items) i j }
 {
     if k < steps.len() {
-        steps[k][(at / 4 % 1024) as usize] = UNDECODED;
+        set_step(steps, k, (at / 4 % 1024) as usize, UNDECODED);
     }
 }
 
-// The decoded page with the number, whose page stands at a place in memory.
-fn find(code: &Code, place: usize, number: u32) -> Option<usize>
-    ensures some { IfSome result (λ here. (here < length code.now.numbers.items) × (get_or code.now.numbers.items here 0 ≡ number)) }
-    ensures none { IfNone result ((m : paged.State) → decoded.IsCode m code.now → place ≡ paged.place m.pages number → (k : ℕ) → k < length code.now.numbers.items → get_or code.now.numbers.items k 0 ≢ number) }
+// The decoded page with the number. The page that is named is looked at first.
+#[inline(always)]
+fn find_near(code: &Code, here: usize, number: u32) -> Option<usize>
+    ensures some { IfSome result (λ k. (k < length code.now.numbers.items) × (get_or code.now.numbers.items k 0 ≡ number)) }
+    ensures none { IfNone result (decoded.IsAscending code.now.numbers.items → (k : ℕ) → k < length code.now.numbers.items → get_or code.now.numbers.items k 0 ≢ number) }
 {
-    let mark = mark_of(&code.marks, place);
-    if mark == 0 {
-        return None;
+    if is_at(&code.numbers, here, number) {
+        return Some(here);
     }
-    if is_at(&code.numbers, mark - 1, number) {
-        Some(mark - 1)
-    } else {
-        None
-    }
+    find(&code.numbers, number)
 }
 
 fn is_at(numbers: &Vec<u32>, k: usize, number: u32) -> bool
@@ -218,29 +228,38 @@ fn is_at(numbers: &Vec<u32>, k: usize, number: u32) -> bool
     }
 }
 
-// Adds a page of which no word is decoded.
-fn add(code: &mut Code, place: usize, number: u32) -> Result<usize, AllocError>
-    ensures here { IfOk result (λ here. (here < length code.new.numbers.items) × (get_or code.new.numbers.items here 0 ≡ number)) }
-    ensures code { (m : paged.State) → decoded.IsCode m code.old → paged.is_touched m number ≡ true → place ≡ paged.place m.pages number → ((k : ℕ) → k < length code.old.numbers.items → get_or code.old.numbers.items k 0 ≢ number) → decoded.IsCode m code.new }
+// The place of a number among those of the decoded pages, if it is there.
+fn find(numbers: &Vec<u32>, number: u32) -> Option<usize>
+    ensures some { IfSome result (λ k. (k < length numbers.now.items) × (get_or numbers.now.items k 0 ≡ number)) }
+    ensures none { IfNone result (decoded.IsAscending numbers.now.items → (k : ℕ) → k < length numbers.now.items → get_or numbers.now.items k 0 ≢ number) }
 {
-    let n = code.numbers.len();
-    extend_with_zeros(&mut code.marks, place)?;
-    code.numbers.reserve(1)?;
-    code.steps.reserve(1)?;
-    code.numbers.push_reserved(number);
-    code.steps.push_reserved(*blank());
-    code.marks[place] = n + 1;
-    Ok(n)
+    match search(numbers, number) {
+        Ok(k) => Some(k),
+        Err(_) => None,
+    }
 }
 
-// Makes the marks go as far as a place; one that is new is 0, as before.
-fn extend_with_zeros(marks: &mut Vec<usize>, place: usize) -> Result<(), AllocError>
-    ensures same { (k : ℕ) → get_or marks.new.items k 0 ≡ get_or marks.old.items k 0 }
-    ensures size { OnOk result (place < length marks.new.items) }
+// The place of a number among those of the decoded pages, or where it is to be put.
+fn search(numbers: &Vec<u32>, number: u32) -> Result<usize, usize>
+    ensures there { IfOk result (λ k. (k < length numbers.now.items) × (get_or numbers.now.items k 0 ≡ number)) }
+    ensures within { IfErr result (λ k. k ≤ length numbers.now.items) }
+    ensures between { IfErr result (λ k. decoded.IsAscending numbers.now.items → decoded.IsBetween numbers.now.items k number) }
 {
-    while marks.len() <= place {
-        marks.push(0)?;
-    }
+    numbers.as_slice().binary_search(&number)
+}
+
+// Adds a page of which no word is decoded, at its place among the others.
+fn add(code: &mut Code, here: usize, place: usize, number: u32) -> Result<(), AllocError>
+    requires count { length code.old.steps.items ≡ length code.old.numbers.items }
+    requires within { here ≤ length code.old.numbers.items }
+    ensures here { OnOk result ((here < length code.new.numbers.items) × (get_or code.new.numbers.items here 0 ≡ number)) }
+    ensures code { (m : paged.State) → decoded.IsCode m code.old → paged.is_touched m number ≡ true → place ≡ paged.place m.pages number → decoded.IsBetween code.old.numbers.items here number → decoded.IsCode m code.new }
+{
+    let steps = Box::new(*code.steps.allocator(), *blank())?;
+    code.numbers.reserve(1)?;
+    code.steps.insert(here, steps)?;
+    code.numbers.insert(here, number)?;
+    code.last = code.last.max(place);
     Ok(())
 }
 
@@ -252,29 +271,32 @@ fn blank() -> &'static [Instr; 1024]
 }
 
 /// Forgets the steps of the words of the bytes that were put into memory from an address on.
-pub fn forget_all(code: &mut Code, memory: &Memory, at: u32, bytes: &[u8])
+pub fn forget_all(code: &mut Code, at: u32, bytes: &[u8])
     requires space { at + length bytes.now ≤ 2 ^ 32 }
-    ensures fresh { (m : paged.State) → decoded.IsCode m code.old → paged.AllTouched m at (length bytes.now) → memory.now ≡ paged.store_bytes m at bytes.now → decoded.IsCode memory.now code.new }
+    ensures fresh { (m : paged.State) → decoded.IsCode m code.old → decoded.IsCode (paged.store_bytes m at bytes.now) code.new }
     ensures numbers { code.new.numbers ≡ code.old.numbers }
 {
-    if code.numbers.is_empty() {
-        return;
-    }
     let mut done = 0;
     while done < bytes.len() {
         let here = at + done as u32;
-        forget(code, place_of(memory, here), here);
-        done = bytes.len().min(done + (4 - here as usize % 4));
+        let piece = forget_piece(code, here);
+        done = bytes.len().min(done + piece);
     }
 }
 
-// The place of the page of an address, or the number of the touched pages where it was not touched.
-#[inline(always)]
-fn place_of(memory: &Memory, at: u32) -> usize
-    ensures { result ≡ paged.place memory.now.pages (at / 4096) }
+// Forgets the step of the word that has the address; gives how many bytes from there on have no step any more: those up
+// to the end of the word, or of a page that is not decoded.
+fn forget_piece(code: &mut Code, at: u32) -> usize
+    ensures some { 0 < result }
+    ensures within { at % 4096 + result ≤ 4096 }
+    ensures fresh { (m : paged.State) (bytes : List ℕ) → decoded.IsCode m code.old → length bytes ≤ result → decoded.IsCode (paged.store_bytes m at bytes) code.new }
+    ensures numbers { code.new.numbers ≡ code.old.numbers }
 {
-    match memory.find(at) {
-        Some(place) => place,
-        None => memory.pages() as usize,
+    match find(&code.numbers, at / 4096) {
+        Some(k) => {
+            clear(&mut code.steps, k, at);
+            4 - at as usize % 4
+        }
+        None => 4096 - at as usize % 4096,
     }
 }

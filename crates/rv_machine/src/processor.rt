@@ -159,7 +159,7 @@ impl Processor {
         match self.memory.touch_range(at, bytes.len() as u64) {
             Ok(()) => {
                 self.memory.copy_in(at, bytes);
-                forget_all(code, &self.memory, at, bytes);
+                forget_all(code, at, bytes);
                 Ok(())
             }
             Err(_) => Err(NoMemory),

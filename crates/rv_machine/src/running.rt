@@ -7,7 +7,9 @@ ghost use Rattle.rv_machine.specs.Storage.{hart_of};
 ghost use Rattle.rv_word.specs.Table.{instruction_of};
 ghost use Rattle.rv_memory.specs.Paged as memory;
 
-use crate::code::{Code, decoded_page, is_decoded, is_stale, keep, operation_at, step_at, step_of};
+use crate::code::{
+    Code, decoded_page, is_decoded, is_stale, keep, operation_at, step_at, step_of, steps_at,
+};
 use crate::ending::{Ending, Trap};
 use crate::processor::{Flow, Processor, ProgramCounter, Stop, Stored, next_pc};
 use rv_memory::MemFault;
@@ -106,7 +108,7 @@ pub fn run_in_page(
     ensures code { decoded.IsKept result.stale processor.new.memory code.now }
     ensures pauses { (s : stepping.State) → running.IsStateOf s processor.old pc cost limit → running.Pauses result.stop s (running.moved s processor.new result.pc (limit - result.left)) }
 {
-    let steps = &code.steps[here];
+    let steps = steps_at(&code.steps, here);
     let page = pc / 4096 * 4096;
     let mut word = (pc / 4 % 1024) as usize;
     let mut left = limit - cost;
@@ -119,7 +121,7 @@ pub fn run_in_page(
         let next = match processor.operate(now, i) {
             Flow::Next => word + 1,
             Flow::Stored(stored) => {
-                if is_stale(code, stored.place, stored.at) {
+                if is_stale(code, here, stored.place, stored.at) {
                     return paused(next_pc(now.address()), left - 1, None, Some(stored));
                 }
                 word + 1

@@ -1,16 +1,14 @@
-use Rattle.std.proofs.Common.{◌≡◌, ◌-◌, refl, ap, arith, inl}
+use Rattle.std.proofs.Common.{◌≡◌, refl, ap, ◌∙◌, sym, inl}
 use Rattle.rv_word.specs.declared.instr.Instr.{Instr}
 use Rattle.rv_machine.specs.Decoded.{is_decoded}
-use Rattle.rv_machine.proofs.Kept.{forgotten}
+use Rattle.rv_machine.proofs.Kept.{forgotten, same_place}
 use Rattle.rv_machine.proofs.code.forget.Goals as goal
 
-pub returns-then-mark-ne0-clause-fresh : goal.returns-then-mark-ne0-clause-fresh
-returns-then-mark-ne0-clause-fresh c =
-    λ m n w d e.
-    forgotten m n c.args.code.now _ c.args.place c.args.at w d e refl refl c.clear.ensures.count c.clear.ensures.whole c.clear.ensures.others
-    (λ k mark. let same : c.mark_of-mark.result - 1 ≡ k = omega (arith, mark, c.mark_of-mark.ensures) in ap (λ (x : Instr). is_decoded x.op) (rw same at c.clear.ensures.there))
+pub returns-in-Some-clause-fresh : goal.returns-in-Some-clause-fresh
+returns-in-Some-clause-fresh c =
+    λ m n w d.
+    forgotten m n c.args.code.now _ c.args.at w d refl refl c.clear.ensures.count c.clear.ensures.whole c.clear.ensures.others
+    (λ k l page. let same : c.in-Some.k ≡ k = same_place c.args.code.now.numbers.items c.in-Some.k k w.ascending c.in-Some.ensures.some.0 l (c.in-Some.ensures.some.1 ∙ sym page) in ap (λ (x : Instr). is_decoded x.op) (rw same at c.clear.ensures.there))
 
-pub returns-else-mark-ne0-clause-fresh : goal.returns-else-mark-ne0-clause-fresh
-returns-else-mark-ne0-clause-fresh c =
-    λ m n w d e.
-    forgotten m n c.args.code.now _ c.args.place c.args.at w d e refl refl refl (λ i. refl) (λ i j. inl refl) (λ k mark. absurd (omega (arith, mark, c.mark_of-mark.ensures)))
+pub returns-in-None-clause-fresh : goal.returns-in-None-clause-fresh
+returns-in-None-clause-fresh c = λ m n w d. forgotten m n c.args.code.now _ c.args.at w d refl refl refl (λ i. refl) (λ i j. inl refl) (λ k l page. absurd (c.in-None.ensures.none w.ascending k l page))

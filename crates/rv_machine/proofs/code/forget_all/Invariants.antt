@@ -8,7 +8,7 @@ invariant-loop-done l =
     record {
       within : l.done ≤ length l.bytes;
       numbers : l.code.numbers ≡ l.fn.code.numbers;
-      fresh : (m : memory.State) → IsCode m l.fn.code → memory.AllTouched m l.at (length l.bytes) → l.memory ≡ memory.store_bytes m l.at l.bytes → IsCode (memory.store_bytes m l.at (take l.done l.bytes)) l.code;
+      fresh : (m : memory.State) → IsCode m l.fn.code → IsCode (memory.store_bytes m l.at (take l.done l.bytes)) l.code;
     }
 
 abbrev pub decreases-loop-done : goal.decreases-loop-done

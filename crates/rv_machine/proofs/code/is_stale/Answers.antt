@@ -1,14 +1,17 @@
-use Rattle.std.proofs.Common.{◌≡◌, ◌-◌, refl, arith, inl}
-use Rattle.rv_machine.proofs.Kept.{forgotten}
+use Rattle.std.proofs.Common.{◌≡◌, ◌≢◌, refl, ap, ◌∙◌, sym, arith, inl, subst}
+use Rattle.rv_machine.proofs.Kept.{forgotten, behind, same_place}
 use Rattle.rv_machine.proofs.code.is_stale.Goals as goal
 
-pub returns-then-mark-eq0 : goal.returns-then-mark-eq0
-returns-then-mark-eq0 c =
-    λ r m n w d e.
-    forgotten m n c.args.code.now c.args.code.now c.args.place c.args.at w d e refl refl refl (λ i. refl) (λ i j. inl refl) (λ k mark. absurd (omega (arith, mark, c.mark_of-mark.ensures)))
+pub returns-then-place-code : goal.returns-then-place-code
+returns-then-place-code c = λ r m n w d e. behind m n c.args.code.now c.args.place c.args.at w d e (omega arith)
 
-pub returns : goal.returns
-returns c =
+pub returns-in-Some : goal.returns-in-Some
+returns-in-Some c =
     λ r m n w d e.
-    forgotten m n c.args.code.now c.args.code.now c.args.place c.args.at w d e refl refl refl (λ i. refl) (λ i j. inl refl)
-    (λ k mark. let same : c.mark_of-mark.result - 1 ≡ k = omega (arith, mark, c.mark_of-mark.ensures) in rw same at (c.has_step.ensures r))
+    forgotten m n c.args.code.now c.args.code.now c.args.at w d refl refl refl (λ i. refl) (λ i j. inl refl)
+    (λ k l page. let same : c.in-Some.k ≡ k = same_place c.args.code.now.numbers.items c.in-Some.k k w.ascending c.in-Some.ensures.some.0 l (c.in-Some.ensures.some.1 ∙ sym page) in rw same at (c.has_step.ensures r))
+
+pub returns-in-None : goal.returns-in-None
+returns-in-None c =
+    λ r m n w d e.
+    forgotten m n c.args.code.now c.args.code.now c.args.at w d refl refl refl (λ i. refl) (λ i j. inl refl) (λ k l page. absurd (c.in-None.ensures.none w.ascending k l page))

@@ -43,7 +43,7 @@ returns-then-not-is_decoded-clause-pauses c =
     let spent = c.args.limit - l.left in
     let hart : Hart = hart_of l.processor pc in
     let stays = stopped_keeps hart c.operate.new.self c.in-Stopped.stop (operation c.step_at-i.result.op hart (instr_of c.step_at-i.result)) c.in-Stopped.ensures.does in
-    let same : c.step_at-i.result ≡ step_of code here l.word = read_kept l.processor.memory code c.index-steps.result.now here l.word c.step_at-i.result l.invariant.code c.requires.here.some c.index-steps.ensures c.step_at-i.ensures in
+    let same : c.step_at-i.result ≡ step_of code here l.word = read_kept code c.steps_at-steps.result.now here l.word c.step_at-i.result c.steps_at-steps.ensures c.step_at-i.ensures in
     let more : c.args.cost < spent = elim (cases_eq l.left (c.args.limit - c.args.cost)) [
       | inl start ↦
           let not : is_decoded (step_of code here l.word).op ≡ false = ap (λ (x : Instr). is_decoded x.op) (sym same) ∙ sym c.is_decoded.ensures ∙ c.if-not-is_decoded.true in
@@ -58,7 +58,7 @@ returns-then-not-is_decoded-clause-pauses c =
 pub operate-requires-clause-step : goal.operate-requires-clause-step
 operate-requires-clause-step c =
     let l = c.loop-left in
-    rw c.step_at-i.ensures (small_at l.processor.memory c.args.code.now c.index-steps.result.now c.args.here l.word l.invariant.code c.requires.here.some (omega arith) c.index-steps.ensures)
+    rw c.step_at-i.ensures (small_at l.processor.memory c.args.code.now c.steps_at-steps.result.now c.args.here l.word l.invariant.code c.requires.here.some (omega arith) c.steps_at-steps.ensures)
 
 pub operate-requires-clause-position : goal.operate-requires-clause-position
 operate-requires-clause-position c =
@@ -81,7 +81,7 @@ returns-then-is_stale-clause-pauses c =
     let hart : Hart = hart_of l.processor pc in
     let decoded : is_decoded c.step_at-i.result.op ≡ true = going_decoded hart c.step_at-i.result (flow.Stored c.in-Stored.stored) c.operate.new.self tt c.in-Stored.ensures.does in
     let ready : IsReadyStep l.processor.memory page l.word pc c.step_at-i.result =
-    ready_step l.processor.memory code c.index-steps.result.now here page l.word pc c.step_at-i.result l.invariant.code c.requires.here.some l.invariant.at (omega arith) (omega arith) refl c.index-steps.ensures c.step_at-i.ensures decoded in
+    ready_step l.processor.memory code c.steps_at-steps.result.now here page l.word pc c.step_at-i.result l.invariant.code c.requires.here.some l.invariant.at (omega arith) (omega arith) refl c.steps_at-steps.ensures c.step_at-i.ensures decoded in
     let more : c.args.limit - (l.left - 1) ≡ spent + 1 = omega arith in
     let does = decoded_does hart c.step_at-i.result (flow.Stored c.in-Stored.stored) c.operate.new.self ready.there ready.same c.in-Stored.ensures.does in
     λ s is.
@@ -99,7 +99,7 @@ returns-in-Jump-clause-code c =
     let hart : Hart = hart_of l.processor pc in
     let decoded : is_decoded c.step_at-i.result.op ≡ true = going_decoded hart c.step_at-i.result (flow.Jump c.in-Jump.to) c.operate.new.self tt c.in-Jump.ensures.does in
     let ready : IsReadyStep l.processor.memory page l.word pc c.step_at-i.result =
-    ready_step l.processor.memory code c.index-steps.result.now here page l.word pc c.step_at-i.result l.invariant.code c.requires.here.some l.invariant.at (omega arith) (omega arith) refl c.index-steps.ensures c.step_at-i.ensures decoded in
+    ready_step l.processor.memory code c.steps_at-steps.result.now here page l.word pc c.step_at-i.result l.invariant.code c.requires.here.some l.invariant.at (omega arith) (omega arith) refl c.steps_at-steps.ensures c.step_at-i.ensures decoded in
     let does = decoded_does hart c.step_at-i.result (flow.Jump c.in-Jump.to) c.operate.new.self ready.there ready.same c.in-Jump.ensures.does in
     rw c.paused-in-Jump.ensures (kept l.processor.memory c.operate.new.self.memory code (jump_goes hart c.in-Jump.to c.operate.new.self (instruction hart) does).1 l.invariant.code)
 
@@ -114,7 +114,7 @@ returns-in-Jump-clause-pauses c =
     let hart : Hart = hart_of l.processor pc in
     let decoded : is_decoded c.step_at-i.result.op ≡ true = going_decoded hart c.step_at-i.result (flow.Jump c.in-Jump.to) c.operate.new.self tt c.in-Jump.ensures.does in
     let ready : IsReadyStep l.processor.memory page l.word pc c.step_at-i.result =
-    ready_step l.processor.memory code c.index-steps.result.now here page l.word pc c.step_at-i.result l.invariant.code c.requires.here.some l.invariant.at (omega arith) (omega arith) refl c.index-steps.ensures c.step_at-i.ensures decoded in
+    ready_step l.processor.memory code c.steps_at-steps.result.now here page l.word pc c.step_at-i.result l.invariant.code c.requires.here.some l.invariant.at (omega arith) (omega arith) refl c.steps_at-steps.ensures c.step_at-i.ensures decoded in
     let more : c.args.limit - (l.left - 1) ≡ spent + 1 = omega arith in
     let does = decoded_does hart c.step_at-i.result (flow.Jump c.in-Jump.to) c.operate.new.self ready.there ready.same c.in-Jump.ensures.does in
     λ s is.
@@ -131,7 +131,7 @@ returns-in-Stopped-clause-pauses c =
     let spent = c.args.limit - l.left in
     let hart : Hart = hart_of l.processor pc in
     let ready : IsReadyStep l.processor.memory page l.word pc c.step_at-i.result =
-    ready_step l.processor.memory code c.index-steps.result.now here page l.word pc c.step_at-i.result l.invariant.code c.requires.here.some l.invariant.at (omega arith) (omega arith) refl c.index-steps.ensures c.step_at-i.ensures (sym c.is_decoded.ensures ∙ c.if-not-is_decoded.false) in
+    ready_step l.processor.memory code c.steps_at-steps.result.now here page l.word pc c.step_at-i.result l.invariant.code c.requires.here.some l.invariant.at (omega arith) (omega arith) refl c.steps_at-steps.ensures c.step_at-i.ensures (sym c.is_decoded.ensures ∙ c.if-not-is_decoded.false) in
     let does = decoded_does hart c.step_at-i.result (flow.Stopped c.in-Stopped.stop) c.operate.new.self ready.there ready.same c.in-Stopped.ensures.does in
     λ s is. rw (c.paused-in-Stopped.ensures, c.address-in-Stopped.ensures) (stopped_pauses s l.processor c.operate.new.self pc spent c.args.limit c.in-Stopped.stop is.has_limit (omega arith) (l.invariant.on_way s is) does)
 
@@ -150,7 +150,7 @@ loop-left-preserved c =
       | in-Within w ↦ going_decoded hart c.step_at-i.result (flow.Within w.in-Within.to) c.operate.new.self tt w.in-Within.ensures.does
     ] in
     let ready : IsReadyStep l.processor.memory page l.word pc c.step_at-i.result =
-    ready_step l.processor.memory code c.index-steps.result.now here page l.word pc c.step_at-i.result l.invariant.code c.requires.here.some l.invariant.at (omega arith) (omega arith) refl c.index-steps.ensures c.step_at-i.ensures decoded in
+    ready_step l.processor.memory code c.steps_at-steps.result.now here page l.word pc c.step_at-i.result l.invariant.code c.requires.here.some l.invariant.at (omega arith) (omega arith) refl c.steps_at-steps.ensures c.step_at-i.ensures decoded in
     let more : c.args.limit - (l.left - 1) ≡ spent + 1 = omega arith in
     let after : (page + 4 * (l.word + 1)) % 2 ^ 32 ≡ (pc + 4) % 2 ^ 32 = omega arith in
     record {

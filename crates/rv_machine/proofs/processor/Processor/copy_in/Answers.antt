@@ -8,4 +8,4 @@ returns-in-Ok-clause-code c =
     let n = length c.args.bytes.now in
     let before : IsCode c.self.inside.memory c.args.code.now = rw (← c.self.view_is) at c.requires.code in
     let touched : IsCode c.touch_range.new.self c.args.code.now = rw c.in-Ok.ensures.touched (kept c.self.inside.memory _ c.args.code.now (keeps_touch_range c.self.inside.memory c.args.at n) before) in
-    c.forget_all.ensures.fresh c.touch_range.new.self touched c.in-Ok.ensures.covered c.copy_in.ensures
+    rw c.copy_in.ensures (c.forget_all.ensures.fresh c.touch_range.new.self touched)
