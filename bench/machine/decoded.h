@@ -1,14 +1,16 @@
 // Pages that are decoded whole when control first comes to them, for interpreters that go on by a pointer into the decoded
 // page. Such an interpreter says before it includes this what a step keeps of its operation (LABEL) and how that is got
-// (label_of), and after that how it goes to the step at `ip` (DISPATCH).
+// (label_of), and after that how it goes to the step at `ip` (DISPATCH). A decoded page is its 1,024 steps. Where the next
+// step is that behind this one, `ip` is compared with the `end` of the page, and the interpreter goes to its label
+// `next_page` there.
 #include "machine.h"
 
 struct step { LABEL label; uint8_t rd, rs1, rs2; int32_t imm; };
-struct code { struct step steps[1025]; }; // the last goes on to the next page
+struct code { struct step steps[1024]; };
 
 static struct code **codes; // for the place of each page, its code or NULL
 
-static inline LABEL label_of(int operation); // OPS stands for going on to the next page
+static inline LABEL label_of(int operation);
 
 static void prepare(struct machine *m) { (void)m; }
 static void on_new_page(struct machine *m) {
@@ -29,7 +31,6 @@ static struct code *code_of(struct machine *m, uint32_t k) {
             memcpy(&word, m->pages[k].bytes + 4 * n, 4);
             codes[k]->steps[n] = step_of(word);
         }
-        codes[k]->steps[1024].label = label_of(OPS);
     }
     return codes[k];
 }
@@ -52,7 +53,7 @@ static void stored(struct machine *m, uint32_t at, uint32_t n) {
 #define IMM ((uint32_t)ip->imm)
 #define PC (base + 4 * (uint32_t)(ip - code->steps))
 #define GO if (cost >= limit) { e = TIME; goto out; } DISPATCH
-#define NEXT do { ip++; cost++; GO; } while (0)
+#define NEXT do { ip++; cost++; if (ip == end) goto next_page; GO; } while (0)
 #define GIVE(value) do { m->reg[ip->rd] = (value); NEXT; } while (0)
 #define TO(to) do { pc = (to); if (pc & 3) { e = TRAP_JUMP; goto out; } } while (0)
 #define HERE ((pc ^ base) < 4096)

@@ -11,7 +11,7 @@ static int run(struct machine *m) {
     uint32_t pc = m->pc, base, at, k, v;
     uint64_t cost = m->cost, limit = m->limit;
     struct code *code;
-    struct step *ip;
+    struct step *ip, *end;
     int e;
 enter: // to pc, in another page
     if (cost >= limit) { e = TIME; goto stop; }
@@ -20,11 +20,9 @@ enter: // to pc, in another page
     base = pc & ~4095u;
     code = code_of(m, k);
     ip = &code->steps[(pc & 4095) >> 2];
+    end = code->steps + 1024;
     DISPATCH;
 again: switch (ip->label) {
-case OPS:
-    pc = base + 4096;
-    goto enter;
 case ILLEGAL: e = TRAP_ILLEGAL; goto out;
 #define X(operation, effect) case operation: effect;
 #include "operations.h"
@@ -35,9 +33,13 @@ case ECALL:
     cost = m->cost;
     if (e >= 0) goto out;
     ip++;
+    if (ip == end) goto next_page;
     GO;
 case EBREAK: e = TRAP_BREAK; goto out;
 }
+next_page:
+    pc = base + 4096;
+    goto enter;
 out:
     pc = PC;
 stop:

@@ -10,7 +10,7 @@ static inline const void *label_of(int operation) { return labels[operation]; }
 
 static int run(struct machine *m) {
 #define X(operation, effect) [operation] = &&operation##_,
-    static const void *const table[OPS + 1] = { [ILLEGAL] = &&illegal, [ECALL] = &&ecall, [EBREAK] = &&ebreak, [OPS] = &&next_page,
+    static const void *const table[OPS] = { [ILLEGAL] = &&illegal, [ECALL] = &&ecall, [EBREAK] = &&ebreak,
 #include "operations.h"
     };
 #undef X
@@ -18,7 +18,7 @@ static int run(struct machine *m) {
     uint32_t pc = m->pc, base, at, k, v;
     uint64_t cost = m->cost, limit = m->limit;
     struct code *code;
-    struct step *ip;
+    struct step *ip, *end;
     int e;
 enter: // to pc, in another page
     if (cost >= limit) { e = TIME; goto stop; }
@@ -27,6 +27,7 @@ enter: // to pc, in another page
     base = pc & ~4095u;
     code = code_of(m, k);
     ip = &code->steps[(pc & 4095) >> 2];
+    end = code->steps + 1024;
     DISPATCH;
 next_page:
     pc = base + 4096;
@@ -41,6 +42,7 @@ ecall:
     cost = m->cost;
     if (e >= 0) goto out;
     ip++;
+    if (ip == end) goto next_page;
     GO;
 ebreak: e = TRAP_BREAK; goto out;
 out:
