@@ -1,4 +1,4 @@
-ghost use Rattle.std.specs.Prelude.{ℕ, List, ◌≡◌, ◌≢◌, ◌+◌, ◌*◌, ◌/◌, ◌%◌, ◌^◌, ◌<◌, ◌≤◌, ◌↔◌, [], IfOk, IfErr, IfSome, IfNone, OnOk, IsTrue, true, false, length, get_or, set};
+ghost use Rattle.std.specs.Prelude.{ℕ, List, ◌≡◌, ◌≢◌, ◌+◌, ◌-◌, ◌*◌, ◌/◌, ◌%◌, ◌^◌, ◌<◌, ◌≤◌, ◌↔◌, [], IfOk, IfErr, IfSome, IfNone, OnOk, IsTrue, true, false, length, get_or, set};
 ghost use Rattle.rv_machine.specs.Decoded as decoded;
 ghost use Rattle.rv_memory.specs.Paged as paged;
 
@@ -117,6 +117,8 @@ pub fn step_at(page: &[Instr; 1024], word: usize) -> Instr
 /// at first.
 #[inline(always)]
 pub fn is_stale(code: &Code, here: usize, place: usize, at: u32) -> bool
+    requires count { length code.now.steps.items ≡ length code.now.numbers.items }
+    requires here { here < length code.now.numbers.items }
     ensures { result ≡ false → (m n : paged.State) → decoded.IsCode m code.now → decoded.DiffersAt m n (at / 4 * 4) → place ≡ paged.place n.pages (at / 4096) → decoded.IsCode n code.now }
 {
     if place > code.last {
@@ -128,15 +130,13 @@ pub fn is_stale(code: &Code, here: usize, place: usize, at: u32) -> bool
     }
 }
 
-// Whether the word that has the address is decoded in a page, where there is such a page.
+// Whether the word that has the address is decoded in a page.
+#[inline(always)]
 fn has_step(steps: &Vec<Box<[Instr; 1024]>>, k: usize, at: u32) -> bool
+    requires { k < length steps.now.items }
     ensures { result ≡ false → decoded.is_decoded (get_or (get_or (decoded.pages steps.now.items) k []) (at / 4 % 1024) decoded.undecoded).op ≡ false }
 {
-    if k < steps.len() {
-        is_decoded(steps_at(steps, k)[(at / 4 % 1024) as usize].op)
-    } else {
-        false
-    }
+    is_decoded(steps_at(steps, k)[(at / 4 % 1024) as usize].op)
 }
 
 /// Keeps the step of the word at an address in a decoded page.
@@ -210,25 +210,18 @@ fn clear(steps: &mut Vec<Box<[Instr; 1024]>>, k: usize, at: u32)
 // The decoded page with the number. The page that is named is looked at first.
 #[inline(always)]
 fn find_near(code: &Code, here: usize, number: u32) -> Option<usize>
+    requires { here < length code.now.numbers.items }
     ensures some { IfSome result (λ k. (k < length code.now.numbers.items) × (get_or code.now.numbers.items k 0 ≡ number)) }
     ensures none { IfNone result (decoded.IsAscending code.now.numbers.items → (k : ℕ) → k < length code.now.numbers.items → get_or code.now.numbers.items k 0 ≢ number) }
 {
-    if is_at(&code.numbers, here, number) {
+    if code.numbers[here] == number {
         return Some(here);
     }
     find(&code.numbers, number)
 }
 
-fn is_at(numbers: &Vec<u32>, k: usize, number: u32) -> bool
-    ensures { IsTrue result ↔ ((k < length numbers.now.items) × (get_or numbers.now.items k 0 ≡ number)) }
-{
-    match numbers.get(k) {
-        Some(n) => *n == number,
-        None => false,
-    }
-}
-
 // The place of a number among those of the decoded pages, if it is there.
+#[inline(never)]
 fn find(numbers: &Vec<u32>, number: u32) -> Option<usize>
     ensures some { IfSome result (λ k. (k < length numbers.now.items) × (get_or numbers.now.items k 0 ≡ number)) }
     ensures none { IfNone result (decoded.IsAscending numbers.now.items → (k : ℕ) → k < length numbers.now.items → get_or numbers.now.items k 0 ≢ number) }
@@ -245,7 +238,32 @@ fn search(numbers: &Vec<u32>, number: u32) -> Result<usize, usize>
     ensures within { IfErr result (λ k. k ≤ length numbers.now.items) }
     ensures between { IfErr result (λ k. decoded.IsAscending numbers.now.items → decoded.IsBetween numbers.now.items k number) }
 {
+    let guess = guess(numbers, number);
+    if is_at(numbers, guess, number) {
+        return Ok(guess);
+    }
     numbers.as_slice().binary_search(&number)
+}
+
+// The place of a number where the pages from the first one up to it are all decoded; any number where they are not.
+#[inline(always)]
+fn guess(numbers: &Vec<u32>, number: u32) -> usize
+    ensures { 0 < length numbers.now.items → get_or numbers.now.items 0 0 ≤ number → result ≡ number - get_or numbers.now.items 0 0 }
+{
+    match numbers.get(0) {
+        Some(first) => number.wrapping_sub(*first) as usize,
+        None => 0,
+    }
+}
+
+#[inline(always)]
+fn is_at(numbers: &Vec<u32>, k: usize, number: u32) -> bool
+    ensures { IsTrue result ↔ ((k < length numbers.now.items) × (get_or numbers.now.items k 0 ≡ number)) }
+{
+    match numbers.get(k) {
+        Some(n) => *n == number,
+        None => false,
+    }
 }
 
 // Adds a page of which no word is decoded, at its place among the others.
