@@ -1,4 +1,4 @@
-use Rattle.std.proofs.Common.{ℕ, ◌≡◌, List, refl, ap, ◌∙◌}
+use Rattle.std.proofs.Common.{ℕ, List, refl, ap, ◌∙◌}
 use Rattle.std.specs.List.{insert}
 use Rattle.rv_word.specs.declared.instr.Instr.{Instr}
 use Rattle.rv_machine.specs.Decoded.{pages}

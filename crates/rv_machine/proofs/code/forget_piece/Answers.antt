@@ -1,4 +1,4 @@
-use Rattle.std.proofs.Common.{ℕ, ◌≡◌, ◌+◌, ◌-◌, ◌*◌, ◌/◌, ◌%◌, ◌≤◌, length, refl, ap, ◌∙◌, sym, arith}
+use Rattle.std.proofs.Common.{◌≡◌, refl, ap, ◌∙◌, sym, arith}
 use Rattle.rv_word.specs.declared.instr.Instr.{Instr}
 use Rattle.rv_memory.specs.Paged as memory
 use Rattle.rv_machine.specs.Decoded.{is_decoded}

@@ -1,4 +1,4 @@
-use Rattle.std.proofs.Common.{◌≡◌, ◌≢◌, refl, ap, ◌∙◌, sym, arith, inl, subst}
+use Rattle.std.proofs.Common.{◌≡◌, refl, ◌∙◌, sym, arith, inl}
 use Rattle.rv_machine.proofs.Kept.{forgotten, behind, same_place}
 use Rattle.rv_machine.proofs.code.is_stale.Goals as goal
 

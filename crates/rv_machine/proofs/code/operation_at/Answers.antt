@@ -1,7 +1,7 @@
-use Rattle.std.proofs.Common.{◌≡◌, ◌/◌, ◌%◌, [], List, get_or, length, ap, ◌∙◌, arith, sym}
+use Rattle.std.proofs.Common.{◌≡◌, ◌/◌, ◌%◌, List, get_or, length, ap, ◌∙◌, arith}
 use Rattle.std.proofs.lemmas.List.{get_or_default}
 use Rattle.rv_word.specs.declared.instr.Instr.{Instr}
-use Rattle.rv_machine.specs.Decoded.{pages, undecoded}
+use Rattle.rv_machine.specs.Decoded.{undecoded}
 use Rattle.rv_machine.proofs.code.operation_at.Goals as goal
 
 pub returns : goal.returns
