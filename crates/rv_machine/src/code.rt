@@ -118,25 +118,18 @@ pub fn step_at(page: &[Instr; 1024], word: usize) -> Instr
 #[inline(always)]
 pub fn is_stale(code: &Code, here: usize, place: usize, at: u32) -> bool
     requires count { length code.now.steps.items ≡ length code.now.numbers.items }
+    requires whole { (k : ℕ) → k < length code.now.numbers.items → length (get_or (decoded.pages code.now.steps.items) k []) ≡ 1024 }
     requires here { here < length code.now.numbers.items }
-    ensures { result ≡ false → (m n : paged.State) → decoded.IsCode m code.now → decoded.DiffersAt m n (at / 4 * 4) → place ≡ paged.place n.pages (at / 4096) → decoded.IsCode n code.now }
+    ensures decoded { result ≡ true → (k : ℕ) × decoded.IsReady code.now k at }
+    ensures kept { result ≡ false → (m n : paged.State) → decoded.IsCode m code.now → decoded.DiffersAt m n (at / 4 * 4) → place ≡ paged.place n.pages (at / 4096) → decoded.IsCode n code.now }
 {
     if place > code.last {
         return false;
     }
     match find_near(code, here, at / 4096) {
-        Some(k) => has_step(&code.steps, k, at),
+        Some(k) => is_decoded(operation_at(code, k, at)),
         None => false,
     }
-}
-
-// Whether the word that has the address is decoded in a page.
-#[inline(always)]
-fn has_step(steps: &Vec<Box<[Instr; 1024]>>, k: usize, at: u32) -> bool
-    requires { k < length steps.now.items }
-    ensures { result ≡ false → decoded.is_decoded (get_or (get_or (decoded.pages steps.now.items) k []) (at / 4 % 1024) decoded.undecoded).op ≡ false }
-{
-    is_decoded(steps_at(steps, k)[(at / 4 % 1024) as usize].op)
 }
 
 /// Keeps the step of the word at an address in a decoded page.

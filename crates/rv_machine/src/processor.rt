@@ -181,6 +181,7 @@ impl Processor {
     pub fn word(&mut self, at: u32) -> Result<u32, MemFault>
         requires { memory.is_touched self.old.memory (at / 4096) ≡ true }
         ensures value { IfOk result (λ v. v ≡ memory.word_at self.old.memory at) }
+        ensures refused { IfErr result (memory.Refuses 4 self.old.memory at) }
         ensures unchanged { self.new ≡ self.old }
     {
         self.memory.load32(at)

@@ -166,7 +166,7 @@ loop-left-preserved c =
         | in-Next w ↦ kept l.processor.memory c.operate.new.self.memory code (next_keeps hart c.operate.new.self (instruction hart) (decoded_does hart c.step_at-i.result flow.Next c.operate.new.self ready.there ready.same w.in-Next.ensures.does)) l.invariant.code
         | in-Stored+else-is_stale w ↦
             let written : IsWritten l.processor.memory c.operate.new.self.memory w.in-Stored.stored = stored_writes hart w.in-Stored.stored c.operate.new.self (instruction hart) (decoded_does hart c.step_at-i.result (flow.Stored w.in-Stored.stored) c.operate.new.self ready.there ready.same w.in-Stored.ensures.does) in
-            w.is_stale.ensures w.if-is_stale.false l.processor.memory c.operate.new.self.memory l.invariant.code written.differs written.at_place
+            w.is_stale.ensures.kept w.if-is_stale.false l.processor.memory c.operate.new.self.memory l.invariant.code written.differs written.at_place
         | in-Within w ↦ kept l.processor.memory c.operate.new.self.memory code (within_goes hart w.in-Within.to c.operate.new.self (instruction hart) (decoded_does hart c.step_at-i.result (flow.Within w.in-Within.to) c.operate.new.self ready.there ready.same w.in-Within.ensures.does)).1 l.invariant.code
       ];
       on_way = λ s is. rw more (elim c.match-operate.branch [
