@@ -75,7 +75,7 @@ fn judge_named<A: Admission + Send + Sync, R: Threads + Wait + Sync, G: Gate + S
     judge_rest(alloc, noted, roster, hosts, progress)
 }
 
-/// Brings the hosts down, does what they left, and reads the table.
+/// Judges what the hosts left, and gives the table with the journal.
 fn judge_rest<P: Progress>(
     alloc: Global,
     mut noted: NotedFarm,
@@ -90,15 +90,33 @@ fn judge_rest<P: Progress>(
     ensures kept { IfOk result (λ outcome. is_some outcome.history ≡ is_some noted.history) }
     ensures journal { IfOk result (λ outcome. (calls : List Call) → outcome.history ≡ Some calls → IsJournal roster.now hosts calls) }
 {
-    bring_down(&mut noted, hosts)?;
-    let host = caller();
-    noted.enter(&Event::Host { name: host })?;
-    let finished = finish(alloc, &mut noted, roster, host, progress);
-    progress.ends();
-    finished?;
-    let table = read_table(alloc, &mut noted, roster)?;
+    let table = judge_left(alloc, &mut noted, roster, hosts, progress)?;
     let NotedFarm { history, .. } = noted;
     Ok(Outcome { table, history })
+}
+
+/// Brings the hosts down, does what they left, and reads the table.
+fn judge_left<P: Progress>(
+    alloc: Global,
+    noted: &mut NotedFarm,
+    roster: &Roster,
+    hosts: u16,
+    progress: &mut P,
+) -> Result<TableRows, NoMemory>
+    requires hosts { hosts ≤ 16 }
+    requires under_way { IsUnderWay roster.now.settings (case_at roster.now) (map (tests_for roster.now) roster.now.submissions) [] (host_names hosts) noted.old.farm }
+    requires journal { KeepsJournal roster.now.settings (case_at roster.now) hosts noted.old.farm noted.old.history }
+    ensures table { IfOk result (λ table. table ≡ table_rows roster.now) }
+    ensures kept { is_some noted.new.history ≡ is_some noted.old.history }
+    ensures journal { IfOk result (λ _. (calls : List Call) → noted.new.history ≡ Some calls → IsJournal roster.now hosts calls) }
+{
+    bring_down(noted, hosts)?;
+    let host = caller();
+    noted.enter(&Event::Host { name: host })?;
+    let finished = finish(alloc, noted, roster, host, progress);
+    progress.ends();
+    finished?;
+    read_table(alloc, noted, roster)
 }
 
 /// Brings the hosts down, one after the other, so that they hold nothing.
