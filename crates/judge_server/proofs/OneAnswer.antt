@@ -1,6 +1,6 @@
 -- How one request is answered, from what was put.
-use Rattle.std.proofs.Common.{ℕ, ◌≡◌, List, [], Bool, true, false, Option, Result, Ok, Err, refl, sym, subst}
-use Rattle.std.specs.Io.KnownBytes.{Keeps}
+use Rattle.std.proofs.Common.{ℕ, ◌≡◌, List, [], Bool, true, false, Option, Result, Ok, Err, refl, sym, subst, take}
+use Rattle.std.specs.Io.KnownBytes.{Keeps, Appends}
 use Rattle.std.proofs.KnownBytes.{Keeps-refl}
 use Rattle.farm_kinds.specs.declared.events.Event.{Event}
 use Rattle.farm_kinds.specs.declared.events.Reply.{Reply}
@@ -12,37 +12,52 @@ use Rattle.http_door.specs.Responses.{Writes}
 use Rattle.judge_server.specs.declared.asking.Asked.{Asked}
 use Rattle.judge_server.specs.declared.asking.Asked.TheVariants as asked
 use Rattle.judge_server.specs.declared.asking.RequestFault.{RequestFault}
-use Rattle.judge_server.specs.Conversation.{asked_of, calls_in, reply_response, fault_response}
-use Rattle.judge_server.specs.Entering.{IsEntered, IsBegun}
+use Rattle.judge_server.specs.Conversation.{asked_of, reply_response, fault_response}
+use Rattle.judge_server.specs.Entering.{AreEntered, Replies, AreKnown, entered_for, IsBegun, IsEntered}
+use Rattle.judge_server.specs.Exchanges.{entered_by}
+use Rattle.judge_server.specs.Serving.{IsPartly, IsExchange, PutsAnswer, how_after, OneAnswered}
 use Rattle.judge_server.proofs.Enterings.{begun_all}
-use Rattle.judge_server.specs.Serving.{IsPartly, PutsAnswer, how_after, OneAnswered}
+
+-- replies to nothing
+abbrev no_replies : Replies
+no_replies = record { ticked = reply.Nothing; answer = reply.Nothing; downed = reply.Nothing }
+
+no_replies-known : AreKnown no_replies
+no_replies-known = record { ticked = λ is. cc is; answer = λ is. cc is; downed = λ is. cc is }
 
 -- nothing was entered
-pub begun_none : {A : Type 0} (step : A → Event → Reply → A → Type 0) (what : Asked) (moment : ℕ) (a : A) → IsBegun step (calls_in what moment) a a
+pub begun_none : {A : Type 0} (step : A → Event → Reply → A → Type 0) (what : Asked) (moment : ℕ) (a : A) → IsBegun step (entered_by moment what) a a
 begun_none step what moment a = record {
-  answer = reply.Nothing;
+  replies = no_replies;
   made = [];
-  later = calls_in what moment reply.Nothing;
-  whole = refl;
+  front = (entered_by moment what no_replies, refl);
   entered = refl;
 }
 
 -- nothing is asked, and the response says why
 pub put_fault : {A : Type 0} (step : A → Event → Reply → A → Type 0) (moment : ℕ) (a : A) (why : RequestFault) (held held' : Option (List ℕ)) (result : Result (Unit {0}) ResponseFault)
     → Writes held held' (fault_response why) result → PutsAnswer step moment (asked.Refused why) a a held held' result
-put_fault step moment a why held held' (Ok u) x = (fault_response why, (refl, refl), x)
-put_fault step moment a why held held' (Err fault.WriteFault) x = (fault_response why, x.0, (refl, refl), x.2)
+put_fault step moment a why held held' (Ok u) x = (no_replies, no_replies-known, refl, x)
+put_fault step moment a why held held' (Err fault.WriteFault) x = (no_replies, no_replies-known, refl, (x.0, x.2))
 put_fault step moment a why held held' (Err fault.NoMemory) x = (begun_none step (asked.Refused why) moment a, x)
 
 -- the event was entered, and the response is that to its reply
 pub put_reply : {A : Type 0} (step : A → Event → Reply → A → Type 0) (ticks : Bool) (moment : ℕ) (e : Event) (a b : A) (r : Reply) (held held' : Option (List ℕ)) (result : Result (Unit {0}) ResponseFault)
-    → IsEntered step ticks moment e a b r → Writes held held' (reply_response r) result → PutsAnswer step moment (asked.Event ticks e) a b held held' result
-put_reply step ticks moment e a b r held held' (Ok u) y x = (reply_response r, record { answer = r; entered = y; told = refl }, x)
+    → IsEntered step (entered_for ticks moment e) a b r → Writes held held' (reply_response r) result → PutsAnswer step moment (asked.Event ticks e) a b held held' result
+put_reply step ticks moment e a b r held held' (Ok u) y x =
+    (y.replies, y.known, y.entered, subst (λ (z : Reply). Appends held held' (reply_response z)) y.is x)
 put_reply step ticks moment e a b r held held' (Err fault.WriteFault) y x =
-    (reply_response r, x.0, record { answer = r; entered = y; told = refl }, x.2)
+    (y.replies, y.known, y.entered, (x.0, subst (λ (z : Reply). Appends held held' (take x.0 (reply_response z))) y.is x.2))
 put_reply step ticks moment e a b r held held' (Err fault.NoMemory) y x =
-    let z = begun_all step ticks moment e a b r y in
-    (record { answer = z.answer; made = z.made; later = z.later; whole = z.whole; entered = z.entered }, x)
+    let z = begun_all step (entered_for ticks moment e) a b y.replies y.entered in
+    (record { replies = z.replies; made = z.made; front = z.front; entered = z.entered }, x)
+
+-- what was entered for the request, with these replies
+exchange_with : {A : Type 0} (step : A → Event → Reply → A → Type 0) (shows : ℕ → Bool) (moment : ℕ) (a b : A) (r : Request) (replies : Replies)
+    → shows moment ≡ true → AreKnown replies → AreEntered step a (entered_by moment (asked_of r) replies) b
+    → IsExchange step shows a r (record { request = r; moment = moment; replies = replies }) b
+exchange_with step shows moment a b r replies shown known entered =
+    record { is = refl; whole = record { shown = shown; known = known }; entered = entered }
 
 -- what was put of the answer to what a request asks
 pub one_answered : {A : Type 0} (step : A → Event → Reply → A → Type 0) (shows : ℕ → Bool) (moment : ℕ) (a b : A) (r : Request) (what : Asked) (held held' : Option (List ℕ)) (written : Result (Unit {0}) ResponseFault) (close : Bool)
@@ -50,13 +65,13 @@ pub one_answered : {A : Type 0} (step : A → Event → Reply → A → Type 0) 
     → OneAnswered step shows a b r held held' (how_after written close)
 one_answered {A} step shows moment a b r what held held' (Ok u) true shown is same x =
     let y = subst (λ (z : Asked). PutsAnswer step moment z a b held held' (Ok u)) is x in
-    (y.0, record { moment = moment; shown = shown; done = y.1 }, y.2, sym same)
+    (record { request = r; moment = moment; replies = y.0 }, exchange_with step shows moment a b r y.0 shown y.1 y.2, y.3, sym same)
 one_answered {A} step shows moment a b r what held held' (Ok u) false shown is same x =
     let y = subst (λ (z : Asked). PutsAnswer step moment z a b held held' (Ok u)) is x in
-    (y.0, record { moment = moment; shown = shown; done = y.1 }, y.2, sym same)
+    (record { request = r; moment = moment; replies = y.0 }, exchange_with step shows moment a b r y.0 shown y.1 y.2, y.3, sym same)
 one_answered {A} step shows moment a b r what held held' (Err fault.WriteFault) close shown is same x =
     let y = subst (λ (z : Asked). PutsAnswer step moment z a b held held' (Err fault.WriteFault)) is x in
-    (y.0, y.1, record { moment = moment; shown = shown; done = y.2 }, y.3)
+    (record { request = r; moment = moment; replies = y.0 }, exchange_with step shows moment a b r y.0 shown y.1 y.2, y.3)
 one_answered {A} step shows moment a b r what held held' (Err fault.NoMemory) close shown is same x =
     let y = subst (λ (z : Asked). PutsAnswer step moment z a b held held' (Err fault.NoMemory)) is x in
     (record { moment = moment; shown = shown; begun = y.0 }, y.1)

@@ -1,8 +1,7 @@
 -- What one turn of a connection does.
 use Rattle.std.proofs.Common.{ℕ, ◌≡◌, ◌+◌, ◌≤◌, inl, inr, List, [], ◌∷◌, ◌++◌, Bool, false, Option, Some, None, refl, sym, ap, ◌∙◌, subst, arith, length, take, append_assoc, IsUtf8}
-use Rattle.std.specs.Prelude.{All}
 use Rattle.std.specs.Io.KnownBytes.{Appends}
-use Rattle.std.proofs.lemmas.List.{append-nil, length-append}
+use Rattle.std.proofs.lemmas.List.{append-nil, length-append, map-append}
 use Rattle.std.proofs.lemmas.List.Elements.{All-push, All-nil}
 use Rattle.std.proofs.KnownBytes.{Consumes-nil, Consumes-trans, Appends-trans, Appends-nil, Appends-kept}
 use Rattle.farm_kinds.specs.declared.events.Event.{Event}
@@ -22,28 +21,40 @@ use Rattle.http_door.specs.Reading.{request_with, next_of, Reads, Gives, LeavesA
 use Rattle.http_door.proofs.Cutting.{requests_more, requests_then}
 use Rattle.judge_server.specs.declared.ends.ConnHow.{ConnHow}
 use Rattle.judge_server.specs.declared.ends.ConnHow.TheVariants as how
-use Rattle.judge_server.specs.Serving.{IsAnswered, OneAnswered, end_response, PutsEnd, Answers, Standing, IsUnderWay, EndsOf, IsServed, counted, Turned, HasCauseServed}
+use Rattle.judge_server.specs.Entering.{Entered, AreEntered}
+use Rattle.judge_server.specs.Exchanges.{Exchange, IsWhole, entered_in, text_of, requests_of, all_entered, all_text}
+use Rattle.judge_server.specs.Serving.{OneAnswered, end_response, PutsEnd, Standing, untaken, IsUnderWay, EndsOf, IsServed, counted, Turned, HasCauseServed}
+use Rattle.judge_server.proofs.Enterings.{entered_then}
 
-first_text : (text R : List ℕ) → text ≡ [] → text ++ R ≡ R ++ []
-first_text text R e = ap (λ z. z ++ R) e ∙ sym (append-nil R)
+-- one more exchange
 
-next_text : (text R more S : List ℕ) → text ≡ R ++ more → text ++ S ≡ R ++ (more ++ S)
-next_text text R more S e = ap (λ z. z ++ S) e ∙ append_assoc R more S
+all_entered-last : (xs : List Exchange) (x : Exchange) → all_entered (xs ++ x ∷ []) ≡ all_entered xs ++ entered_in x
+all_entered-last [] x = append-nil (entered_in x)
+all_entered-last (y ∷ xs) x = ap (λ (zs : List Entered). entered_in y ++ zs) (all_entered-last xs x) ∙ sym (append_assoc (entered_in y) (all_entered xs) (entered_in x))
 
--- one more answer
-answers_then : {A : Type 0} (step : A → Event → Reply → A → Type 0) (shows : ℕ → Bool) (a : A) (rs : List Request) (text : List ℕ) (m : A) (r : Request) (last : List ℕ) (b : A)
-    → Answers step shows a rs text m → IsAnswered step shows m r last b → Answers step shows a (rs ++ r ∷ []) (text ++ last) b
-answers_then {A} step shows a [] text m r last b x s =
-    (last, b, [], subst (λ (z : A). IsAnswered step shows z r last b) x.0 s, first_text text last x.1, (refl, refl))
-answers_then {A} step shows a (q ∷ rs) text m r last b x s =
-    (x.0, x.1, x.2 ++ last, x.3, next_text text x.0 x.2 last x.4, answers_then step shows x.1 rs x.2 m r last b x.5 s)
+entered_last : {A : Type 0} (step : A → Event → Reply → A → Type 0) (a m b : A) (xs : List Exchange) (x : Exchange)
+    → AreEntered step a (all_entered xs) m → AreEntered step m (entered_in x) b → AreEntered step a (all_entered (xs ++ x ∷ [])) b
+entered_last step a m b xs x was is =
+    subst (λ (zs : List Entered). AreEntered step a zs b) (sym (all_entered-last xs x)) (entered_then step a (all_entered xs) m (entered_in x) b was is)
 
-cut_then : (all ahead front rest : List ℕ) (rs : List Request) (r : Request) → AreRequests all rs ahead → IsRequest (ahead ++ front) r rest
-    → AreRequests (all ++ front) (rs ++ r ∷ []) rest
-cut_then all ahead front rest rs r x y = requests_then (all ++ front) rs (ahead ++ front) (r ∷ []) rest (requests_more all rs ahead front x) (rest, y, refl)
+all_text-last : (xs : List Exchange) (x : Exchange) → all_text (xs ++ x ∷ []) ≡ all_text xs ++ text_of x
+all_text-last [] x = append-nil (text_of x)
+all_text-last (y ∷ xs) x = ap (λ (zs : List ℕ). text_of y ++ zs) (all_text-last xs x) ∙ sym (append_assoc (text_of y) (all_text xs) (text_of x))
 
-longer : (rs : List Request) (r : Request) (n : ℕ) → length rs ≡ n → length (rs ++ r ∷ []) ≡ n + 1
-longer rs r n e = omega (arith, length-append rs (r ∷ []), e)
+wrote_last : (start held held' : Option (List ℕ)) (xs : List Exchange) (x : Exchange)
+    → Appends start held (all_text xs) → Appends held held' (text_of x) → Appends start held' (all_text (xs ++ x ∷ []))
+wrote_last start held held' xs x was is =
+    subst (λ (zs : List ℕ). Appends start held' zs) (sym (all_text-last xs x)) (Appends-trans start held held' (all_text xs) (text_of x) was is)
+
+cut_last : (all ahead front rest : List ℕ) (xs : List Exchange) (x : Exchange) (r : Request) → AreRequests all (requests_of xs) ahead
+    → x.request ≡ r → IsRequest (ahead ++ front) r rest → AreRequests (all ++ front) (requests_of (xs ++ x ∷ [])) rest
+cut_last all ahead front rest xs x r was same is =
+    subst (λ (rs : List Request). AreRequests (all ++ front) rs rest) (sym (map-append (λ (y : Exchange). y.request) xs (x ∷ [])))
+    (requests_then (all ++ front) (requests_of xs) (ahead ++ front) (x.request ∷ []) rest (requests_more all (requests_of xs) ahead front was)
+    (rest, subst (λ (q : Request). IsRequest (ahead ++ front) q rest) (sym same) is, refl))
+
+longer : (xs : List Exchange) (x : Exchange) (n : ℕ) → length xs ≡ n → length (xs ++ x ∷ []) ≡ n + 1
+longer xs x n e = omega (arith, length-append xs (x ∷ []), e)
 
 more_bytes : (start old new : ℕ) (all front : List ℕ) → old ≡ start + length all → new ≡ old + length front → new ≡ start + length (all ++ front)
 more_bytes start old new all front x y = omega (arith, length-append all front, x, y)
@@ -51,62 +62,86 @@ more_bytes start old new all front x y = omega (arith, length-append all front, 
 with_none : (a b : Option (List ℕ)) (text : List ℕ) → Appends a b text → Appends a b (text ++ [])
 with_none a b text x = subst (λ (z : List ℕ). Appends a b z) (sym (append-nil text)) x
 
+-- nothing was entered behind
+entered_none : {A : Type 0} (step : A → Event → Reply → A → Type 0) (a b : A) (xs : List Entered) → AreEntered step a xs b → AreEntered step a (xs ++ []) b
+entered_none step a b xs x = subst (λ (zs : List Entered). AreEntered step a zs b) (sym (append-nil xs)) x
+
 pub turned_request : {A : Type 0} (step : A → Event → Reply → A → Type 0) (shows : ℕ → Bool) (a a' : A) (left left' held held' : Option (List ℕ)) (old new : ReaderValue) (h : Head) (out : Option ConnHow)
     → Reads left left' old new (next.Request h) → OneAnswered step shows a a' (request_with h new.body) held held' out
-    → Turned step shows (record { replier = a; left = left; held = held; ahead = old.ahead; taken = old.taken }) (record { replier = a'; left = left'; held = held'; ahead = new.ahead; taken = new.taken }) out
+    → Turned step shows (record { state = a; left = left; held = held; ahead = old.ahead; taken = old.taken }) (record { state = a'; left = left'; held = held'; ahead = new.ahead; taken = new.taken }) out
 turned_request step shows a a' left left' held held' old new h None x y = λ b n u. record {
-  rs = u.rs ++ request_with h new.body ∷ [];
-  text = u.text ++ y.0;
+  answered = u.answered ++ y.0 ∷ [];
   all = u.all ++ x.front;
-  count = longer u.rs (request_with h new.body) n u.count;
+  count = longer u.answered y.0 n u.count;
   bytes = more_bytes b.taken old.taken new.taken u.all x.front u.bytes x.count;
   took = Consumes-trans b.left left left' u.all x.front u.took x.took;
-  cut = cut_then u.all old.ahead x.front new.ahead u.rs (request_with h new.body) u.cut x.gives;
-  answered = answers_then step shows b.replier u.rs u.text a (request_with h new.body) y.0 a' u.answered y.1;
-  wrote = Appends-trans b.held held held' u.text y.0 u.wrote y.2;
-  staying = All-push (λ (r : Request). r.close ≡ false) u.rs (request_with h new.body) u.staying y.3;
+  cut = cut_last u.all old.ahead x.front new.ahead u.answered y.0 (request_with h new.body) u.cut y.1.is x.gives;
+  whole = All-push (IsWhole shows) u.answered y.0 u.whole y.1.whole;
+  entered = entered_last step b.state a a' u.answered y.0 u.entered y.1.entered;
+  wrote = wrote_last b.held held held' u.answered y.0 u.wrote y.2;
+  staying = All-push (λ (z : Exchange). z.request.close ≡ false) u.answered y.0 u.staying (ap (λ (r : Request). r.close) y.1.is ∙ y.3);
 }
 turned_request step shows a a' left left' held held' old new h (Some how.Closed) x y = λ b n u. record {
-  rs = u.rs ++ request_with h new.body ∷ [];
-  text = u.text ++ y.0;
+  answered = u.answered ++ y.0 ∷ [];
+  made = [];
   all = u.all ++ x.front;
   rest = new.ahead;
   tail = [];
-  middle = a';
-  count = longer u.rs (request_with h new.body) n u.count;
+  count = longer u.answered y.0 n u.count;
   took = Consumes-trans b.left left left' u.all x.front u.took x.took;
-  cut = cut_then u.all old.ahead x.front new.ahead u.rs (request_with h new.body) u.cut x.gives;
-  answered = answers_then step shows b.replier u.rs u.text a (request_with h new.body) y.0 a' u.answered y.1;
-  wrote = with_none b.held held' (u.text ++ y.0) (Appends-trans b.held held held' u.text y.0 u.wrote y.2);
-  ends = (record { front = u.rs; last = request_with h new.body; whole = refl; closes = y.3; staying = u.staying }, refl, refl);
+  cut = cut_last u.all old.ahead x.front new.ahead u.answered y.0 (request_with h new.body) u.cut y.1.is x.gives;
+  whole = All-push (IsWhole shows) u.answered y.0 u.whole y.1.whole;
+  entered = entered_none step b.state a' (all_entered (u.answered ++ y.0 ∷ [])) (entered_last step b.state a a' u.answered y.0 u.entered y.1.entered);
+  wrote = with_none b.held held' (all_text (u.answered ++ y.0 ∷ [])) (wrote_last b.held held held' u.answered y.0 u.wrote y.2);
+  staying = λ other. absurd (other refl);
+  ends = (record { front = u.answered; last = y.0; whole = refl; closes = ap (λ (r : Request). r.close) y.1.is ∙ y.3; staying = u.staying }, refl, refl);
 }
 turned_request step shows a a' left left' held held' old new h (Some how.WriteFault) x y = λ b n u. record {
-  rs = u.rs;
-  text = u.text;
+  answered = u.answered;
+  made = entered_in y.0;
   all = u.all ++ x.front;
   rest = old.ahead ++ x.front;
-  tail = take y.1 y.0;
-  middle = a;
+  tail = take y.2.0 (text_of y.0);
   count = u.count;
   took = Consumes-trans b.left left left' u.all x.front u.took x.took;
-  cut = requests_more u.all u.rs old.ahead x.front u.cut;
-  answered = u.answered;
-  wrote = Appends-trans b.held held held' u.text (take y.1 y.0) u.wrote y.3;
-  ends = inl (record { request = request_with h new.body; behind = new.ahead; is = x.gives; text = y.0; n = y.1; answered = y.2; front = refl });
+  cut = requests_more u.all (requests_of u.answered) old.ahead x.front u.cut;
+  whole = u.whole;
+  entered = entered_then step b.state (all_entered u.answered) a (entered_in y.0) a' u.entered y.1.entered;
+  wrote = Appends-trans b.held held held' (all_text u.answered) (take y.2.0 (text_of y.0)) u.wrote y.2.1;
+  staying = λ _. u.staying;
+  ends = inl (record {
+    next = y.0;
+    behind = new.ahead;
+    is = subst (λ (q : Request). IsRequest (old.ahead ++ x.front) q new.ahead) (sym y.1.is) x.gives;
+    whole = y.1.whole;
+    all_made = refl;
+    n = y.2.0;
+    front = refl;
+  });
 }
 turned_request step shows a a' left left' held held' old new h (Some how.NoMemory) x y = λ b n u. record {
-  rs = u.rs;
-  text = u.text;
+  answered = u.answered;
+  made = y.0.begun.made;
   all = u.all ++ x.front;
   rest = old.ahead ++ x.front;
   tail = [];
-  middle = a;
   count = u.count;
   took = Consumes-trans b.left left left' u.all x.front u.took x.took;
-  cut = requests_more u.all u.rs old.ahead x.front u.cut;
-  answered = u.answered;
-  wrote = with_none b.held held' u.text (Appends-kept b.held held held' u.text u.wrote y.1);
-  ends = (refl, inr (record { request = request_with h new.body; behind = new.ahead; is = x.gives; partly = y.0 }));
+  cut = requests_more u.all (requests_of u.answered) old.ahead x.front u.cut;
+  whole = u.whole;
+  entered = entered_then step b.state (all_entered u.answered) a y.0.begun.made a' u.entered y.0.begun.entered;
+  wrote = with_none b.held held' (all_text u.answered) (Appends-kept b.held held held' (all_text u.answered) u.wrote y.1);
+  staying = λ _. u.staying;
+  ends = (
+    refl,
+    inr (record {
+      next = record { request = request_with h new.body; moment = y.0.moment; replies = y.0.begun.replies };
+      behind = new.ahead;
+      is = x.gives;
+      shown = y.0.shown;
+      front = y.0.begun.front;
+    }),
+  );
 }
 turned_request step shows a a' left left' held held' old new h (Some how.End) x y = absurd y
 turned_request step shows a a' left left' held held' old new h (Some how.Cut) x y = absurd y
@@ -153,17 +188,17 @@ wrote_end start held held' text e how.InputLimit z x = with_none start held' tex
 wrote_end start held held' text e how.NoMemory z x = with_none start held' text (Appends-kept start held held' text x z)
 
 -- what stands at an end
-ends_of : {A : Type 0} (step : A → Event → Reply → A → Type 0) (shows : ℕ → Bool) (a : A) (rs : List Request) (rest : List ℕ) (bytes : ℕ) (left held held' : Option (List ℕ)) (e : Ending) (h : ConnHow) (z : PutsEnd held held' e h)
-    → EndsAs e rest → IsEndOf e left → (e ≡ ending.InputLimit → bytes ≡ input_limit) → All (λ (r : Request). r.close ≡ false) rs
-    → EndsOf step shows a a rs rest bytes left (tail_of h held held' e z) h
-ends_of step shows a rs rest bytes left held held' e how.End z x y l s = (at_end e ending.End rest z.0 x, y.0 z.0, refl, refl, s)
-ends_of step shows a rs rest bytes left held held' e how.Closed z x y l s = absurd z
-ends_of step shows a rs rest bytes left held held' e how.Cut z x y l s = (at_end e ending.Cut rest z.0 x, y.1 z.0, refl, refl, s)
-ends_of step shows a rs rest bytes left held held' e how.BadRequest z x y l s = (e, z.0, x, refl, refl, s)
-ends_of step shows a rs rest bytes left held held' e how.ReadFault z x y l s = (at_end e ending.ReadFault rest z.0 x, refl, refl)
-ends_of step shows a rs rest bytes left held held' e how.InputLimit z x y l s = (at_end e ending.InputLimit rest z.0 x, refl, refl, l z.0)
-ends_of step shows a rs rest bytes left held held' e how.NoMemory z x y l s = (refl, inl refl)
-ends_of step shows a rs rest bytes left held held' e how.WriteFault z x y l s =
+ends_of : (shows : ℕ → Bool) (xs : List Exchange) (rest : List ℕ) (bytes : ℕ) (left held held' : Option (List ℕ)) (e : Ending) (h : ConnHow) (z : PutsEnd held held' e h)
+    → EndsAs e rest → IsEndOf e left → (e ≡ ending.InputLimit → bytes ≡ input_limit)
+    → EndsOf shows xs rest bytes left (tail_of h held held' e z) [] h
+ends_of shows xs rest bytes left held held' e how.End z x y l = (at_end e ending.End rest z.0 x, y.0 z.0, refl, refl)
+ends_of shows xs rest bytes left held held' e how.Closed z x y l = absurd z
+ends_of shows xs rest bytes left held held' e how.Cut z x y l = (at_end e ending.Cut rest z.0 x, y.1 z.0, refl, refl)
+ends_of shows xs rest bytes left held held' e how.BadRequest z x y l = (e, z.0, x, refl, refl)
+ends_of shows xs rest bytes left held held' e how.ReadFault z x y l = (at_end e ending.ReadFault rest z.0 x, refl, refl)
+ends_of shows xs rest bytes left held held' e how.InputLimit z x y l = (at_end e ending.InputLimit rest z.0 x, refl, refl, l z.0)
+ends_of shows xs rest bytes left held held' e how.NoMemory z x y l = (refl, inl refl)
+ends_of shows xs rest bytes left held held' e how.WriteFault z x y l =
     inr (record { why = e; n = z.1.0; refusal = z.0; ends = x; front = refl }, refl)
 
 same_count : (n : ℕ) (held held' : Option (List ℕ)) (e : Ending) (h : ConnHow) → PutsEnd held held' e h → counted n h ≡ n
@@ -182,22 +217,23 @@ bytes_at e start old new all front x y l is = sym (more_bytes start old new all 
 
 pub turned_end : {A : Type 0} (step : A → Event → Reply → A → Type 0) (shows : ℕ → Bool) (a : A) (left left' held held' : Option (List ℕ)) (old new : ReaderValue) (e : Ending) (h : ConnHow)
     → Reads left left' old new (next_of e) → IsEndOf e left' → (e ≡ ending.InputLimit → new.taken ≡ input_limit) → PutsEnd held held' e h
-    → Turned step shows (record { replier = a; left = left; held = held; ahead = old.ahead; taken = old.taken }) (record { replier = a; left = left'; held = held'; ahead = new.ahead; taken = new.taken }) (Some h)
+    → Turned step shows (record { state = a; left = left; held = held; ahead = old.ahead; taken = old.taken }) (record { state = a; left = left'; held = held'; ahead = new.ahead; taken = new.taken }) (Some h)
 turned_end step shows a left left' held held' old new e h x end limit z = λ b n u. record {
-  rs = u.rs;
-  text = u.text;
+  answered = u.answered;
+  made = [];
   all = u.all ++ x.front;
   rest = old.ahead ++ x.front;
   tail = tail_of h held held' e z;
-  middle = a;
   count = u.count ∙ sym (same_count n held held' e h z);
   took = Consumes-trans b.left left left' u.all x.front u.took x.took;
-  cut = requests_more u.all u.rs old.ahead x.front u.cut;
-  answered = u.answered;
-  wrote = wrote_end b.held held held' u.text e h z u.wrote;
-  ends = ends_of step shows a u.rs (old.ahead ++ x.front) (b.taken + length (u.all ++ x.front)) left' held held' e h z
+  cut = requests_more u.all (requests_of u.answered) old.ahead x.front u.cut;
+  whole = u.whole;
+  entered = entered_none step b.state a (all_entered u.answered) u.entered;
+  wrote = wrote_end b.held held held' (all_text u.answered) e h z u.wrote;
+  staying = λ _. u.staying;
+  ends = ends_of shows u.answered (old.ahead ++ x.front) (b.taken + length (u.all ++ x.front)) left' held held' e h z
       (gives_end (old.ahead ++ x.front) new.ahead new.body e x.gives).0 end
-      (bytes_at e b.taken old.taken new.taken u.all x.front u.bytes x.count limit) u.staying;
+      (bytes_at e b.taken old.taken new.taken u.all x.front u.bytes x.count limit);
 }
 
 -- the target of a request is UTF-8
@@ -232,7 +268,7 @@ faults_beside beside bytes faults old new is kept = ap (λ (s : Side). s.faults)
 
 pub turned_request_on : {A : Type 0} (step : A → Event → Reply → A → Type 0) (shows : ℕ → Bool) (a a' : A) (left mid left' held held1 held' : Option (List ℕ)) (old new : ReaderValue) (n : Next) (h : Head) (body : List ℕ) (out : Option ConnHow)
     → left' ≡ mid → held1 ≡ held → body ≡ new.body → n ≡ next.Request h → Reads left mid old new n → OneAnswered step shows a a' (request_with h body) held1 held' out
-    → Turned step shows (record { replier = a; left = left; held = held; ahead = old.ahead; taken = old.taken }) (record { replier = a'; left = left'; held = held'; ahead = new.ahead; taken = new.taken }) out
+    → Turned step shows (record { state = a; left = left; held = held; ahead = old.ahead; taken = old.taken }) (record { state = a'; left = left'; held = held'; ahead = new.ahead; taken = new.taken }) out
 turned_request_on step shows a a' left mid left' held held1 held' old new n h body out l k b is x y =
     turned_request step shows a a' left left' held held' old new h out
     (subst (λ (z : Option (List ℕ)). Reads left z old new (next.Request h)) (sym l) (subst (λ (z : Next). Reads left mid old new z) is x))
@@ -242,7 +278,7 @@ turned_request_on step shows a a' left mid left' held held1 held' old new n h bo
 pub turned_end_on : {A : Type 0} (step : A → Event → Reply → A → Type 0) (shows : ℕ → Bool) (a : A) (left mid left' held held1 held' : Option (List ℕ)) (old new : ReaderValue) (n : Next) (e : Ending) (h : ConnHow)
     → left' ≡ mid → held1 ≡ held → n ≡ next_of e → old.ended ≡ None → Reads left mid old new n → EndsWith n new.ended
     → (IsEndFor old.ended left → IsEndFor new.ended mid) → (n ≡ next.InputLimit → old.ended ≡ None → new.taken ≡ input_limit) → PutsEnd held1 held' e h
-    → Turned step shows (record { replier = a; left = left; held = held; ahead = old.ahead; taken = old.taken }) (record { replier = a; left = left'; held = held'; ahead = new.ahead; taken = new.taken }) (Some h)
+    → Turned step shows (record { state = a; left = left; held = held; ahead = old.ahead; taken = old.taken }) (record { state = a; left = left'; held = held'; ahead = new.ahead; taken = new.taken }) (Some h)
 turned_end_on step shows a left mid left' held held1 held' old new n e h l k is going x ends ended limit y =
     turned_end step shows a left left' held held' old new e h
     (subst (λ (z : Option (List ℕ)). Reads left z old new (next_of e)) (sym l) (subst (λ (z : Next). Reads left mid old new z) is x))
@@ -286,53 +322,55 @@ cause_end held held' n e h was read0 read1 read2 write0 write1 write2 y is going
 
 -- nothing was read and nothing put
 pub served_none : {A : Type 0} (step : A → Event → Reply → A → Type 0) (shows : ℕ → Bool) (a : A) (left held : Option (List ℕ))
-    → IsServed step shows (record { replier = a; left = left; held = held; ahead = []; taken = 0 }) (record { replier = a; left = left; held = held; ahead = []; taken = 0 }) 0 how.NoMemory
+    → IsServed (AreEntered step) shows (untaken a left held) (untaken a left held) 0 how.NoMemory
 served_none step shows a left held = record {
-  rs = [];
-  text = [];
+  answered = [];
+  made = [];
   all = [];
   rest = [];
   tail = [];
-  middle = a;
   count = refl;
   took = Consumes-nil left;
   cut = refl;
-  answered = (refl, refl);
+  whole = All-nil (IsWhole shows);
+  entered = refl;
   wrote = Appends-nil held;
+  staying = λ _. All-nil (λ (x : Exchange). x.request.close ≡ false);
   ends = (refl, inl refl);
 }
 
 -- a connection that has not begun is under way
 pub under_way_none : {A : Type 0} (step : A → Event → Reply → A → Type 0) (shows : ℕ → Bool) (a : A) (left held : Option (List ℕ))
-    → IsUnderWay step shows (record { replier = a; left = left; held = held; ahead = []; taken = 0 }) (record { replier = a; left = left; held = held; ahead = []; taken = 0 }) 0
+    → IsUnderWay step shows (untaken a left held) (untaken a left held) 0
 under_way_none step shows a left held = record {
-  rs = [];
-  text = [];
+  answered = [];
   all = [];
   count = refl;
   bytes = refl;
   took = Consumes-nil left;
   cut = refl;
-  answered = (refl, refl);
+  whole = All-nil (IsWhole shows);
+  entered = refl;
   wrote = Appends-nil held;
-  staying = All-nil (λ (r : Request). r.close ≡ false);
+  staying = All-nil (λ (x : Exchange). x.request.close ≡ false);
 }
 
 -- what is still held does not matter at an end
 pub served_with : {A : Type 0} (step : A → Event → Reply → A → Type 0) (shows : ℕ → Bool) (b : Standing A) (a : A) (left held : Option (List ℕ)) (ahead : List ℕ) (taken : ℕ) (n : ℕ) (h : ConnHow)
-    → IsServed step shows b (record { replier = a; left = left; held = held; ahead = ahead; taken = taken }) n h
-    → IsServed step shows b (record { replier = a; left = left; held = held; ahead = []; taken = 0 }) n h
+    → IsServed (AreEntered step) shows b (record { state = a; left = left; held = held; ahead = ahead; taken = taken }) n h
+    → IsServed (AreEntered step) shows b (untaken a left held) n h
 served_with step shows b a left held ahead taken n h u = record {
-  rs = u.rs;
-  text = u.text;
+  answered = u.answered;
+  made = u.made;
   all = u.all;
   rest = u.rest;
   tail = u.tail;
-  middle = u.middle;
   count = u.count;
   took = u.took;
   cut = u.cut;
-  answered = u.answered;
+  whole = u.whole;
+  entered = u.entered;
   wrote = u.wrote;
+  staying = u.staying;
   ends = u.ends;
 }

@@ -1,5 +1,5 @@
 -- What a request asks of the farm, and what it is answered.
-use Rattle.std.specs.Prelude.{ℕ, List, [], ◌∷◌, ◌++◌, Bool, true, false, Option, Some, None, Result, Ok, Err, codes}
+use Rattle.std.specs.Prelude.{ℕ, List, [], ◌∷◌, Bool, true, false, Option, Some, None, Result, Ok, Err, codes}
 use Rattle.serde_json.specs.Written.{compact_text}
 use Rattle.farm_kinds.specs.declared.kinds.Kind.{Kind}
 use Rattle.farm_kinds.specs.declared.events.Event.{Event}
@@ -106,26 +106,10 @@ abbrev pub tick : Bool → ℕ → List Event
 tick true m = event.Tick m ∷ []
 tick false m = []
 
-abbrev pub events_in : Asked → ℕ → List Event
-events_in (asked.Event ticks e) m = tick ticks m ++ e ∷ []
-events_in (asked.Refused why) m = []
-
--- the events of a request, where the clock shows m
-abbrev pub events_of : Request → ℕ → List Event
-events_of r m = events_in (asked_of r) m
-
 -- a host whose result differs from the one that is kept is put down
 abbrev pub down_after : Event → Reply → List Event
 down_after (event.Result host judging test kind) (reply.Differs kept given) = event.Down host ∷ []
 down_after e r = []
-
-abbrev pub calls_in : Asked → ℕ → Reply → List Event
-calls_in (asked.Event ticks e) m r = tick ticks m ++ e ∷ down_after e r
-calls_in (asked.Refused why) m r = []
-
--- the events that are entered for a request whose last event has this reply
-abbrev pub calls_of : Request → ℕ → Reply → List Event
-calls_of request m r = calls_in (asked_of request) m r
 
 -- Responses
 

@@ -1,5 +1,6 @@
--- Events that are entered one after the other.
-use Rattle.std.specs.Prelude.{◌≡◌, ◌≢◌, ℕ, List, [], ◌∷◌, ◌++◌, Bool, true, false, Result, Ok, Err}
+-- Events that are entered one after the other, and their replies.
+use Rattle.std.specs.Prelude.{◌≡◌, ◌≢◌, ℕ, List, [], ◌∷◌, ◌++◌, map, Bool, true, false, Result, Ok, Err, OnOk}
+use mathlib.Core.List.{IsPrefix}
 use Rattle.farm_kinds.specs.declared.outcomes.NoMemory.{NoMemory}
 use Rattle.farm_kinds.specs.declared.events.Event.{Event}
 use Rattle.farm_kinds.specs.declared.events.Reply.{Reply}
@@ -11,38 +12,67 @@ abbrev pub is_no_memory : Reply → Bool
 is_no_memory reply.NoMemory = true
 is_no_memory r = false
 
--- The events lead from a state into a state. A step leads from a state, by an event with its reply, into a state.
-abbrev pub AreEntered : {A : Type 0} → (A → Event → Reply → A → Type 0) → A → List Event → A → Type 0
+-- an event and its reply
+pub record Entered : Type 0 where
+  pub event : Event
+  pub reply : Reply
+
+abbrev pub with_reply : Event → Reply → Entered
+with_reply e r = record { event = e; reply = r }
+
+-- the events, each with this reply
+abbrev pub all_with_reply : Reply → List Event → List Entered
+all_with_reply r events = map (λ e. with_reply e r) events
+
+-- The events lead with their replies from a state into a state. A step leads from a state, by an event with its reply,
+-- into a state.
+abbrev pub AreEntered : {A : Type 0} → (A → Event → Reply → A → Type 0) → A → List Entered → A → Type 0
 AreEntered {A} step a [] b = b ≡ a
-AreEntered {A} step a (e ∷ es) b = (r : Reply) × (m : A) × step a e r m × AreEntered step m es b
+AreEntered {A} step a (x ∷ xs) b = (m : A) × step a x.event x.reply m × AreEntered step m xs b
 
--- the step, where its reply does not say that memory ran out
-abbrev pub known : {A : Type 0} → (A → Event → Reply → A → Type 0) → A → Event → Reply → A → Type 0
-known {A} step a e r b = step a e r b × (r ≢ reply.NoMemory)
+-- One event, and what belongs to it
 
--- an event was entered with this reply, behind the moment where time goes on first, and before what follows from it
-pub record IsEntered {A : Type 0} (step : A → Event → Reply → A → Type 0) (ticks : Bool) (moment : ℕ) (e : Event)
-    (a b : A) (answer : Reply) : Type 0 where
-  pub before : A
-  pub behind : A
-  pub ticked : AreEntered (known step) a (tick ticks moment) before
-  pub entered : known step before e answer behind
-  pub downed : AreEntered (known step) behind (down_after e answer) b
-
--- a front of these events was entered
-pub record IsBegun {A : Type 0} (step : A → Event → Reply → A → Type 0) (events : Reply → List Event) (a b : A) : Type 0 where
+-- the replies to the moment, to the event, and to the host's going down, where each of these is entered
+pub record Replies : Type 0 where
+  pub ticked : Reply
   pub answer : Reply
-  pub made : List Event
-  pub later : List Event
-  pub whole : made ++ later ≡ events answer
+  pub downed : Reply
+
+-- none of them says that memory ran out
+pub record AreKnown (r : Replies) : Type 0 where
+  pub ticked : r.ticked ≢ reply.NoMemory
+  pub answer : r.answer ≢ reply.NoMemory
+  pub downed : r.downed ≢ reply.NoMemory
+
+-- what is entered for an event: before it the moment, where time goes on first, and behind it what follows from its reply
+abbrev pub entered_for : Bool → ℕ → Event → Replies → List Entered
+entered_for ticks moment e r =
+    all_with_reply r.ticked (tick ticks moment) ++ with_reply e r.answer ∷ all_with_reply r.downed (down_after e r.answer)
+
+-- a front of what these replies make of it was entered
+pub record IsBegun {A : Type 0} (step : A → Event → Reply → A → Type 0) (whole : Replies → List Entered) (a b : A) : Type 0 where
+  pub replies : Replies
+  pub made : List Entered
+  pub front : IsPrefix made (whole replies)
   pub entered : AreEntered step a made b
 
--- the events that are entered for one event, where it has this reply
-abbrev pub events_with : Bool → ℕ → Event → Reply → List Event
-events_with ticks moment e answer = tick ticks moment ++ e ∷ down_after e answer
+-- the events, of which there is at most one, were entered, and the result says whether memory ran out
+pub record EntersAside {A : Type 0} (step : A → Event → Reply → A → Type 0) (events : List Event) (a b : A)
+    (result : Result (Unit {0}) NoMemory) : Type 0 where
+  pub answer : Reply
+  pub entered : AreEntered step a (all_with_reply answer events) b
+  pub known : OnOk result (answer ≢ reply.NoMemory)
 
--- all events were entered, or a front of them
+-- all was entered
+pub record IsEntered {A : Type 0} (step : A → Event → Reply → A → Type 0) (whole : Replies → List Entered) (a b : A)
+    (answer : Reply) : Type 0 where
+  pub replies : Replies
+  pub is : answer ≡ replies.answer
+  pub known : AreKnown replies
+  pub entered : AreEntered step a (whole replies) b
+
+-- all was entered, or memory ran out behind a front of it
 abbrev pub Enters : {A : Type 0} → (A → Event → Reply → A → Type 0) → Bool → ℕ → Event → A → A
     → Result Reply NoMemory → Type 0
-Enters step ticks moment e a b (Ok answer) = IsEntered step ticks moment e a b answer
-Enters step ticks moment e a b (Err none) = IsBegun step (events_with ticks moment e) a b
+Enters step ticks moment e a b (Ok answer) = IsEntered step (entered_for ticks moment e) a b answer
+Enters step ticks moment e a b (Err none) = IsBegun step (entered_for ticks moment e) a b

@@ -1,5 +1,6 @@
 -- What a connection is answered.
-use Rattle.std.specs.Prelude.{◌≡◌, ℕ, ◌+◌, ◌≤◌, ◌⊎◌, List, [], ◌∷◌, ◌++◌, length, take, Bool, true, false, Option, Some, None, All, Result, Ok, Err}
+use Rattle.std.specs.Prelude.{◌≡◌, ◌≢◌, ℕ, ◌+◌, ◌≤◌, ◌⊎◌, List, [], ◌∷◌, ◌++◌, length, take, Bool, true, false, Option, Some, None, All, Result, Ok, Err}
+use mathlib.Core.List.{IsPrefix}
 use Rattle.std.specs.Io.KnownBytes.{Appends, Consumes, Keeps, IsAtEnd}
 use Rattle.farm_kinds.specs.declared.events.Event.{Event}
 use Rattle.farm_kinds.specs.declared.events.Reply.{Reply}
@@ -18,48 +19,23 @@ use Rattle.http_door.specs.Reading.{next_of}
 use Rattle.http_door.specs.Refusals.{refusal_of, refusal_status, refusal_body}
 use Rattle.http_door.specs.Responses.{response_text}
 use Rattle.judge_server.specs.declared.asking.Asked.{Asked}
-use Rattle.judge_server.specs.declared.asking.Asked.TheVariants as asked
 use Rattle.judge_server.specs.declared.ends.ConnHow.{ConnHow}
 use Rattle.judge_server.specs.declared.ends.ConnHow.TheVariants as how
-use Rattle.judge_server.specs.Conversation.{asked_of, calls_in, reply_response, fault_response}
-use Rattle.judge_server.specs.Entering.{IsEntered, IsBegun}
+use Rattle.judge_server.specs.Conversation.{asked_of, response_in}
+use Rattle.judge_server.specs.Entering.{Entered, AreEntered, Replies, AreKnown, IsBegun}
+use Rattle.judge_server.specs.Exchanges.{Exchange, IsWhole, entered_by, entered_in, text_of, requests_of, all_entered, all_text}
 
 -- One request
-
--- an event was entered, and the text is the response to its reply
-pub record EventAnswered {A : Type 0} (step : A → Event → Reply → A → Type 0) (ticks : Bool) (moment : ℕ) (e : Event)
-    (a : A) (text : List ℕ) (b : A) : Type 0 where
-  pub answer : Reply
-  pub entered : IsEntered step ticks moment e a b answer
-  pub told : text ≡ reply_response answer
-
--- what is asked was done, and the text is the response
-abbrev pub AskedAnswered : {A : Type 0} → (A → Event → Reply → A → Type 0) → ℕ → Asked → A → List ℕ → A → Type 0
-AskedAnswered step moment (asked.Event ticks e) a text b = EventAnswered step ticks moment e a text b
-AskedAnswered step moment (asked.Refused why) a text b = (b ≡ a) × (text ≡ fault_response why)
-
--- the request was answered with this text, at a moment that the clock shows
-pub record IsAnswered {A : Type 0} (step : A → Event → Reply → A → Type 0) (shows : ℕ → Bool)
-    (a : A) (r : Request) (text : List ℕ) (b : A) : Type 0 where
-  pub moment : ℕ
-  pub shown : shows moment ≡ true
-  pub done : AskedAnswered step moment (asked_of r) a text b
-
--- of the events of the request a front was entered, at a moment that the clock shows
-pub record IsPartly {A : Type 0} (step : A → Event → Reply → A → Type 0) (shows : ℕ → Bool)
-    (a : A) (r : Request) (b : A) : Type 0 where
-  pub moment : ℕ
-  pub shown : shows moment ≡ true
-  pub begun : IsBegun step (calls_in (asked_of r) moment) a b
 
 -- what was put of the answer to what is asked
 abbrev pub PutsAnswer : {A : Type 0} → (A → Event → Reply → A → Type 0) → ℕ → Asked → A → A
     → Option (List ℕ) → Option (List ℕ) → Result (Unit {0}) ResponseFault → Type 0
-PutsAnswer step moment what a b held held' (Ok u) = (text : List ℕ) × AskedAnswered step moment what a text b × Appends held held' text
-PutsAnswer step moment what a b held held' (Err fault.WriteFault) =
-    (text : List ℕ) × (n : ℕ) × AskedAnswered step moment what a text b × Appends held held' (take n text)
+PutsAnswer step moment what a b held held' (Ok u) =
+    (r : Replies) × AreKnown r × AreEntered step a (entered_by moment what r) b × Appends held held' (response_in what r.answer)
+PutsAnswer step moment what a b held held' (Err fault.WriteFault) = (r : Replies) × AreKnown r
+    × AreEntered step a (entered_by moment what r) b × ((n : ℕ) × Appends held held' (take n (response_in what r.answer)))
 PutsAnswer step moment what a b held held' (Err fault.NoMemory) =
-    IsBegun step (calls_in what moment) a b × Keeps held held'
+    IsBegun step (entered_by moment what) a b × Keeps held held'
 
 -- whether the connection ends behind an answer
 abbrev pub how_after : Result (Unit {0}) ResponseFault → Bool → Option ConnHow
@@ -68,14 +44,28 @@ how_after (Ok u) false = None
 how_after (Err fault.WriteFault) close = Some how.WriteFault
 how_after (Err fault.NoMemory) close = Some how.NoMemory
 
+-- all of the exchange was entered, and it is that of the request
+pub record IsExchange {A : Type 0} (step : A → Event → Reply → A → Type 0) (shows : ℕ → Bool) (a : A) (r : Request)
+    (x : Exchange) (b : A) : Type 0 where
+  pub is : x.request ≡ r
+  pub whole : IsWhole shows x
+  pub entered : AreEntered step a (entered_in x) b
+
+-- a front of what is entered for the request was, at a moment that the clock shows
+pub record IsPartly {A : Type 0} (step : A → Event → Reply → A → Type 0) (shows : ℕ → Bool) (a : A) (r : Request)
+    (b : A) : Type 0 where
+  pub moment : ℕ
+  pub shown : shows moment ≡ true
+  pub begun : IsBegun step (entered_by moment (asked_of r)) a b
+
 -- how one request was answered
 abbrev pub OneAnswered : {A : Type 0} → (A → Event → Reply → A → Type 0) → (ℕ → Bool) → A → A → Request → Option (List ℕ) → Option (List ℕ) → Option ConnHow → Type 0
 OneAnswered step shows a b r held held' None =
-    (text : List ℕ) × IsAnswered step shows a r text b × Appends held held' text × (r.close ≡ false)
+    (x : Exchange) × IsExchange step shows a r x b × Appends held held' (text_of x) × (r.close ≡ false)
 OneAnswered step shows a b r held held' (Some how.Closed) =
-    (text : List ℕ) × IsAnswered step shows a r text b × Appends held held' text × (r.close ≡ true)
+    (x : Exchange) × IsExchange step shows a r x b × Appends held held' (text_of x) × (r.close ≡ true)
 OneAnswered step shows a b r held held' (Some how.WriteFault) =
-    (text : List ℕ) × (n : ℕ) × IsAnswered step shows a r text b × Appends held held' (take n text)
+    (x : Exchange) × IsExchange step shows a r x b × ((n : ℕ) × Appends held held' (take n (text_of x)))
 OneAnswered step shows a b r held held' (Some how.NoMemory) = IsPartly step shows a r b × Keeps held held'
 OneAnswered step shows a b r held held' (Some how.End) = ⊥
 OneAnswered step shows a b r held held' (Some how.Cut) = ⊥
@@ -126,16 +116,10 @@ PutsEnd held held' e how.NoMemory = Keeps held held'
 
 -- A connection
 
--- the requests are answered one after the other, and the text is their responses
-abbrev pub Answers : {A : Type 0} → (A → Event → Reply → A → Type 0) → (ℕ → Bool) → A → List Request → List ℕ → A → Type 0
-Answers {A} step shows a [] text b = (b ≡ a) × (text ≡ [])
-Answers {A} step shows a (r ∷ rs) text b =
-    (first : List ℕ) × (middle : A) × (more : List ℕ)
-    × IsAnswered step shows a r first middle × (text ≡ first ++ more) × Answers step shows middle rs more b
-
 -- where a connection stands between two requests
 pub record Standing (A : Type 0) : Type 0 where
-  pub replier : A
+  -- of what events change
+  pub state : A
   -- what the connection has left, and what it holds, where it tells
   pub left : Option (List ℕ)
   pub held : Option (List ℕ)
@@ -143,36 +127,44 @@ pub record Standing (A : Type 0) : Type 0 where
   pub ahead : List ℕ
   pub taken : ℕ
 
+-- nothing was taken
+abbrev pub untaken : {A : Type 0} → A → Option (List ℕ) → Option (List ℕ) → Standing A
+untaken state left held = record { state = state; left = left; held = held; ahead = []; taken = 0 }
+
+-- none of the requests asked to close
+abbrev pub AreStaying : List Exchange → Type 0
+AreStaying xs = All (λ x. x.request.close ≡ false) xs
+
 -- so many requests were answered since the beginning, and none of them asked to close
 pub record IsUnderWay {A : Type 0} (step : A → Event → Reply → A → Type 0) (shows : ℕ → Bool) (b p : Standing A) (n : ℕ) : Type 0 where
-  pub rs : List Request
-  pub text : List ℕ
+  pub answered : List Exchange
   pub all : List ℕ
-  pub count : length rs ≡ n
+  pub count : length answered ≡ n
   pub bytes : p.taken ≡ b.taken + length all
   pub took : Consumes b.left p.left all
-  pub cut : AreRequests all rs p.ahead
-  pub answered : Answers step shows b.replier rs text p.replier
-  pub wrote : Appends b.held p.held text
-  pub staying : All (λ r. r.close ≡ false) rs
+  pub cut : AreRequests all (requests_of answered) p.ahead
+  pub whole : All (IsWhole shows) answered
+  pub entered : AreEntered step b.state (all_entered answered) p.state
+  pub wrote : Appends b.held p.held (all_text answered)
+  pub staying : AreStaying answered
 
 -- the last request asked to close, and no earlier one did
-pub record IsClosed (rs : List Request) : Type 0 where
-  pub front : List Request
-  pub last : Request
-  pub whole : rs ≡ front ++ last ∷ []
-  pub closes : last.close ≡ true
-  pub staying : All (λ r. r.close ≡ false) front
+pub record IsClosed (xs : List Exchange) : Type 0 where
+  pub front : List Exchange
+  pub last : Exchange
+  pub whole : xs ≡ front ++ last ∷ []
+  pub closes : last.request.close ≡ true
+  pub staying : AreStaying front
 
--- a front of the response to the next request was put
-pub record IsCutResponse {A : Type 0} (step : A → Event → Reply → A → Type 0) (shows : ℕ → Bool) (m a : A) (rest tail : List ℕ) : Type 0 where
-  pub request : Request
+-- all was entered for the next request, and a front of its response was put
+pub record IsNextCut (shows : ℕ → Bool) (rest tail : List ℕ) (made : List Entered) : Type 0 where
+  pub next : Exchange
   pub behind : List ℕ
-  pub is : IsRequest rest request behind
-  pub text : List ℕ
+  pub is : IsRequest rest next.request behind
+  pub whole : IsWhole shows next
+  pub all_made : made ≡ entered_in next
   pub n : ℕ
-  pub answered : IsAnswered step shows m request text a
-  pub front : tail ≡ take n text
+  pub front : tail ≡ take n (text_of next)
 
 -- a front of the fixed response to what stands there was put
 pub record IsCutRefusal (rest tail : List ℕ) : Type 0 where
@@ -182,44 +174,46 @@ pub record IsCutRefusal (rest tail : List ℕ) : Type 0 where
   pub ends : EndsAs why rest
   pub front : tail ≡ take n (end_response why)
 
--- the next request was answered in part, and nothing of its response was put
-pub record IsNextPartly {A : Type 0} (step : A → Event → Reply → A → Type 0) (shows : ℕ → Bool) (m a : A) (rest : List ℕ) : Type 0 where
-  pub request : Request
+-- a front of what is entered for the next request was, at a moment that the clock shows
+pub record IsNextBegun (shows : ℕ → Bool) (rest : List ℕ) (made : List Entered) : Type 0 where
+  pub next : Exchange
   pub behind : List ℕ
-  pub is : IsRequest rest request behind
-  pub partly : IsPartly step shows m request a
+  pub is : IsRequest rest next.request behind
+  pub shown : shows next.moment ≡ true
+  pub front : IsPrefix made (entered_in next)
 
--- What stands behind the requests that were answered, in the bytes that were taken (`rest`) and in those that were put
--- (`tail`). The replier went from m, behind those requests, to a.
-abbrev pub EndsOf : {A : Type 0} → (A → Event → Reply → A → Type 0) → (ℕ → Bool) → A → A → List Request → List ℕ → ℕ → Option (List ℕ) → List ℕ → ConnHow → Type 0
-EndsOf step shows m a rs rest bytes left tail how.End =
-    (rest ≡ []) × IsAtEnd left × (tail ≡ []) × (a ≡ m) × All (λ r. r.close ≡ false) rs
-EndsOf step shows m a rs rest bytes left tail how.Closed = IsClosed rs × (tail ≡ []) × (a ≡ m)
-EndsOf step shows m a rs rest bytes left tail how.Cut =
-    EndsAs ending.Cut rest × IsAtEnd left × (tail ≡ []) × (a ≡ m) × All (λ r. r.close ≡ false) rs
-EndsOf step shows m a rs rest bytes left tail how.BadRequest =
-    (e : Ending) × IsRefusal e × EndsAs e rest × (tail ≡ end_response e) × (a ≡ m) × All (λ r. r.close ≡ false) rs
-EndsOf step shows m a rs rest bytes left tail how.ReadFault = EndsAs ending.ReadFault rest × (tail ≡ []) × (a ≡ m)
-EndsOf step shows m a rs rest bytes left tail how.InputLimit =
-    EndsAs ending.InputLimit rest × (tail ≡ []) × (a ≡ m) × (bytes ≡ input_limit)
-EndsOf step shows m a rs rest bytes left tail how.NoMemory = (tail ≡ []) × ((a ≡ m) ⊎ IsNextPartly step shows m a rest)
-EndsOf step shows m a rs rest bytes left tail how.WriteFault =
-    IsCutResponse step shows m a rest tail ⊎ (IsCutRefusal rest tail × (a ≡ m))
+-- What stands behind the requests that were answered: in the bytes that were taken (`rest`), in those that were put
+-- (`tail`), and in what was entered (`made`).
+abbrev pub EndsOf : (ℕ → Bool) → List Exchange → List ℕ → ℕ → Option (List ℕ) → List ℕ → List Entered → ConnHow → Type 0
+EndsOf shows xs rest bytes left tail made how.End = (rest ≡ []) × IsAtEnd left × (tail ≡ []) × (made ≡ [])
+EndsOf shows xs rest bytes left tail made how.Closed = IsClosed xs × (tail ≡ []) × (made ≡ [])
+EndsOf shows xs rest bytes left tail made how.Cut = EndsAs ending.Cut rest × IsAtEnd left × (tail ≡ []) × (made ≡ [])
+EndsOf shows xs rest bytes left tail made how.BadRequest =
+    (e : Ending) × IsRefusal e × EndsAs e rest × (tail ≡ end_response e) × (made ≡ [])
+EndsOf shows xs rest bytes left tail made how.ReadFault = EndsAs ending.ReadFault rest × (tail ≡ []) × (made ≡ [])
+EndsOf shows xs rest bytes left tail made how.InputLimit =
+    EndsAs ending.InputLimit rest × (tail ≡ []) × (made ≡ []) × (bytes ≡ input_limit)
+EndsOf shows xs rest bytes left tail made how.NoMemory = (tail ≡ []) × ((made ≡ []) ⊎ IsNextBegun shows rest made)
+EndsOf shows xs rest bytes left tail made how.WriteFault =
+    IsNextCut shows rest tail made ⊎ (IsCutRefusal rest tail × (made ≡ []))
 
--- Of the bytes that were taken the first n requests were answered, and what was put are their responses and a tail.
-pub record IsServed {A : Type 0} (step : A → Event → Reply → A → Type 0) (shows : ℕ → Bool) (b p : Standing A) (n : ℕ) (h : ConnHow) : Type 0 where
-  pub rs : List Request
-  pub text : List ℕ
+-- Of the bytes that were taken (`all`) the first n requests were answered. What was entered is what belongs to them, and
+-- `made` behind it; what was put are their responses, and `tail` behind them. `enters` says what it is to enter a list.
+pub record IsServed {A : Type 0} (enters : A → List Entered → A → Type 0) (shows : ℕ → Bool) (b p : Standing A) (n : ℕ) (h : ConnHow) : Type 0 where
+  pub answered : List Exchange
+  pub made : List Entered
   pub all : List ℕ
   pub rest : List ℕ
   pub tail : List ℕ
-  pub middle : A
-  pub count : length rs ≡ n
+  pub count : length answered ≡ n
   pub took : Consumes b.left p.left all
-  pub cut : AreRequests all rs rest
-  pub answered : Answers step shows b.replier rs text middle
-  pub wrote : Appends b.held p.held (text ++ tail)
-  pub ends : EndsOf step shows middle p.replier rs rest (b.taken + length all) p.left tail h
+  pub cut : AreRequests all (requests_of answered) rest
+  pub whole : All (IsWhole shows) answered
+  pub entered : enters b.state (all_entered answered ++ made) p.state
+  pub wrote : Appends b.held p.held (all_text answered ++ tail)
+  -- only the last request may have asked to close, and only where the connection ends for that
+  pub staying : h ≢ how.Closed → AreStaying answered
+  pub ends : EndsOf shows answered rest (b.taken + length all) p.left tail made h
 
 -- the request that closes counts as answered
 abbrev pub counted : ℕ → ConnHow → ℕ
@@ -237,7 +231,7 @@ abbrev pub Turned : {A : Type 0} → (A → Event → Reply → A → Type 0) �
 Turned {A} step shows old new None =
     (b : Standing A) (n : ℕ) → IsUnderWay step shows b old n → IsUnderWay step shows b new (n + 1)
 Turned {A} step shows old new (Some h) =
-    (b : Standing A) (n : ℕ) → IsUnderWay step shows b old n → IsServed step shows b new (counted n h) h
+    (b : Standing A) (n : ℕ) → IsUnderWay step shows b old n → IsServed (AreEntered step) shows b new (counted n h) h
 
 -- the counts of both sides never fall, and that of the side rises whose fault ended the connection
 pub record HasCauseServed (read read' write write' : ℕ) (result : Option ConnHow) : Type 0 where

@@ -1,7 +1,7 @@
 //! The judge server: what the requests of a connection ask of the farm, and what they are answered.
 //!
 //! [`read_request`] finds the event of a request by the table of [`Paths`], and [`serve_on`] answers the requests of a
-//! connection by a [`Replier`], until it ends as a [`ConnEnd`] says.
+//! connection by a [`Replier`], until it ends as a [`ConnEnd`] says. [`serve_conn`] does so on a running board.
 #![tactic(auto)]
 
 mod answering;

@@ -1,23 +1,30 @@
-ghost use Rattle.std.specs.Prelude.{◌≡◌, ◌≢◌, ◌+◌, ◌<◌, ◌≤◌, ◌∷◌, [], ℕ, IfOk, OnOk};
+ghost use Rattle.std.specs.Prelude.{◌≡◌, ◌≢◌, ◌+◌, ◌<◌, ◌≤◌, ◌∷◌, [], ℕ, IfOk};
 ghost use Rattle.farm_kinds.specs.declared.events.Event.{Event as Asking};
 ghost use Rattle.farm_kinds.specs.declared.events.Reply.{Reply as Answer};
 ghost use Rattle.judge_server.specs.Conversation.{tick, down_after};
-ghost use Rattle.judge_server.specs.Entering.{AreEntered, known, is_no_memory, Enters};
+ghost use Rattle.judge_server.specs.Entering.{EntersAside, is_no_memory, Enters};
 
 use farm_kinds::{Event, NoMemory, Reply};
 
 /// What answers events, one after the other.
 pub trait Replier {
+    /// What events change.
+    type State;
+
+    /// Whether it answers events in this state.
+    ghost suits: { Self → Self.State → Type 0 };
     /// From a state, by an event with this reply, into a state.
-    ghost steps: { Self → Asking → Answer → Self → Type 0 };
-    /// How many events it may still answer.
-    ghost left: { Self → ℕ };
+    ghost steps: { Self.State → Asking → Answer → Self.State → Type 0 };
+    /// How many events may still be answered.
+    ghost left: { Self.State → ℕ };
 
     /// Answers an event.
-    fn step(&mut self, event: &Event) -> Reply
-        requires { 0 < left self.old }
-        ensures steps { steps self.old event.now result self.new }
-        ensures left { left self.old ≤ left self.new + 1 };
+    fn step(&self, state: &mut Self::State, event: &Event) -> Reply
+        requires suits { suits self.now state.old }
+        requires left { 0 < left state.old }
+        ensures steps { steps state.old event.now result state.new }
+        ensures left { left state.old ≤ left state.new + 1 }
+        ensures suits { suits self.now state.new };
 }
 
 /// Whether the reply says that memory ran out.
@@ -28,13 +35,15 @@ fn is_no_memory(reply: &Reply) -> bool
 }
 
 /// Enters an event whose reply says nothing else than whether memory ran out.
-fn enter_aside<A: Replier>(replier: &mut A, event: &Event) -> Result<(), NoMemory>
-    requires { 0 < A.left replier.old }
-    ensures entered { AreEntered A.steps replier.old (event.now ∷ []) replier.new }
-    ensures ok { OnOk result (AreEntered (known A.steps) replier.old (event.now ∷ []) replier.new) }
-    ensures left { A.left replier.old ≤ A.left replier.new + 1 }
+#[tactic(auto, using(crate::proofs::Enterings::one_aside))]
+fn enter_aside<A: Replier>(replier: &A, state: &mut A::State, event: &Event) -> Result<(), NoMemory>
+    requires suits { A.suits replier.now state.old }
+    requires left { 0 < A.left state.old }
+    ensures enters { EntersAside A.steps (event.now ∷ []) state.old state.new result }
+    ensures left { A.left state.old ≤ A.left state.new + 1 }
+    ensures suits { A.suits replier.now state.new }
 {
-    let reply = replier.step(event);
+    let reply = replier.step(state, event);
     if is_no_memory(&reply) {
         return Err(NoMemory);
     }
@@ -42,28 +51,42 @@ fn enter_aside<A: Replier>(replier: &mut A, event: &Event) -> Result<(), NoMemor
 }
 
 /// Lets time go on to the moment, where it is to.
-fn enter_tick<A: Replier>(replier: &mut A, ticks: bool, moment: u64) -> Result<(), NoMemory>
-    requires { 0 < A.left replier.old }
-    ensures entered { AreEntered A.steps replier.old (tick ticks moment) replier.new }
-    ensures ok { OnOk result (AreEntered (known A.steps) replier.old (tick ticks moment) replier.new) }
-    ensures left { A.left replier.old ≤ A.left replier.new + 1 }
+#[tactic(auto, using(crate::proofs::Enterings::none_aside))]
+fn enter_tick<A: Replier>(
+    replier: &A,
+    state: &mut A::State,
+    ticks: bool,
+    moment: u64,
+) -> Result<(), NoMemory>
+    requires suits { A.suits replier.now state.old }
+    requires left { 0 < A.left state.old }
+    ensures enters { EntersAside A.steps (tick ticks moment) state.old state.new result }
+    ensures left { A.left state.old ≤ A.left state.new + 1 }
+    ensures suits { A.suits replier.now state.new }
 {
     if ticks {
-        return enter_aside(replier, &Event::Tick { moment });
+        return enter_aside(replier, state, &Event::Tick { moment });
     }
     Ok(())
 }
 
 /// Puts the host down whose result differs from the one that is kept.
-fn enter_down<A: Replier>(replier: &mut A, event: &Event, reply: &Reply) -> Result<(), NoMemory>
-    requires { 0 < A.left replier.old }
-    ensures entered { AreEntered A.steps replier.old (down_after event.now reply.now) replier.new }
-    ensures ok { OnOk result (AreEntered (known A.steps) replier.old (down_after event.now reply.now) replier.new) }
-    ensures left { A.left replier.old ≤ A.left replier.new + 1 }
+#[tactic(auto, using(crate::proofs::Enterings::none_aside))]
+fn enter_down<A: Replier>(
+    replier: &A,
+    state: &mut A::State,
+    event: &Event,
+    reply: &Reply,
+) -> Result<(), NoMemory>
+    requires suits { A.suits replier.now state.old }
+    requires left { 0 < A.left state.old }
+    ensures enters { EntersAside A.steps (down_after event.now reply.now) state.old state.new result }
+    ensures left { A.left state.old ≤ A.left state.new + 1 }
+    ensures suits { A.suits replier.now state.new }
 {
     match event {
         Event::Result { host, .. } => match reply {
-            Reply::Differs { .. } => enter_aside(replier, &Event::Down { host: *host }),
+            Reply::Differs { .. } => enter_aside(replier, state, &Event::Down { host: *host }),
             _ => Ok(()),
         },
         _ => Ok(()),
@@ -71,23 +94,26 @@ fn enter_down<A: Replier>(replier: &mut A, event: &Event, reply: &Reply) -> Resu
 }
 
 /// Enters an event, behind the moment where time goes on first, and what follows from its reply.
-#[tactic(auto, using(crate::proofs::Enterings::begun_tick, crate::proofs::Enterings::begun_event, crate::proofs::Enterings::begun_down, crate::proofs::Enterings::entered_all))]
+#[tactic(auto, using(crate::proofs::Enterings::begun_tick, crate::proofs::Enterings::begun_down))]
 pub fn enter<A: Replier>(
-    replier: &mut A,
+    replier: &A,
+    state: &mut A::State,
     ticks: bool,
     moment: u64,
     event: &Event,
 ) -> Result<Reply, NoMemory>
-    requires { 3 ≤ A.left replier.old }
-    ensures enters { Enters A.steps ticks moment event.now replier.old replier.new result }
-    ensures left { A.left replier.old ≤ A.left replier.new + 3 }
+    requires suits { A.suits replier.now state.old }
+    requires left { 3 ≤ A.left state.old }
+    ensures enters { Enters A.steps ticks moment event.now state.old state.new result }
+    ensures left { A.left state.old ≤ A.left state.new + 3 }
+    ensures suits { A.suits replier.now state.new }
     ensures told { IfOk result (λ r. r ≢ Reply.NoMemory) }
 {
-    enter_tick(replier, ticks, moment)?;
-    let reply = replier.step(event);
+    enter_tick(replier, state, ticks, moment)?;
+    let reply = replier.step(state, event);
     if is_no_memory(&reply) {
         return Err(NoMemory);
     }
-    enter_down(replier, event, &reply)?;
+    enter_down(replier, state, event, &reply)?;
     Ok(reply)
 }

@@ -5,7 +5,8 @@ ghost use Rattle.farm_io.specs.Beside.{side};
 ghost use Rattle.http_door.specs.Responses.{Writes, HasCauseWritten};
 ghost use Rattle.http_door.specs.Reading.{request_with};
 ghost use Rattle.http_door.specs.ReaderValue.{budget};
-ghost use Rattle.judge_server.specs.Serving.{PutsAnswer, how_after, OneAnswered, refusal_response, given_as, Refuses, PutsEnd, Turned, IsServed, counted, HasCauseServed};
+ghost use Rattle.judge_server.specs.Entering.{AreEntered};
+ghost use Rattle.judge_server.specs.Serving.{PutsAnswer, how_after, OneAnswered, refusal_response, given_as, Refuses, PutsEnd, untaken, Turned, IsServed, counted, HasCauseServed};
 
 use crate::answering::{answer_fault, answer_reply};
 use crate::asking::{Asked, RequestFault, read_request};
@@ -20,21 +21,24 @@ use wire_json::BodyFault;
 /// Does what is asked, and puts the response.
 fn answer_asked<A: Replier, K: Sink>(
     alloc: Global,
-    replier: &mut A,
+    replier: &A,
+    state: &mut A::State,
     moment: u64,
     asked: &Asked,
     sink: &mut K,
 ) -> Result<(), ResponseFault>
-    requires calls { 3 ≤ A.left replier.old }
+    requires suits { A.suits replier.now state.old }
+    requires calls { 3 ≤ A.left state.old }
     requires told { asked.now ≢ Asked.Refused (RequestFault.BadBody BodyFault.NoMemory) }
-    ensures puts { PutsAnswer A.steps moment asked.now replier.old replier.new (K.held sink.old) (K.held sink.new) result }
+    ensures puts { PutsAnswer A.steps moment asked.now state.old state.new (K.held sink.old) (K.held sink.new) result }
     ensures cause { HasCauseWritten (K.faults sink.old) (K.faults sink.new) result }
     ensures beside { K.beside sink.new ≡ K.beside sink.old }
-    ensures left { A.left replier.old ≤ A.left replier.new + 3 }
+    ensures left { A.left state.old ≤ A.left state.new + 3 }
+    ensures suits { A.suits replier.now state.new }
 {
     match asked {
         Asked::Refused(fault) => answer_fault(alloc, sink, fault),
-        Asked::Event { ticks, event } => match enter(replier, *ticks, moment, event) {
+        Asked::Event { ticks, event } => match enter(replier, state, *ticks, moment, event) {
             Err(_) => Err(ResponseFault::NoMemory),
             Ok(reply) => answer_reply(alloc, sink, &reply),
         },
@@ -61,26 +65,29 @@ fn how_after(written: Result<(), ResponseFault>, close: bool) -> Option<ConnHow>
 fn answer_one<A: Replier, C: Clock, K: Sink>(
     alloc: Global,
     paths: &Paths,
-    replier: &mut A,
+    replier: &A,
+    state: &mut A::State,
     clock: &C,
     head: &Head,
     body: &[u8],
     sink: &mut K,
 ) -> Option<ConnHow>
-    requires calls { 3 ≤ A.left replier.old }
+    requires suits { A.suits replier.now state.old }
+    requires calls { 3 ≤ A.left state.old }
     requires text { IsUtf8 head.now.target }
-    ensures puts { OneAnswered A.steps (C.shows clock.now) replier.old replier.new (request_with head.now body.now)
+    ensures puts { OneAnswered A.steps (C.shows clock.now) state.old state.new (request_with head.now body.now)
         (K.held sink.old) (K.held sink.new) result }
     ensures later { K.faults sink.old ≤ K.faults sink.new }
     ensures write { result ≡ Some ConnHow.WriteFault → Rose (K.faults sink.old) (K.faults sink.new) }
     ensures beside { K.beside sink.new ≡ K.beside sink.old }
-    ensures left { A.left replier.old ≤ A.left replier.new + 3 }
+    ensures left { A.left state.old ≤ A.left state.new + 3 }
+    ensures suits { A.suits replier.now state.new }
 {
     let moment = clock.now();
     match read_request(alloc, paths, head, body) {
         Err(_) => Some(ConnHow::NoMemory),
         Ok(asked) => {
-            let written = answer_asked(alloc, replier, moment, &asked, sink);
+            let written = answer_asked(alloc, replier, state, moment, &asked, sink);
             how_after(written, head.close)
         }
     }
@@ -151,27 +158,39 @@ fn head_of(next: Next) -> Result<Head, Ending>
 fn turn<A: Replier, C: Clock, N: Source + Sink>(
     alloc: Global,
     paths: &Paths,
-    replier: &mut A,
+    replier: &A,
+    state: &mut A::State,
     clock: &C,
     reader: &mut HttpReader,
     conn: &mut N,
 ) -> Option<ConnHow>
     requires going { reader.old.ended ≡ None }
-    requires calls { 3 * budget reader.old ≤ A.left replier.old }
+    requires suits { A.suits replier.now state.old }
+    requires calls { 3 * budget reader.old ≤ A.left state.old }
     requires source { (n : N) → N.Source.beside n ≡ side (N.held n) (N.Sink.faults n) }
     requires sink { (n : N) → N.Sink.beside n ≡ side (N.left n) (N.Source.faults n) }
     ensures turned { Turned A.steps (C.shows clock.now)
-        (record { replier = replier.old; left = N.left conn.old; held = N.held conn.old; ahead = reader.old.ahead; taken = reader.old.taken })
-        (record { replier = replier.new; left = N.left conn.new; held = N.held conn.new; ahead = reader.new.ahead; taken = reader.new.taken })
+        (record { state = state.old; left = N.left conn.old; held = N.held conn.old; ahead = reader.old.ahead; taken = reader.old.taken })
+        (record { state = state.new; left = N.left conn.new; held = N.held conn.new; ahead = reader.new.ahead; taken = reader.new.taken })
         result }
     ensures going { IsNone result → reader.new.ended ≡ None }
-    ensures calls { IsNone result → 3 * budget reader.new ≤ A.left replier.new }
+    ensures suits { A.suits replier.now state.new }
+    ensures calls { IsNone result → 3 * budget reader.new ≤ A.left state.new }
     ensures falls { IsNone result → budget reader.new < budget reader.old }
     ensures cause { HasCauseServed (N.Source.faults conn.old) (N.Source.faults conn.new)
         (N.Sink.faults conn.old) (N.Sink.faults conn.new) result }
 {
     match head_of(reader.next_request(conn)) {
-        Ok(head) => answer_one(alloc, paths, replier, clock, &head, reader.body(), conn),
+        Ok(head) => answer_one(
+            alloc,
+            paths,
+            replier,
+            state,
+            clock,
+            &head,
+            reader.body(),
+            conn,
+        ),
         Err(ending) => Some(end_with(alloc, conn, ending)),
     }
 }
@@ -194,16 +213,17 @@ fn end_after(requests: u64, how: ConnHow) -> ConnEnd
 pub fn serve_on<A: Replier, C: Clock, N: Source + Sink>(
     alloc: Global,
     paths: &Paths,
-    replier: &mut A,
+    replier: &A,
+    state: &mut A::State,
     clock: &C,
     conn: &mut N,
 ) -> ConnEnd
-    requires calls { 2 ^ 42 ≤ A.left replier.old }
+    requires suits { A.suits replier.now state.old }
+    requires calls { 2 ^ 42 ≤ A.left state.old }
     requires source { (n : N) → N.Source.beside n ≡ side (N.held n) (N.Sink.faults n) }
     requires sink { (n : N) → N.Sink.beside n ≡ side (N.left n) (N.Source.faults n) }
-    ensures served { IsServed A.steps (C.shows clock.now)
-        (record { replier = replier.old; left = N.left conn.old; held = N.held conn.old; ahead = []; taken = 0 })
-        (record { replier = replier.new; left = N.left conn.new; held = N.held conn.new; ahead = []; taken = 0 })
+    ensures served { IsServed (AreEntered A.steps) (C.shows clock.now)
+        (untaken state.old (N.left conn.old) (N.held conn.old)) (untaken state.new (N.left conn.new) (N.held conn.new))
         result.requests result.how }
     ensures cause { HasCauseServed (N.Source.faults conn.old) (N.Source.faults conn.new)
         (N.Sink.faults conn.old) (N.Sink.faults conn.new) (Some result.how) }
@@ -219,7 +239,7 @@ pub fn serve_on<A: Replier, C: Clock, N: Source + Sink>(
     };
     let mut requests: u64 = 0;
     loop {
-        if let Some(how) = turn(alloc, paths, replier, clock, &mut reader, conn) {
+        if let Some(how) = turn(alloc, paths, replier, state, clock, &mut reader, conn) {
             return end_after(requests, how);
         }
         requests += 1;

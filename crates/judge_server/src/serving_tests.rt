@@ -7,33 +7,39 @@ use farm_kinds::{Event, Kind, NoMemory, Reply};
 use std::alloc::Global;
 use std::test::Fail;
 
-/// Finds that every result differs, and has nothing else to say. It writes down what it is asked.
+/// Finds that every result differs, and has nothing else to say.
 #[derive(Drop)]
 struct Differing {
     alloc: Global,
-    left: u64,
-    asked: Vec<u8>,
 }
 
-impl Differing {
-    /// Writes down an event and a bar behind it.
-    fn note(&mut self, event: &Event) -> Result<(), NoMemory> {
-        let text = write_event(self.alloc, event)?;
-        self.asked.extend_from_slice(text.as_slice())?;
-        self.asked.extend_from_slice(b"|")?;
-        Ok(())
-    }
+/// The events that were asked, each with a bar behind it, and how many may follow.
+#[derive(Drop)]
+struct Asked {
+    text: Vec<u8>,
+    left: u64,
+}
+
+/// Writes an event and a bar behind it.
+fn note(alloc: Global, text: &mut Vec<u8>, event: &Event) -> Result<(), NoMemory> {
+    let line = write_event(alloc, event)?;
+    text.extend_from_slice(line.as_slice())?;
+    text.extend_from_slice(b"|")?;
+    Ok(())
 }
 
 impl Replier for Differing {
+    type State = Asked;
+
+    ghost suits = { λ replier asked. ⊤ };
+
     ghost steps = { λ old event reply new. ⊤ };
 
-    ghost left = { λ a. a.left };
+    ghost left = { λ asked. asked.left };
 
-    fn step(&mut self, event: &Event) -> Reply {
-        let left = self.left - 1;
-        let noted = self.note(event);
-        self.left = left;
+    fn step(&self, state: &mut Asked, event: &Event) -> Reply {
+        state.left -= 1;
+        let noted = note(self.alloc, &mut state.text, event);
         match event {
             _ if noted.is_err() => Reply::NoMemory,
             Event::Result { kind, .. } => Reply::Differs {
@@ -125,14 +131,15 @@ fn connections_are_served(rt: HostRuntime) -> Result<(), Fail> {
         let source = ReliableSource::new(bytes_of(alloc, sent)?);
         let sink = ReliableSink::new(Vec::with_capacity(alloc, 1000)?);
         let mut conn = Connection::new(source, sink);
-        let mut replier = Differing {
-            alloc,
+        let mut state = Asked {
+            text: Vec::new(alloc),
             left: 1 << 42,
-            asked: Vec::new(alloc),
         };
-        let end = serve_on(alloc, &paths, &mut replier, &FixedClock::new(7), &mut conn);
+        let replier = Differing { alloc };
+        let clock = FixedClock::new(7);
+        let end = serve_on(alloc, &paths, &replier, &mut state, &clock, &mut conn);
         assert_eq!(rt; end, ConnEnd { requests, how });
-        assert_eq!(rt; replier.asked.as_slice(), asked.as_bytes());
+        assert_eq!(rt; state.text.as_slice(), asked.as_bytes());
         let wanted = bytes_of(alloc, responses)?;
         assert_eq!(rt; conn.sink.bytes(), wanted.as_slice());
     }

@@ -6,7 +6,9 @@ ghost use Rattle.farm_kinds.specs.declared.events.Reply.TheVariants as reply;
 ghost use Rattle.wire_json.specs.declared.routes.Route.TheVariants as route;
 ghost use Rattle.judge_server.specs.declared.routes.Routed.TheVariants as routed;
 ghost use Rattle.judge_server.specs.Routes.{route_of, routed_of};
-ghost use Rattle.judge_server.specs.Conversation.{events_of, calls_of, response_of};
+ghost use Rattle.judge_server.specs.Conversation.{response_of};
+ghost use Rattle.judge_server.specs.Entering.{with_reply, Replies};
+ghost use Rattle.judge_server.specs.Exchanges.{entered_in};
 
 /// The definition of routes at some paths.
 pub fn worked_routes()
@@ -27,18 +29,22 @@ pub fn worked_targets()
     ensures no_route { routed_of (codes "POST") (codes "/boards") ≡ routed.NoRoute }
 {}
 
-/// The definition of what requests ask of the farm, where the clock shows 7.
+/// The definition of what is entered for requests, where the clock shows 7.
 pub fn worked_events()
     ensures claim { let body = codes "{\"hostname\":\"h1\"}" in
-        events_of record { method = codes "POST"; target = codes "/judgehosts/fetch-work"; close = false; body = body } 7
-        ≡ event.Tick 7 ∷ event.Claim (codes "h1") ∷ [] }
-    ensures verify { events_of record { method = codes "POST"; target = codes "/judgements/1/verify"; close = false; body = [] } 7
-        ≡ event.Verify jury 1 ∷ [] }
-    ensures no_event { events_of record { method = codes "PUT"; target = codes "/board"; close = false; body = [] } 7 ≡ [] }
+        let r : Replies = record { ticked = reply.Ended 2; answer = reply.Nothing; downed = reply.NoMemory } in
+        entered_in record { request = record { method = codes "POST"; target = codes "/judgehosts/fetch-work"; close = false; body = body }; moment = 7; replies = r }
+        ≡ with_reply (event.Tick 7) (reply.Ended 2) ∷ with_reply (event.Claim (codes "h1")) reply.Nothing ∷ [] }
+    ensures verify { let r : Replies = record { ticked = reply.NoMemory; answer = reply.Verified 1; downed = reply.NoMemory } in
+        entered_in record { request = record { method = codes "POST"; target = codes "/judgements/1/verify"; close = false; body = [] }; moment = 7; replies = r }
+        ≡ with_reply (event.Verify jury 1) (reply.Verified 1) ∷ [] }
+    ensures no_event { let r : Replies = record { ticked = reply.Nothing; answer = reply.Nothing; downed = reply.Nothing } in
+        entered_in record { request = record { method = codes "PUT"; target = codes "/board"; close = false; body = [] }; moment = 7; replies = r } ≡ [] }
     ensures differs { let body = codes "{\"hostname\":\"h2\",\"judging\":1,\"test\":1,\"result\":\"wrong-answer\"}" in
-        calls_of record { method = codes "POST"; target = codes "/judgehosts/add-judging-run"; close = false; body = body } 7
-        (reply.Differs kind.Correct kind.WrongAnswer)
-        ≡ event.Result (codes "h2") 1 1 kind.WrongAnswer ∷ event.Down (codes "h2") ∷ [] }
+        let r : Replies = record { ticked = reply.NoMemory; answer = reply.Differs kind.Correct kind.WrongAnswer; downed = reply.Ended 1 } in
+        entered_in record { request = record { method = codes "POST"; target = codes "/judgehosts/add-judging-run"; close = false; body = body }; moment = 7; replies = r }
+        ≡ with_reply (event.Result (codes "h2") 1 1 kind.WrongAnswer) (reply.Differs kind.Correct kind.WrongAnswer)
+        ∷ with_reply (event.Down (codes "h2")) (reply.Ended 1) ∷ [] }
 {}
 
 /// The definition of responses at some requests and replies.

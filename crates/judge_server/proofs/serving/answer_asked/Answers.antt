@@ -3,7 +3,7 @@ use Rattle.judge_server.proofs.serving.answer_asked.Goals as goal
 
 pub returns-in-Refused-clause-puts : goal.returns-in-Refused-clause-puts
 returns-in-Refused-clause-puts g c =
-    rw c.in-Refused.is (put_fault g.A.Replier.steps c.args.moment c.args.replier.now c.in-Refused.fault _ _ c.answer_fault.result c.answer_fault.ensures.writes)
+    rw c.in-Refused.is (put_fault g.A.Replier.steps c.args.moment c.args.state.now c.in-Refused.fault _ _ c.answer_fault.result c.answer_fault.ensures.writes)
 
 pub returns-in-Ok-clause-puts : goal.returns-in-Ok-clause-puts
 returns-in-Ok-clause-puts g c =

@@ -2,7 +2,7 @@ use Rattle.judge_server.proofs.Turning.{served_none, served_with}
 use Rattle.judge_server.proofs.serving.serve_on.Goals as goal
 
 pub returns-in-Err-clause-served : goal.returns-in-Err-clause-served
-returns-in-Err-clause-served g c = served_none g.A.Replier.steps _ c.args.replier.now _ _
+returns-in-Err-clause-served g c = served_none g.A.Replier.steps _ c.args.state.now _ _
 
 pub returns-in-Some-clause-served : goal.returns-in-Some-clause-served
 returns-in-Some-clause-served g c =

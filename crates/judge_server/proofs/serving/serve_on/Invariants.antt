@@ -1,7 +1,7 @@
-use Rattle.std.proofs.Common.{◌≡◌, ◌+◌, ◌*◌, ◌≤◌, [], None}
+use Rattle.std.proofs.Common.{◌≡◌, ◌+◌, ◌*◌, ◌≤◌, None}
 use Rattle.farm_io.specs.Lines.{input_limit}
 use Rattle.http_door.specs.ReaderValue.{budget}
-use Rattle.judge_server.specs.Serving.{IsUnderWay}
+use Rattle.judge_server.specs.Serving.{untaken, IsUnderWay}
 use Rattle.judge_server.proofs.serving.serve_on.Given as goal
 
 abbrev pub invariant-loop-how : goal.invariant-loop-how
@@ -10,12 +10,13 @@ invariant-loop-how g l =
     let held = g.N.Sink.held in
     record {
       under_way : IsUnderWay g.A.Replier.steps (g.C.Clock.shows l.clock)
-          (record { replier = l.fn.replier; left = left l.fn.conn; held = held l.fn.conn; ahead = []; taken = 0 })
-          (record { replier = l.replier; left = left l.conn; held = held l.conn; ahead = l.reader.ahead; taken = l.reader.taken }) l.requests;
+          (untaken l.fn.state (left l.fn.conn) (held l.fn.conn))
+          (record { state = l.state; left = left l.conn; held = held l.conn; ahead = l.reader.ahead; taken = l.reader.taken }) l.requests;
+      suits : g.A.Replier.suits l.replier l.state;
       read_later : g.N.Source.faults l.fn.conn ≤ g.N.Source.faults l.conn;
       write_later : g.N.Sink.faults l.fn.conn ≤ g.N.Sink.faults l.conn;
       going : l.reader.ended ≡ None;
-      calls : 3 * budget l.reader ≤ g.A.Replier.left l.replier;
+      calls : 3 * budget l.reader ≤ g.A.Replier.left l.state;
       count : l.requests + budget l.reader ≤ input_limit;
     }
 

@@ -1,0 +1,11 @@
+use Rattle.judge_server.proofs.Enterings.{begun_event, entered_all, not_no_memory}
+use Rattle.judge_server.proofs.replier.enter.Goals as goal
+
+pub returns-then-is_no_memory-clause-enters : goal.returns-then-is_no_memory-clause-enters
+returns-then-is_no_memory-clause-enters g c =
+    begun_event g.A.Replier.steps c.args.ticks c.args.moment c.args.event.now _ _ _ c.step-reply.result c.enter_tick.result c.enter_tick.ensures.enters c.step-reply.ensures.steps
+
+pub returns-clause-enters : goal.returns-clause-enters
+returns-clause-enters g c =
+    entered_all g.A.Replier.steps c.args.ticks c.args.moment c.args.event.now _ _ _ _ c.step-reply.result c.in_ok-enter_tick.field-0 c.in_ok-enter_down.field-0 c.in_ok-enter_tick.ensures.enters c.step-reply.ensures.steps
+    (not_no_memory c.step-reply.result (search c.is_no_memory.ensures)) c.in_ok-enter_down.ensures.enters
