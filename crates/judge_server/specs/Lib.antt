@@ -4,3 +4,4 @@ pub mod Conversation
 pub mod Entering
 pub mod Exchanges
 pub mod Serving
+pub mod PassCalls

@@ -1,5 +1,5 @@
 -- What a connection is answered.
-use Rattle.std.specs.Prelude.{◌≡◌, ◌≢◌, ℕ, ◌+◌, ◌≤◌, ◌⊎◌, List, [], ◌∷◌, ◌++◌, length, take, Bool, true, false, Option, Some, None, All, Result, Ok, Err}
+use Rattle.std.specs.Prelude.{◌≡◌, ◌≢◌, ℕ, ◌+◌, ◌≤◌, ◌<◌, ◌⊎◌, List, [], ◌∷◌, ◌++◌, length, take, Bool, true, false, Option, Some, None, All, Result, Ok, Err}
 use mathlib.Core.List.{IsPrefix}
 use Rattle.std.specs.Io.KnownBytes.{Appends, Consumes, Keeps, IsAtEnd}
 use Rattle.farm_kinds.specs.declared.events.Event.{Event}
@@ -239,3 +239,14 @@ pub record HasCauseServed (read read' write write' : ℕ) (result : Option ConnH
   pub write_later : write ≤ write'
   pub read_failed : result ≡ Some how.ReadFault → Rose read read'
   pub write_failed : result ≡ Some how.WriteFault → Rose write write'
+
+-- these requests are all of the bytes, which are fewer than may be taken, and none asks to close
+pub record AreSound (bytes : List ℕ) (rs : List Request) : Type 0 where
+  pub cut : AreRequests bytes rs []
+  pub few : length bytes < input_limit
+  pub staying : All (λ r. r.close ≡ false) rs
+
+-- where the connection's bytes are sound requests, and neither side failed, all of them were answered, or memory ran out
+abbrev pub AnswersAll : Option (List ℕ) → ℕ → ℕ → ℕ → ℕ → ℕ → ConnHow → Type 0
+AnswersAll left read read' write write' n h = (bytes : List ℕ) (rs : List Request) → left ≡ Some bytes → AreSound bytes rs
+    → ¬ Rose read read' → ¬ Rose write write' → ((h ≡ how.End) × (n ≡ length rs)) ⊎ (h ≡ how.NoMemory)

@@ -6,6 +6,9 @@
 
 mod answering;
 mod asking;
+#[cfg(test)]
+mod board_tests;
+mod calling;
 mod ends;
 mod paths;
 mod replier;
@@ -19,6 +22,7 @@ mod worked;
 
 pub use answering::{answer_fault, answer_reply, status_of};
 pub use asking::{Asked, RequestFault, read_request};
+pub use calling::serve_conn;
 pub use ends::{ConnEnd, ConnHow};
 pub use paths::{Paths, Place};
 pub use replier::Replier;

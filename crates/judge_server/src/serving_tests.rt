@@ -51,12 +51,14 @@ impl Replier for Differing {
     }
 }
 
-const HOST: &str = concat!(
+/// A host comes up.
+pub(crate) const HOST: &str = concat!(
     "POST /judgehosts HTTP/1.1\r\nhost: x\r\ncontent-length: 17\r\n\r\n",
     "{\"hostname\":\"h1\"}"
 );
 
-const FETCH: &str = concat!(
+/// The host asks for a task.
+pub(crate) const FETCH: &str = concat!(
     "POST /judgehosts/fetch-work HTTP/1.1\r\nhost: x\r\ncontent-length: 17\r\n\r\n",
     "{\"hostname\":\"h1\"}"
 );
@@ -115,11 +117,12 @@ const TALKS: [([&str; 2], u64, ConnHow, &str, [&str; 2]); 5] = [
     (["", ""], 0, ConnHow::End, "", ["", ""]),
 ];
 
-/// The bytes of two texts, one behind the other, with room for more.
-fn bytes_of(alloc: Global, texts: [&str; 2]) -> Result<Vec<u8>, NoMemory> {
+/// The bytes of texts, one behind the other, with room for more.
+pub(crate) fn bytes_of(alloc: Global, texts: &[&str]) -> Result<Vec<u8>, NoMemory> {
     let mut bytes = Vec::with_capacity(alloc, 1000)?;
-    bytes.extend_from_slice(texts[0].as_bytes())?;
-    bytes.extend_from_slice(texts[1].as_bytes())?;
+    for text in texts {
+        bytes.extend_from_slice(text.as_bytes())?;
+    }
     Ok(bytes)
 }
 
@@ -128,7 +131,7 @@ fn connections_are_served(rt: HostRuntime) -> Result<(), Fail> {
     let alloc = rt.alloc();
     let paths = Paths::new(alloc)?;
     for (sent, requests, how, asked, responses) in TALKS {
-        let source = ReliableSource::new(bytes_of(alloc, sent)?);
+        let source = ReliableSource::new(bytes_of(alloc, sent.as_slice())?);
         let sink = ReliableSink::new(Vec::with_capacity(alloc, 1000)?);
         let mut conn = Connection::new(source, sink);
         let mut state = Asked {
@@ -140,7 +143,7 @@ fn connections_are_served(rt: HostRuntime) -> Result<(), Fail> {
         let end = serve_on(alloc, &paths, &replier, &mut state, &clock, &mut conn);
         assert_eq!(rt; end, ConnEnd { requests, how });
         assert_eq!(rt; state.text.as_slice(), asked.as_bytes());
-        let wanted = bytes_of(alloc, responses)?;
+        let wanted = bytes_of(alloc, responses.as_slice())?;
         assert_eq!(rt; conn.sink.bytes(), wanted.as_slice());
     }
     Ok(())

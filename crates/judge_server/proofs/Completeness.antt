@@ -1,0 +1,107 @@
+-- Where all requests are sound and no side fails, all are answered.
+use Rattle.std.proofs.Common.{ℕ, ◌≡◌, ◌+◌, ◌<◌, ◌⊎◌, inl, inr, List, [], ◌∷◌, ◌++◌, Bool, true, false, Option, Some, None, refl, sym, ap, ap₂, ◌∙◌, subst, arith, length, length-append, append_assoc, append-nil}
+use Rattle.std.specs.Prelude.{All}
+use Rattle.std.specs.Io.KnownBytes.{Consumes, IsAtEnd}
+use Rattle.std.proofs.lemmas.List.{length-map, map-append}
+use Rattle.std.proofs.lemmas.List.Elements.{All-head, All-tail}
+use Rattle.farm_io.specs.Lines.{input_limit}
+use Rattle.farm_io.specs.Streams.{Rose}
+use Rattle.http_door.specs.declared.ending.Ending.{Ending}
+use Rattle.http_door.specs.declared.ending.Ending.TheVariants as ending
+use Rattle.http_door.specs.Requests.{Request, IsRequest, AreRequests, EndsAs, IsRefusal, IsOfBytes}
+use Rattle.http_door.proofs.Cutting.{request_some, request_once, request_apart, requests_more, refusal_more}
+use Rattle.http_door.proofs.Between.{none_refused}
+use Rattle.judge_server.specs.declared.ends.ConnHow.{ConnHow}
+use Rattle.judge_server.specs.declared.ends.ConnHow.TheVariants as how
+use Rattle.judge_server.specs.Entering.{Entered}
+use Rattle.judge_server.specs.Exchanges.{Exchange, requests_of}
+use Rattle.judge_server.specs.Serving.{untaken, IsClosed, EndsOf, IsServed, HasCauseServed, AreSound, AnswersAll}
+
+-- of requests that are all of the bytes, those that were found come first
+sound_front : (bytes : List ℕ) (qs : List Request) (rest : List ℕ) (rs : List Request) → AreRequests bytes qs rest → AreRequests bytes rs []
+    → (more : List Request) × (rs ≡ qs ++ more) × AreRequests rest more []
+sound_front bytes [] rest rs x y = (rs, refl, subst (λ (z : List ℕ). AreRequests z rs []) x y)
+sound_front bytes (q ∷ qs) rest [] x y = let none = ap length y in absurd (omega (arith, request_some bytes q x.0 x.1, none))
+sound_front bytes (q ∷ qs) rest (r ∷ rs) x y =
+    let same = request_once bytes r q y.0 x.0 y.1 x.1 in
+    let more = sound_front x.0 qs rest rs x.2 (subst (λ (z : List ℕ). AreRequests z rs []) same.1 y.2) in
+    (more.0, ap₂ (λ (z : Request) (zs : List Request). z ∷ zs) same.0 more.1, more.2)
+
+none_more : (more : List Request) → AreRequests [] more [] → more ≡ []
+none_more [] x = refl
+none_more (m ∷ more) x = absurd (omega (arith, request_some [] m x.0 x.1))
+
+-- sound requests do not end as bytes do that hold no request
+no_other_end : (rest : List ℕ) (more : List Request) (e : Ending) → IsOfBytes e → (rest ≡ [] → EndsAs e rest → ⊥) → EndsAs e rest → AreRequests rest more [] → ⊥
+no_other_end rest [] e o some ends x = some x ends
+no_other_end rest (m ∷ more) e o some ends x = request_apart rest m x.0 e x.1 o ends
+
+of_bytes : (e : Ending) → IsRefusal e → IsOfBytes e
+of_bytes ending.End x = tt
+of_bytes ending.Cut x = tt
+of_bytes ending.BadHead x = x
+of_bytes (ending.HeadTooLong n) x = x
+of_bytes (ending.BodyTooLong n) x = x
+of_bytes ending.NoLength x = x
+of_bytes ending.ReadFault x = tt
+of_bytes ending.InputLimit x = tt
+of_bytes ending.NoMemory x = x
+
+-- one of these requests stays as the others do
+one_stays : (qs : List Request) (r : Request) (more : List Request) → All (λ (z : Request). z.close ≡ false) (qs ++ r ∷ more) → r.close ≡ false
+one_stays [] r more h = All-head (λ (z : Request). z.close ≡ false) r more h
+one_stays (q ∷ qs) r more h = one_stays qs r more (All-tail (λ (z : Request). z.close ≡ false) q (qs ++ r ∷ more) h)
+
+not_closed : (xs : List Exchange) (rs more : List Request) → IsClosed xs → All (λ (z : Request). z.close ≡ false) rs → rs ≡ requests_of xs ++ more → ⊥
+not_closed xs rs more c stay is =
+    let front = requests_of c.front in
+    let last : requests_of xs ≡ front ++ c.last.request ∷ [] = ap requests_of c.whole ∙ map-append (λ (x : Exchange). x.request) c.front (c.last ∷ []) in
+    let all : rs ≡ front ++ c.last.request ∷ more = is ∙ ap (λ (qs : List Request). qs ++ more) last ∙ append_assoc front (c.last.request ∷ []) more in
+    let both : true ≡ false = sym c.closes ∙ one_stays front c.last.request more (subst (All (λ (z : Request). z.close ≡ false)) all stay) in
+    cc both
+
+-- the count of all requests
+counts_all : (xs : List Exchange) (rs more : List Request) (n : ℕ) → length xs ≡ n → rs ≡ requests_of xs ++ more → more ≡ [] → n ≡ length rs
+counts_all xs rs more n count is none =
+    let whole : length rs ≡ length (requests_of xs ++ more) = ap length is in
+    let nothing : length more ≡ 0 = ap length none in
+    omega (arith, count, whole, nothing, length-append (requests_of xs) more, length-map xs (λ (x : Exchange). x.request))
+
+-- what was consumed of known bytes
+left_known : (bytes : List ℕ) (left : Option (List ℕ)) (all : List ℕ) → Consumes (Some bytes) left all → (ys : List ℕ) × (left ≡ Some ys) × (bytes ≡ all ++ ys)
+left_known bytes None all x = absurd x
+left_known bytes (Some ys) all x = (ys, refl, x)
+
+by_end : (shows : ℕ → Bool) (xs : List Exchange) (all rest tail ys bytes : List ℕ) (left : Option (List ℕ)) (made : List Entered) (rs more : List Request) (read read' write write' n : ℕ) (h : ConnHow)
+    → EndsOf shows xs rest (0 + length all) left tail made h → HasCauseServed read read' write write' (Some h) → length xs ≡ n
+    → left ≡ Some ys → bytes ≡ all ++ ys → length bytes < input_limit → All (λ (z : Request). z.close ≡ false) rs → rs ≡ requests_of xs ++ more
+    → AreRequests (rest ++ ys) more [] → ¬ Rose read read' → ¬ Rose write write' → ((h ≡ how.End) × (n ≡ length rs)) ⊎ (h ≡ how.NoMemory)
+by_end shows xs all rest tail ys bytes left made rs more read read' write write' n how.End ends cause count known whole few stay is others reads writes =
+    let behind : ys ≡ [] = subst IsAtEnd known ends.1 in
+    let nothing : rest ++ ys ≡ [] = ap₂ (λ (a b : List ℕ). a ++ b) ends.0 behind in
+    inl (refl, counts_all xs rs more n count is (none_more more (subst (λ (z : List ℕ). AreRequests z more []) nothing others)))
+by_end shows xs all rest tail ys bytes left made rs more read read' write write' n how.Closed ends cause count known whole few stay is others reads writes =
+    absurd (not_closed xs rs more ends.0 stay is)
+by_end shows xs all rest tail ys bytes left made rs more read read' write write' n how.Cut ends cause count known whole few stay is others reads writes =
+    let behind : ys ≡ [] = subst IsAtEnd known ends.1 in
+    let same : rest ++ ys ≡ rest = ap (λ (b : List ℕ). rest ++ b) behind ∙ append-nil rest in
+    absurd (no_other_end rest more ending.Cut tt (λ none e. let zero = ap length none in omega (arith, e.0, zero)) ends.0 (subst (λ (z : List ℕ). AreRequests z more []) same others))
+by_end shows xs all rest tail ys bytes left made rs more read read' write write' n how.BadRequest ends cause count known whole few stay is others reads writes =
+    absurd (no_other_end (rest ++ ys) more ends.0 (of_bytes ends.0 ends.1) (λ none e. none_refused ends.0 (subst (EndsAs ends.0) none e) ends.1) (refusal_more rest ys ends.0 ends.1 ends.2) others)
+by_end shows xs all rest tail ys bytes left made rs more read read' write write' n how.ReadFault ends cause count known whole few stay is others reads writes =
+    absurd (reads (cause.read_failed refl))
+by_end shows xs all rest tail ys bytes left made rs more read read' write write' n how.WriteFault ends cause count known whole few stay is others reads writes =
+    absurd (writes (cause.write_failed refl))
+by_end shows xs all rest tail ys bytes left made rs more read read' write write' n how.InputLimit ends cause count known whole few stay is others reads writes =
+    let limit = ends.3 in
+    absurd (omega (arith, few, ap length whole, length-append all ys, limit))
+by_end shows xs all rest tail ys bytes left made rs more read read' write write' n how.NoMemory ends cause count known whole few stay is others reads writes = inr refl
+
+pub answers_all : {A : Type 0} (enters : A → List Entered → A → Type 0) (shows : ℕ → Bool) (s s' : A) (left left' held held' : Option (List ℕ)) (read read' write write' n : ℕ) (h : ConnHow)
+    → IsServed enters shows (untaken s left held) (untaken s' left' held') n h → HasCauseServed read read' write write' (Some h)
+    → AnswersAll left read read' write write' n h
+answers_all enters shows s s' left left' held held' read read' write write' n h u cause = λ bytes rs told sound reads writes.
+    let k = left_known bytes left' u.all (subst (λ (z : Option (List ℕ)). Consumes z left' u.all) told u.took) in
+    let cut : AreRequests bytes (requests_of u.answered) (u.rest ++ k.0) = subst (λ (z : List ℕ). AreRequests z (requests_of u.answered) (u.rest ++ k.0)) (sym k.2) (requests_more u.all (requests_of u.answered) u.rest k.0 u.cut) in
+    let f = sound_front bytes (requests_of u.answered) (u.rest ++ k.0) rs cut sound.cut in
+    by_end shows u.answered u.all u.rest u.tail k.0 bytes left' u.made rs f.0 read read' write write' n h u.ends cause u.count k.1 k.2 sound.few sound.staying f.1 f.2 reads writes

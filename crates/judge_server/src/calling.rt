@@ -1,0 +1,63 @@
+ghost use Rattle.std.specs.Prelude.{◌≡◌, ◌≤◌, ◌^◌, ℕ, Some};
+ghost use Rattle.farm_io.specs.Beside.{side};
+ghost use Rattle.farm_board.specs.Passes.{Calls};
+ghost use Rattle.judge_server.specs.Serving.{untaken, IsServed, HasCauseServed, AnswersAll};
+ghost use Rattle.judge_server.specs.PassCalls.{MakesCalls};
+
+use crate::ends::ConnEnd;
+use crate::paths::Paths;
+use crate::replier::Replier;
+use crate::serving::serve_on;
+use farm_board::{Admission, Anyone, Board, Pass};
+use farm_io::{Clock, Sink, Source};
+use farm_kinds::{Event, Reply};
+use std::alloc::Global;
+use std::sync::Wait;
+
+/// Answers events by a board, each in its turn, on a pass.
+#[derive(Drop)]
+struct BoardReplier<'a, W: Wait, A: Admission> {
+    rt: &'a W,
+    board: &'a Board<Anyone, A>,
+}
+
+impl<'a, W: Wait, A: Admission> Replier for BoardReplier<'a, W, A> {
+    type State = Pass<A>;
+
+    ghost suits = { λ r pass. pass.board ≡ r.board.now.id };
+
+    ghost steps = { λ old event reply new. Calls old new event reply };
+
+    ghost left = { λ pass. pass.left };
+
+    fn step(&self, state: &mut Pass<A>, event: &Event) -> Reply {
+        self.board.step(self.rt, state, event)
+    }
+}
+
+/// Answers the requests of a connection by calls of a board until it ends, one after the other, each by at most three
+/// calls.
+pub fn serve_conn<W: Wait, A: Admission, C: Clock, N: Source + Sink>(
+    rt: &W,
+    alloc: Global,
+    paths: &Paths,
+    pass: &mut Pass<A>,
+    board: &Board<Anyone, A>,
+    conn: &mut N,
+    clock: &C,
+) -> ConnEnd
+    requires board { pass.old.board ≡ board.now.id }
+    requires calls { 2 ^ 42 ≤ pass.old.left }
+    requires source { (n : N) → N.Source.beside n ≡ side (N.held n) (N.Sink.faults n) }
+    requires sink { (n : N) → N.Sink.beside n ≡ side (N.left n) (N.Source.faults n) }
+    ensures served { IsServed MakesCalls (C.shows clock.now)
+        (untaken pass.old (N.left conn.old) (N.held conn.old)) (untaken pass.new (N.left conn.new) (N.held conn.new))
+        result.requests result.how }
+    ensures cause { HasCauseServed (N.Source.faults conn.old) (N.Source.faults conn.new)
+        (N.Sink.faults conn.old) (N.Sink.faults conn.new) (Some result.how) }
+    ensures complete { AnswersAll (N.left conn.old) (N.Source.faults conn.old) (N.Source.faults conn.new)
+        (N.Sink.faults conn.old) (N.Sink.faults conn.new) result.requests result.how }
+{
+    let replier = BoardReplier { rt, board };
+    serve_on(alloc, paths, &replier, pass, clock, conn)
+}
