@@ -44,13 +44,15 @@ pub record AreKnown (r : Replies) : Type 0 where
   pub answer : r.answer ≢ reply.NoMemory
   pub downed : r.downed ≢ reply.NoMemory
 
--- what is entered for an event: before it the moment, where time goes on first, and behind it what follows from its reply
+-- what is entered for an event: before it the moment, where time goes on first, and behind it what follows from its
+-- reply
 abbrev pub entered_for : Bool → ℕ → Event → Replies → List Entered
-entered_for ticks moment e r =
-    all_with_reply r.ticked (tick ticks moment) ++ with_reply e r.answer ∷ all_with_reply r.downed (down_after e r.answer)
+entered_for ticks moment e r = all_with_reply r.ticked (tick ticks moment)
+    ++ with_reply e r.answer ∷ all_with_reply r.downed (down_after e r.answer)
 
 -- a front of what these replies make of it was entered
-pub record IsBegun {A : Type 0} (step : A → Event → Reply → A → Type 0) (whole : Replies → List Entered) (a b : A) : Type 0 where
+pub record IsBegun {A : Type 0} (step : A → Event → Reply → A → Type 0) (whole : Replies → List Entered) (a b : A)
+    : Type 0 where
   pub replies : Replies
   pub made : List Entered
   pub front : IsPrefix made (whole replies)

@@ -31,9 +31,11 @@ use Rattle.judge_server.specs.Exchanges.{Exchange, IsWhole, entered_by, entered_
 abbrev pub PutsAnswer : {A : Type 0} → (A → Event → Reply → A → Type 0) → ℕ → Asked → A → A
     → Option (List ℕ) → Option (List ℕ) → Result (Unit {0}) ResponseFault → Type 0
 PutsAnswer step moment what a b held held' (Ok u) =
-    (r : Replies) × AreKnown r × AreEntered step a (entered_by moment what r) b × Appends held held' (response_in what r.answer)
-PutsAnswer step moment what a b held held' (Err fault.WriteFault) = (r : Replies) × AreKnown r
-    × AreEntered step a (entered_by moment what r) b × ((n : ℕ) × Appends held held' (take n (response_in what r.answer)))
+    (r : Replies) × AreKnown r × AreEntered step a (entered_by moment what r) b
+    × Appends held held' (response_in what r.answer)
+PutsAnswer step moment what a b held held' (Err fault.WriteFault) =
+    (r : Replies) × AreKnown r × AreEntered step a (entered_by moment what r) b
+    × ((n : ℕ) × Appends held held' (take n (response_in what r.answer)))
 PutsAnswer step moment what a b held held' (Err fault.NoMemory) =
     IsBegun step (entered_by moment what) a b × Keeps held held'
 
@@ -59,7 +61,8 @@ pub record IsPartly {A : Type 0} (step : A → Event → Reply → A → Type 0)
   pub begun : IsBegun step (entered_by moment (asked_of r)) a b
 
 -- how one request was answered
-abbrev pub OneAnswered : {A : Type 0} → (A → Event → Reply → A → Type 0) → (ℕ → Bool) → A → A → Request → Option (List ℕ) → Option (List ℕ) → Option ConnHow → Type 0
+abbrev pub OneAnswered : {A : Type 0} → (A → Event → Reply → A → Type 0) → (ℕ → Bool) → A → A → Request
+    → Option (List ℕ) → Option (List ℕ) → Option ConnHow → Type 0
 OneAnswered step shows a b r held held' None =
     (x : Exchange) × IsExchange step shows a r x b × Appends held held' (text_of x) × (r.close ≡ false)
 OneAnswered step shows a b r held held' (Some how.Closed) =
@@ -136,7 +139,8 @@ abbrev pub AreStaying : List Exchange → Type 0
 AreStaying xs = All (λ x. x.request.close ≡ false) xs
 
 -- so many requests were answered since the beginning, and none of them asked to close
-pub record IsUnderWay {A : Type 0} (step : A → Event → Reply → A → Type 0) (shows : ℕ → Bool) (b p : Standing A) (n : ℕ) : Type 0 where
+pub record IsUnderWay {A : Type 0} (step : A → Event → Reply → A → Type 0) (shows : ℕ → Bool) (b p : Standing A)
+    (n : ℕ) : Type 0 where
   pub answered : List Exchange
   pub all : List ℕ
   pub count : length answered ≡ n
@@ -197,9 +201,11 @@ EndsOf shows xs rest bytes left tail made how.NoMemory = (tail ≡ []) × ((made
 EndsOf shows xs rest bytes left tail made how.WriteFault =
     IsNextCut shows rest tail made ⊎ (IsCutRefusal rest tail × (made ≡ []))
 
--- Of the bytes that were taken (`all`) the first n requests were answered. What was entered is what belongs to them, and
--- `made` behind it; what was put are their responses, and `tail` behind them. `enters` says what it is to enter a list.
-pub record IsServed {A : Type 0} (enters : A → List Entered → A → Type 0) (shows : ℕ → Bool) (b p : Standing A) (n : ℕ) (h : ConnHow) : Type 0 where
+-- Of the bytes that were taken (`all`) the first n requests were answered. What was entered is what belongs to them,
+-- and `made` behind it; what was put are their responses, and `tail` behind them. `enters` says what it is to enter a
+-- list.
+pub record IsServed {A : Type 0} (enters : A → List Entered → A → Type 0) (shows : ℕ → Bool) (b p : Standing A)
+    (n : ℕ) (h : ConnHow) : Type 0 where
   pub answered : List Exchange
   pub made : List Entered
   pub all : List ℕ
@@ -227,7 +233,8 @@ counted n how.InputLimit = n
 counted n how.NoMemory = n
 
 -- what one request, or the end of the requests, does, wherever the connection began
-abbrev pub Turned : {A : Type 0} → (A → Event → Reply → A → Type 0) → (ℕ → Bool) → Standing A → Standing A → Option ConnHow → Type 0
+abbrev pub Turned : {A : Type 0} → (A → Event → Reply → A → Type 0) → (ℕ → Bool) → Standing A → Standing A
+    → Option ConnHow → Type 0
 Turned {A} step shows old new None =
     (b : Standing A) (n : ℕ) → IsUnderWay step shows b old n → IsUnderWay step shows b new (n + 1)
 Turned {A} step shows old new (Some h) =
@@ -246,7 +253,9 @@ pub record AreSound (bytes : List ℕ) (rs : List Request) : Type 0 where
   pub few : length bytes < input_limit
   pub staying : All (λ r. r.close ≡ false) rs
 
--- where the connection's bytes are sound requests, and neither side failed, all of them were answered, or memory ran out
+-- where the connection's bytes are sound requests, and neither side failed, all of them were answered, or memory ran
+-- out
 abbrev pub AnswersAll : Option (List ℕ) → ℕ → ℕ → ℕ → ℕ → ℕ → ConnHow → Type 0
-AnswersAll left read read' write write' n h = (bytes : List ℕ) (rs : List Request) → left ≡ Some bytes → AreSound bytes rs
+AnswersAll left read read' write write' n h =
+    (bytes : List ℕ) (rs : List Request) → left ≡ Some bytes → AreSound bytes rs
     → ¬ Rose read read' → ¬ Rose write write' → ((h ≡ how.End) × (n ≡ length rs)) ⊎ (h ≡ how.NoMemory)
