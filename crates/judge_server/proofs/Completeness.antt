@@ -8,14 +8,14 @@ use Rattle.farm_io.specs.Lines.{input_limit}
 use Rattle.farm_io.specs.Streams.{Rose}
 use Rattle.http_door.specs.declared.ending.Ending.{Ending}
 use Rattle.http_door.specs.declared.ending.Ending.TheVariants as ending
-use Rattle.http_door.specs.Requests.{Request, IsRequest, AreRequests, EndsAs, IsRefusal, IsOfBytes}
+use Rattle.http_door.specs.Requests.{Request, AreRequests, EndsAs, IsRefusal, IsOfBytes}
 use Rattle.http_door.proofs.Cutting.{request_some, request_once, request_apart, requests_more, refusal_more}
 use Rattle.http_door.proofs.Between.{none_refused}
 use Rattle.judge_server.specs.declared.ends.ConnHow.{ConnHow}
 use Rattle.judge_server.specs.declared.ends.ConnHow.TheVariants as how
 use Rattle.judge_server.specs.Entering.{Entered}
 use Rattle.judge_server.specs.Exchanges.{Exchange, requests_of}
-use Rattle.judge_server.specs.Serving.{untaken, IsClosed, EndsOf, IsServed, HasCauseServed, AreSound, AnswersAll}
+use Rattle.judge_server.specs.Serving.{untaken, IsClosed, EndsOf, IsServed, HasCauseServed, AnswersAll}
 
 -- of requests that are all of the bytes, those that were found come first
 sound_front : (bytes : List ℕ) (qs : List Request) (rest : List ℕ) (rs : List Request) → AreRequests bytes qs rest → AreRequests bytes rs []
