@@ -32,10 +32,14 @@ host_event route.Hosts hostname = Some (event.Host hostname)
 host_event route.Down hostname = Some (event.Down hostname)
 host_event r hostname = None
 
--- a host asks for a task
-abbrev pub fetch_event : Route → List ℕ → Option Event
-fetch_event route.FetchWork hostname = Some (event.Claim hostname)
-fetch_event r hostname = None
+-- a host asks for a task, or for at most so many of one judging
+abbrev pub work_event : List ℕ → Option ℕ → Event
+work_event hostname None = event.Claim hostname
+work_event hostname (Some most) = event.Fetch hostname most
+
+abbrev pub fetch_event : Route → List ℕ → Option ℕ → Option Event
+fetch_event route.FetchWork hostname max = Some (work_event hostname max)
+fetch_event r hostname max = None
 
 -- a host gives a result
 abbrev pub run_event : Route → List ℕ → ℕ → ℕ → Kind → Option Event
@@ -50,6 +54,7 @@ held_event r hostname judging test = None
 -- the jury acts on what the path names
 abbrev pub actor_event : Route → List ℕ → Option Event
 actor_event (route.Verify judging) who = Some (event.Verify who judging)
+actor_event (route.Ask judging) who = Some (event.Ask who judging)
 actor_event (route.Apply rejudging) who = Some (event.Apply who rejudging)
 actor_event (route.Cancel rejudging) who = Some (event.Cancel who rejudging)
 actor_event r who = None
@@ -62,6 +67,7 @@ rejudge_event r submissions who = None
 -- a question whose body says nothing
 abbrev pub bare_event : Route → Option Event
 bare_event (route.Judgement judging) = Some (event.Show judging)
+bare_event (route.Submission judging) = Some (event.Owner judging)
 bare_event (route.Rejudging rejudging) = Some (event.Matrix rejudging)
 bare_event route.Board = Some event.Board
 bare_event route.Audit = Some event.Audit
@@ -71,7 +77,7 @@ bare_event r = None
 abbrev pub event_of : Route → Body → Option Event
 event_of r body.Empty = bare_event r
 event_of r (body.Host hostname) = host_event r hostname
-event_of r (body.Fetch hostname max) = fetch_event r hostname
+event_of r (body.Fetch hostname max) = fetch_event r hostname max
 event_of r (body.Run hostname judging test kind) = run_event r hostname judging test kind
 event_of r (body.Held hostname judging test) = held_event r hostname judging test
 event_of r (body.Actor who) = actor_event r who

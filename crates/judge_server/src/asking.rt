@@ -42,12 +42,27 @@ fn host_event(route: Route, hostname: Name) -> Option<Event>
     }
 }
 
+/// The event of a host that asks for a task, or for at most `max` of one judging.
+fn fetch_event(route: Route, hostname: Name, max: Option<u8>) -> Option<Event>
+    ensures { result ≡ fetch_event route hostname max }
+{
+    match (route, max) {
+        (Route::FetchWork, None) => Some(Event::Claim { host: hostname }),
+        (Route::FetchWork, Some(most)) => Some(Event::Fetch {
+            host: hostname,
+            most,
+        }),
+        _ => None,
+    }
+}
+
 /// The event of what the jury does.
 fn actor_event(route: Route, who: Name) -> Option<Event>
     ensures { result ≡ actor_event route who }
 {
     match route {
         Route::Verify(judging) => Some(Event::Verify { who, judging }),
+        Route::Ask(judging) => Some(Event::Ask { who, judging }),
         Route::Apply(rejudging) => Some(Event::Apply { who, rejudging }),
         Route::Cancel(rejudging) => Some(Event::Cancel { who, rejudging }),
         _ => None,
@@ -60,6 +75,7 @@ fn bare_event(route: Route) -> Option<Event>
 {
     match route {
         Route::Judgement(judging) => Some(Event::Show { judging }),
+        Route::Submission(judging) => Some(Event::Owner { judging }),
         Route::Rejudging(rejudging) => Some(Event::Matrix { rejudging }),
         Route::Board => Some(Event::Board),
         Route::Audit => Some(Event::Audit),
@@ -74,10 +90,7 @@ fn event_of(route: Route, body: Body) -> Option<Event>
     match body {
         Body::Empty => bare_event(route),
         Body::Host { hostname } => host_event(route, hostname),
-        Body::Fetch { hostname, max: _ } => match route {
-            Route::FetchWork => Some(Event::Claim { host: hostname }),
-            _ => None,
-        },
+        Body::Fetch { hostname, max } => fetch_event(route, hostname, max),
         Body::Run {
             hostname,
             judging,

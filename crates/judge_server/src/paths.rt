@@ -14,7 +14,9 @@ pub enum Place {
     Renew,
     Down,
     Judgement,
+    Submission,
     Verify,
+    Ask,
     Board,
     Audit,
     Rejudgings,
@@ -23,14 +25,16 @@ pub enum Place {
     Cancel,
 }
 
-static TABLE: [(&str, Place); 13] = [
+static TABLE: [(&str, Place); 15] = [
     ("/judgehosts", Place::Hosts),
     ("/judgehosts/fetch-work", Place::FetchWork),
     ("/judgehosts/add-judging-run", Place::AddRun),
     ("/judgehosts/renew", Place::Renew),
     ("/judgehosts/down", Place::Down),
     ("/judgements/{id}", Place::Judgement),
+    ("/judgements/{id}/submission", Place::Submission),
     ("/judgements/{id}/verify", Place::Verify),
+    ("/judgements/{id}/ask", Place::Ask),
     ("/board", Place::Board),
     ("/audit", Place::Audit),
     ("/rejudgings", Place::Rejudgings),

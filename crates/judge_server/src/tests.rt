@@ -43,13 +43,19 @@ fn shown(alloc: Global, asked: &Asked) -> Result<Text, NoMemory>
 }
 
 /// Method, target and body of requests, and what they ask.
-const ASKED: [(&str, &str, &str, &str); 15] = [
+const ASKED: [(&str, &str, &str, &str); 18] = [
     ("POST", "/judgehosts", "{\"hostname\":\"h1\"}", "host h1"),
     (
         "POST",
         "/judgehosts/fetch-work",
         "{\"hostname\":\"h1\"}",
         "tick claim h1",
+    ),
+    (
+        "POST",
+        "/judgehosts/fetch-work",
+        "{\"hostname\":\"h1\",\"max\":16}",
+        "tick fetch h1 16",
     ),
     (
         "POST",
@@ -78,6 +84,8 @@ const ASKED: [(&str, &str, &str, &str); 15] = [
         "{\"who\":\"eve\"}",
         "@eve verify 12",
     ),
+    ("GET", "/judgements/12/submission", "", "owner 12"),
+    ("POST", "/judgements/12/ask", "{\"who\":\"eve\"}", "@eve ask 12"),
     ("GET", "/board", "", "board"),
     ("GET", "/audit", "", "audit"),
     (

@@ -14,6 +14,8 @@ ghost use Rattle.judge_server.specs.Exchanges.{entered_in};
 pub fn worked_routes()
     ensures host { route_of (codes "/judgehosts") ≡ Some route.Hosts }
     ensures verify { route_of (codes "/judgements/12/verify") ≡ Some (route.Verify 12) }
+    ensures ask { route_of (codes "/judgements/12/ask") ≡ Some (route.Ask 12) }
+    ensures submission { route_of (codes "/judgements/12/submission") ≡ Some (route.Submission 12) }
     ensures largest { route_of (codes "/rejudgings/4294967295") ≡ Some (route.Rejudging 4294967295) }
     ensures too_large { route_of (codes "/rejudgings/4294967296") ≡ None }
     ensures zero { route_of (codes "/judgements/012") ≡ None }
@@ -35,6 +37,10 @@ pub fn worked_events()
         let r : Replies = record { ticked = reply.Ended 2; answer = reply.Nothing; downed = reply.NoMemory } in
         entered_in record { request = record { method = codes "POST"; target = codes "/judgehosts/fetch-work"; close = false; body = body }; moment = 7; replies = r }
         ≡ with_reply (event.Tick 7) (reply.Ended 2) ∷ with_reply (event.Claim (codes "h1")) reply.Nothing ∷ [] }
+    ensures fetch { let body = codes "{\"hostname\":\"h1\",\"max\":2}" in
+        let r : Replies = record { ticked = reply.Ended 0; answer = reply.Nothing; downed = reply.NoMemory } in
+        entered_in record { request = record { method = codes "POST"; target = codes "/judgehosts/fetch-work"; close = false; body = body }; moment = 7; replies = r }
+        ≡ with_reply (event.Tick 7) (reply.Ended 0) ∷ with_reply (event.Fetch (codes "h1") 2) reply.Nothing ∷ [] }
     ensures verify { let r : Replies = record { ticked = reply.NoMemory; answer = reply.Verified 1; downed = reply.NoMemory } in
         entered_in record { request = record { method = codes "POST"; target = codes "/judgements/1/verify"; close = false; body = [] }; moment = 7; replies = r }
         ≡ with_reply (event.Verify jury 1) (reply.Verified 1) ∷ [] }
@@ -67,4 +73,16 @@ pub fn worked_responses()
     ensures bad_body { response_of record { method = codes "POST"; target = codes "/judgehosts"; close = false; body = [] } reply.Nothing
         ≡ codes "HTTP/1.1 400 Bad Request\r\ncontent-length: 45\r\ncontent-type: application/json\r\n\r\n"
         ++ codes "{\"reply\":\"bad-body\",\"why\":\"missing hostname\"}" }
+    ensures batch { response_of record { method = codes "POST"; target = codes "/judgehosts/fetch-work"; close = false; body = codes "{\"hostname\":\"h1\",\"max\":2}" } (reply.Batch 1 (1 ∷ 2 ∷ []) 60)
+        ≡ codes "HTTP/1.1 200 OK\r\ncontent-length: 54\r\ncontent-type: application/json\r\n\r\n"
+        ++ codes "{\"judging\":1,\"reply\":\"batch\",\"tests\":[1,2],\"until\":60}" }
+    ensures bad_max { response_of record { method = codes "POST"; target = codes "/judgehosts/fetch-work"; close = false; body = codes "{\"hostname\":\"h1\",\"max\":17}" } reply.Nothing
+        ≡ codes "HTTP/1.1 400 Bad Request\r\ncontent-length: 36\r\ncontent-type: application/json\r\n\r\n"
+        ++ codes "{\"reply\":\"bad-body\",\"why\":\"bad max\"}" }
+    ensures owner { response_of record { method = codes "GET"; target = codes "/judgements/1/submission"; close = false; body = [] } (reply.Owned 1)
+        ≡ codes "HTTP/1.1 200 OK\r\ncontent-length: 32\r\ncontent-type: application/json\r\n\r\n"
+        ++ codes "{\"reply\":\"owner\",\"submission\":1}" }
+    ensures already { response_of record { method = codes "POST"; target = codes "/judgements/1/ask"; close = false; body = [] } (reply.Already 1)
+        ≡ codes "HTTP/1.1 409 Conflict\r\ncontent-length: 31\r\ncontent-type: application/json\r\n\r\n"
+        ++ codes "{\"judging\":1,\"reply\":\"already\"}" }
 {}

@@ -20,3 +20,7 @@ returns-clause-no_event c = refl
 pub returns-clause-differs : goal.returns-clause-differs
 unfolding rows is_utf8 chars serde_json_on_literals matchit_on_literals
 returns-clause-differs c = refl
+
+pub returns-clause-fetch : goal.returns-clause-fetch
+unfolding rows is_utf8 chars serde_json_on_literals matchit_on_literals
+returns-clause-fetch c = refl

@@ -30,3 +30,19 @@ returns-clause-no_method c = refl
 pub returns-clause-bad_body : goal.returns-clause-bad_body
 unfolding rows reply_response fault_response is_utf8 chars serde_json_on_literals matchit_on_literals digits
 returns-clause-bad_body c = refl
+
+pub returns-clause-batch : goal.returns-clause-batch
+unfolding rows reply_response fault_response is_utf8 chars serde_json_on_literals matchit_on_literals digits
+returns-clause-batch c = refl
+
+pub returns-clause-bad_max : goal.returns-clause-bad_max
+unfolding rows reply_response fault_response is_utf8 chars serde_json_on_literals matchit_on_literals digits
+returns-clause-bad_max c = refl
+
+pub returns-clause-owner : goal.returns-clause-owner
+unfolding rows reply_response fault_response is_utf8 chars serde_json_on_literals matchit_on_literals digits
+returns-clause-owner c = refl
+
+pub returns-clause-already : goal.returns-clause-already
+unfolding rows reply_response fault_response is_utf8 chars serde_json_on_literals matchit_on_literals digits
+returns-clause-already c = refl

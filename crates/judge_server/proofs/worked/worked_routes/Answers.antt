@@ -30,3 +30,11 @@ returns-clause-empty c = refl
 pub returns-clause-slash : goal.returns-clause-slash
 unfolding rows matchit_on_literals
 returns-clause-slash c = refl
+
+pub returns-clause-ask : goal.returns-clause-ask
+unfolding rows matchit_on_literals
+returns-clause-ask c = refl
+
+pub returns-clause-submission : goal.returns-clause-submission
+unfolding rows matchit_on_literals
+returns-clause-submission c = refl
