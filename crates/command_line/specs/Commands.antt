@@ -1,0 +1,62 @@
+-- The grammar of the command line, as `clap` sees it: one command with one level of subcommands.
+use Rattle.std.specs.Prelude.{List, ℕ, Bool, true, false, Some, codes}
+use Rattle.clap.specs.Words.{App, Rule, new_app, new_rule, with_rule, with_subcommand}
+use Rattle.clap.specs.declared.builder.ArgAction.TheVariants.{Set, SetTrue}
+
+-- `--NAME VALUE` or `--NAME=VALUE`
+abbrev pub option : List ℕ → Bool → Rule
+option name required = record (new_rule name) { long = Some name; action = Some Set; required = required }
+
+-- `--NAME`
+abbrev pub flag : List ℕ → Rule
+flag name = record (new_rule name) { long = Some name; action = Some SetTrue }
+
+-- a word, which has to be there
+abbrev pub operand : List ℕ → Rule
+operand name = record (new_rule name) { action = Some Set; required = true }
+
+-- `judge FOLDER --hosts N [--journal]`
+abbrev pub judge : App
+judge =
+    let with_folder = with_rule (new_app (codes "judge")) (operand (codes "folder")) in
+    let with_hosts = with_rule with_folder (option (codes "hosts") true) in
+    with_rule with_hosts (flag (codes "journal"))
+
+-- `script [--config FILE]`
+abbrev pub script : App
+script = with_rule (new_app (codes "script")) (option (codes "config") false)
+
+-- `make NUMBER PROBLEMS SUBMISSIONS`
+abbrev pub make : App
+make =
+    let with_number = with_rule (new_app (codes "make")) (operand (codes "number")) in
+    let with_problems = with_rule with_number (operand (codes "problems")) in
+    with_rule with_problems (operand (codes "submissions"))
+
+-- `serve FOLDER --port P --lanes N --connections M`
+abbrev pub serve : App
+serve =
+    let with_folder = with_rule (new_app (codes "serve")) (operand (codes "folder")) in
+    let with_port = with_rule with_folder (option (codes "port") true) in
+    let with_lanes = with_rule with_port (option (codes "lanes") true) in
+    with_rule with_lanes (option (codes "connections") true)
+
+-- the program without its commands: one has to be named, and there are no words for help or the version
+abbrev pub bare : App
+bare =
+    let new = new_app (codes "farm") in
+    record new {
+      top = record new.top {
+        disable_help_flag = true;
+        disable_help_subcommand = true;
+        disable_version_flag = true;
+        subcommand_required = true;
+      };
+    }
+
+-- and with those that read the folder of a contest
+abbrev pub with_contests : App
+with_contests = with_subcommand (with_subcommand bare judge.top) serve.top
+
+abbrev pub farm : App
+farm = with_subcommand (with_subcommand with_contests script.top) make.top

@@ -1,0 +1,37 @@
+-- How large the numbers of a command line may be.
+use Rattle.std.specs.Prelude.{ℕ, Option, Some, None, nat_le, ◌&&◌, if◌then◌else◌}
+
+-- a number from 1 to this limit
+abbrev pub counted : ℕ → ℕ → Option ℕ
+counted limit n = if nat_le 1 n && nat_le n limit then Some n else None
+
+-- a contest is judged by at most 16 hosts
+abbrev pub host_limit : ℕ
+host_limit = 16
+
+-- a made contest has at most 50 problems and 2,000 submissions
+abbrev pub made_problem_limit : ℕ
+made_problem_limit = 50
+
+abbrev pub made_submission_limit : ℕ
+made_submission_limit = 2000
+
+-- how many problems and submissions a made contest has
+pub record Size : Type 0 where
+  pub problems : ℕ
+  pub submissions : ℕ
+
+abbrev pub size_with : Option ℕ → Option ℕ → Option Size
+size_with (Some problems) (Some submissions) = Some record { problems = problems; submissions = submissions }
+size_with problems submissions = None
+
+-- the greatest port of a machine
+abbrev pub port_limit : ℕ
+port_limit = 65535
+
+-- a server answers at most 16 requests at the same time, and holds at most 100,000 connections
+abbrev pub lane_limit : ℕ
+lane_limit = 16
+
+abbrev pub connection_limit : ℕ
+connection_limit = 100000

@@ -1,0 +1,146 @@
+//! The command that the words say.
+ghost use Rattle.std.specs.Prelude.{◌≡◌, IfOk, map, option_map, string_bytes};
+ghost use Rattle.std.specs.Option.{option_and_then};
+ghost use Rattle.clap.specs.Words.{first_of, found_of, rows_of, subcommand_rows_of};
+ghost use Rattle.farm_model.specs.Numbers.{at_most, number_of};
+ghost use Rattle.command_line.specs.Ranges.{counted};
+ghost use Rattle.command_line.specs.CommandLine.{command_of, command_value, is_said, judge_of, make_of, said_of, script_of, serve_of, size_of, size_value};
+
+use crate::checks::are_plain;
+use crate::host_count::HostCount;
+use crate::made_size::MadeSize;
+use crate::parsing::parse;
+use crate::serving::{Connections, Lanes};
+use crate::words::Command;
+use clap::ArgMatches;
+use command_text::read_number;
+use farm_kinds::NoMemory;
+use std::alloc::Global;
+
+/// Reads the words of the command line. None where they are no command.
+pub fn read_command<'a>(alloc: Global, words: &'a [String]) -> Result<Option<Command<'a>>, NoMemory>
+    ensures { IfOk result (λ said. option_map command_value said ≡ command_of (map string_bytes words.entry.now)) }
+{
+    if !are_plain(words) {
+        return Ok(None);
+    }
+    match parse(alloc, words)? {
+        Some(matches) => Ok(said(&matches)),
+        None => Ok(None),
+    }
+}
+
+/// The command that was found, where its numbers are in range.
+fn said<'a>(matches: &ArgMatches<'a>) -> Option<Command<'a>>
+    ensures { option_map command_value result
+        ≡ option_and_then (λ named. said_of named.0 named.1) (subcommand_rows_of matches.now) }
+{
+    let (name, found) = matches.subcommand()?;
+    said_of(name, found)
+}
+
+/// What was found of the command with this name.
+fn said_of<'a>(name: &str, found: &ArgMatches<'a>) -> Option<Command<'a>>
+    ensures { option_map command_value result ≡ said_of name.now (rows_of (found_of found.now)) }
+{
+    if name == "judge" {
+        return judge(found);
+    }
+    if name == "script" {
+        return Some(script(found));
+    }
+    if name == "make" {
+        return make(found);
+    }
+    if name == "serve" {
+        return serve(found);
+    }
+    None
+}
+
+fn judge<'a>(found: &ArgMatches<'a>) -> Option<Command<'a>>
+    ensures { option_map command_value result ≡ judge_of (rows_of (found_of found.now)) }
+{
+    let folder = text(found, "folder")?;
+    let hosts = HostCount::new(number(found, "hosts")?)?;
+    let journal = is_said(found, "journal");
+    Some(Command::Judge {
+        folder,
+        hosts,
+        journal,
+    })
+}
+
+fn script<'a>(found: &ArgMatches<'a>) -> Command<'a>
+    ensures { Some (command_value result) ≡ script_of (rows_of (found_of found.now)) }
+{
+    Command::Script {
+        config: text(found, "config"),
+    }
+}
+
+fn make<'a>(found: &ArgMatches<'a>) -> Option<Command<'a>>
+    ensures { option_map command_value result ≡ make_of (rows_of (found_of found.now)) }
+{
+    let number = number(found, "number")?;
+    let size = size(found)?;
+    Some(Command::Make { number, size })
+}
+
+/// How many problems and submissions the words ask for.
+fn size(found: &ArgMatches<'_>) -> Option<MadeSize>
+    ensures { option_map size_value result ≡ size_of (rows_of (found_of found.now)) }
+{
+    let problems = number(found, "problems")?;
+    let submissions = number(found, "submissions")?;
+    MadeSize::new(problems, submissions)
+}
+
+fn serve<'a>(found: &ArgMatches<'a>) -> Option<Command<'a>>
+    ensures { option_map command_value result ≡ serve_of (rows_of (found_of found.now)) }
+{
+    let folder = text(found, "folder")?;
+    let port = port(number(found, "port")?)?;
+    let lanes = Lanes::new(number(found, "lanes")?)?;
+    let connections = Connections::new(number(found, "connections")?)?;
+    Some(Command::Serve {
+        folder,
+        port,
+        lanes,
+        connections,
+    })
+}
+
+/// A port of a machine, where the number is one.
+fn port(number: u32) -> Option<u16>
+    ensures { result ≡ at_most 65535 number }
+{
+    if number > 65535 {
+        return None;
+    }
+    Some(number as u16)
+}
+
+/// The number of an operand or an option: digits without a sign or a leading zero.
+fn number(found: &ArgMatches<'_>, name: &str) -> Option<u32>
+    ensures { result ≡ option_and_then number_of (first_of name.now (rows_of (found_of found.now))) }
+{
+    read_number(text(found, name)?.as_bytes())
+}
+
+/// Whether the flag was given.
+fn is_said(found: &ArgMatches<'_>, name: &str) -> bool
+    ensures { result ≡ is_said name.now (rows_of (found_of found.now)) }
+{
+    match text(found, name) {
+        Some(word) => word == "true",
+        None => false,
+    }
+}
+
+/// The text of an operand or an option.
+fn text<'a>(found: &ArgMatches<'a>, name: &str) -> Option<&'a str>
+    ensures { option_map (λ word. word.now) result ≡ first_of name.now (rows_of (found_of found.now)) }
+{
+    found.get_str(name)
+}

@@ -1,0 +1,63 @@
+ghost use Rattle.std.specs.Prelude.{◌≡◌, ◌≤◌};
+ghost use Rattle.std.specs.Option.{option_map};
+ghost use Rattle.command_line.specs.Ranges.{counted};
+
+/// How many requests a server answers at the same time: from 1 to 16.
+#[derive(Clone, Copy, Debug, PartialEq, Eq)]
+pub struct Lanes {
+    count: u16,
+    ghost some: { 1 ≤ count },
+    ghost few: { count ≤ 16 },
+}
+
+impl Lanes {
+    /// So many lanes. None where they are too few or too many.
+    pub fn new(count: u32) -> Option<Lanes>
+        ensures { option_map (λ lanes. lanes.count) result ≡ counted 16 count }
+    {
+        if count < 1 || count > 16 {
+            return None;
+        }
+        Some(Lanes {
+            count: count as u16,
+        })
+    }
+
+    /// The number.
+    pub fn get(self) -> u16
+        ensures value { result ≡ self.count }
+        ensures some { 1 ≤ result }
+        ensures few { result ≤ 16 }
+    {
+        self.count
+    }
+}
+
+/// How many connections a server holds at the same time: from 1 to 100,000.
+#[derive(Clone, Copy, Debug, PartialEq, Eq)]
+pub struct Connections {
+    count: u32,
+    ghost some: { 1 ≤ count },
+    ghost few: { count ≤ 100000 },
+}
+
+impl Connections {
+    /// So many connections. None where they are too few or too many.
+    pub fn new(count: u32) -> Option<Connections>
+        ensures { option_map (λ connections. connections.count) result ≡ counted 100000 count }
+    {
+        if count < 1 || count > 100_000 {
+            return None;
+        }
+        Some(Connections { count })
+    }
+
+    /// The number.
+    pub fn get(self) -> u32
+        ensures value { result ≡ self.count }
+        ensures some { 1 ≤ result }
+        ensures few { result ≤ 100000 }
+    {
+        self.count
+    }
+}

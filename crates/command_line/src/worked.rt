@@ -1,0 +1,86 @@
+ghost use Rattle.std.specs.Prelude.{◌≡◌, [], ◌∷◌, Some, None, codes, true, false};
+ghost use Rattle.farm_model.specs.Words.{words};
+ghost use Rattle.command_line.specs.CommandLine.{command_of, Judge, Script, Make, Serve};
+
+/// `farm judge` at words.
+pub fn worked_judgings()
+    ensures spaced { command_of (words (codes "farm judge c --hosts 1")) ≡ Some (Judge (codes "c") 1 false) }
+    ensures joined { command_of (words (codes "farm judge --hosts=1 c")) ≡ Some (Judge (codes "c") 1 false) }
+    ensures journal { command_of (words (codes "farm judge --journal c --hosts 0")) ≡ Some (Judge (codes "c") 0 true) }
+    ensures most_hosts { command_of (words (codes "farm judge c --hosts 16")) ≡ Some (Judge (codes "c") 16 false) }
+    ensures too_many_hosts { command_of (words (codes "farm judge c --hosts 17")) ≡ None }
+    ensures no_hosts { command_of (words (codes "farm judge c")) ≡ None }
+    ensures no_folder { command_of (words (codes "farm judge --hosts 1")) ≡ None }
+    ensures two_folders { command_of (words (codes "farm judge c d --hosts 1")) ≡ None }
+    ensures twice { command_of (words (codes "farm judge c --hosts 1 --hosts 1")) ≡ None }
+    ensures journal_twice { command_of (words (codes "farm judge c --hosts 1 --journal --journal")) ≡ None }
+    ensures journal_of_a_value { command_of (words (codes "farm judge c --hosts 1 --journal=true")) ≡ None }
+    ensures leading_zero { command_of (words (codes "farm judge c --hosts 01")) ≡ None }
+    ensures sign { command_of (words (codes "farm judge c --hosts +1")) ≡ None }
+    ensures no_value { command_of (words (codes "farm judge c --hosts")) ≡ None }
+    ensures empty_value { command_of (words (codes "farm judge c --hosts=")) ≡ None }
+    ensures value_with_dash { command_of (words (codes "farm judge c --hosts -1")) ≡ None }
+    ensures joined_value_with_dash { command_of (words (codes "farm judge c --hosts=-1")) ≡ None }
+{}
+
+/// `farm script` at words.
+pub fn worked_scripts()
+    ensures plain { command_of (words (codes "farm script")) ≡ Some (Script None) }
+    ensures spaced { command_of (words (codes "farm script --config f")) ≡ Some (Script (Some (codes "f"))) }
+    ensures joined { command_of (words (codes "farm script --config=f")) ≡ Some (Script (Some (codes "f"))) }
+    ensures second_sign { command_of (words (codes "farm script --config=f=g")) ≡ Some (Script (Some (codes "f=g"))) }
+    ensures no_value { command_of (words (codes "farm script --config")) ≡ None }
+    ensures empty_value { command_of (words (codes "farm script --config=")) ≡ None }
+    ensures value_with_dash { command_of (words (codes "farm script --config -f")) ≡ None }
+    ensures joined_value_with_dash { command_of (words (codes "farm script --config=-f")) ≡ None }
+    ensures operand { command_of (words (codes "farm script x")) ≡ None }
+    ensures other_option { command_of (words (codes "farm script --hosts 1")) ≡ None }
+{}
+
+/// `farm make` at words.
+pub fn worked_makings()
+    ensures least { command_of (words (codes "farm make 0 1 3")) ≡ Some (Make 0 (record { problems = 1; submissions = 3 })) }
+    ensures most { command_of (words (codes "farm make 4294967295 50 2000")) ≡ Some (Make 4294967295 (record { problems = 50; submissions = 2000 })) }
+    ensures no_problem { command_of (words (codes "farm make 0 0 3")) ≡ None }
+    ensures too_many_problems { command_of (words (codes "farm make 0 51 3")) ≡ None }
+    ensures no_submission { command_of (words (codes "farm make 0 1 0")) ≡ None }
+    ensures too_many_submissions { command_of (words (codes "farm make 0 1 2001")) ≡ None }
+    ensures too_great { command_of (words (codes "farm make 4294967296 1 3")) ≡ None }
+    ensures two_numbers { command_of (words (codes "farm make 0 1")) ≡ None }
+    ensures four_numbers { command_of (words (codes "farm make 0 1 3 1")) ≡ None }
+{}
+
+/// `farm serve` at words.
+pub fn worked_servings()
+    ensures least { command_of (words (codes "farm serve c --port 0 --lanes 1 --connections 1")) ≡ Some (Serve (codes "c") 0 1 1) }
+    ensures most { command_of (words (codes "farm serve --connections=100000 --lanes=16 --port=65535 c")) ≡ Some (Serve (codes "c") 65535 16 100000) }
+    ensures too_great_port { command_of (words (codes "farm serve c --port 65536 --lanes 1 --connections 1")) ≡ None }
+    ensures no_lane { command_of (words (codes "farm serve c --port 0 --lanes 0 --connections 1")) ≡ None }
+    ensures too_many_lanes { command_of (words (codes "farm serve c --port 0 --lanes 17 --connections 1")) ≡ None }
+    ensures no_connection { command_of (words (codes "farm serve c --port 0 --lanes 1 --connections 0")) ≡ None }
+    ensures too_many_connections { command_of (words (codes "farm serve c --port 0 --lanes 1 --connections 100001")) ≡ None }
+    ensures port_left_out { command_of (words (codes "farm serve c --lanes 1 --connections 1")) ≡ None }
+    ensures lanes_left_out { command_of (words (codes "farm serve c --port 0 --connections 1")) ≡ None }
+    ensures connections_left_out { command_of (words (codes "farm serve c --port 0 --lanes 1")) ≡ None }
+    ensures folder_left_out { command_of (words (codes "farm serve --port 0 --lanes 1 --connections 1")) ≡ None }
+{}
+
+/// Words of which none is a command's, and words that no command takes.
+pub fn worked_words()
+    ensures name_alone { command_of (words (codes "farm")) ≡ None }
+    ensures other_name { command_of (words (codes "x script")) ≡ Some (Script None) }
+    ensures other_command { command_of (words (codes "farm run")) ≡ None }
+    ensures help { command_of (words (codes "farm help")) ≡ None }
+    ensures help_option { command_of (words (codes "farm --help")) ≡ None }
+    ensures short_help { command_of (words (codes "farm -h")) ≡ None }
+    ensures help_of_a_command { command_of (words (codes "farm judge --help")) ≡ None }
+    ensures version { command_of (words (codes "farm --version")) ≡ None }
+    ensures dashes_first { command_of (words (codes "farm -- script")) ≡ None }
+    ensures dashes_last { command_of (words (codes "farm script --")) ≡ None }
+    ensures dash { command_of (words (codes "farm script -")) ≡ None }
+    ensures short_option { command_of (words (codes "farm script -c f")) ≡ None }
+    ensures unknown_option { command_of (words (codes "farm script --c f")) ≡ None }
+    ensures no_word { command_of [] ≡ None }
+    ensures empty_word { command_of (codes "farm" ∷ codes "script" ∷ [] ∷ []) ≡ None }
+    ensures empty_folder { command_of (codes "farm" ∷ codes "judge" ∷ [] ∷ codes "--hosts=1" ∷ []) ≡ None }
+{}
