@@ -188,7 +188,8 @@ pub record IsNextBegun (shows : ℕ → Bool) (rest : List ℕ) (made : List Ent
 
 -- What stands behind the requests that were answered: in the bytes that were taken (`rest`), in those that were put
 -- (`tail`), and in what was entered (`made`).
-abbrev pub EndsOf : (ℕ → Bool) → List Exchange → List ℕ → ℕ → Option (List ℕ) → List ℕ → List Entered → ConnHow → Type 0
+abbrev pub EndsOf : (ℕ → Bool) → List Exchange → List ℕ → ℕ → Option (List ℕ) → List ℕ → List Entered
+    → ConnHow → Type 0
 EndsOf shows xs rest bytes left tail made how.End = (rest ≡ []) × IsAtEnd left × (tail ≡ []) × (made ≡ [])
 EndsOf shows xs rest bytes left tail made how.Closed = IsClosed xs × (tail ≡ []) × (made ≡ [])
 EndsOf shows xs rest bytes left tail made how.Cut = EndsAs ending.Cut rest × IsAtEnd left × (tail ≡ []) × (made ≡ [])

@@ -85,7 +85,12 @@ const ASKED: [(&str, &str, &str, &str); 18] = [
         "@eve verify 12",
     ),
     ("GET", "/judgements/12/submission", "", "owner 12"),
-    ("POST", "/judgements/12/ask", "{\"who\":\"eve\"}", "@eve ask 12"),
+    (
+        "POST",
+        "/judgements/12/ask",
+        "{\"who\":\"eve\"}",
+        "@eve ask 12",
+    ),
     ("GET", "/board", "", "board"),
     ("GET", "/audit", "", "audit"),
     (

@@ -10,5 +10,5 @@ returns-in-Some c =
 pub invariant_of-self : goal.invariant_of-self
 invariant_of-self c =
     let count : length c.fetch.new.self.state.judgings ≡ length c.self.inside.judge.state.judgings =
-        ap (λ j. length j.state.judgings) c.fetch.ensures.state ∙ fetch_counts c.self.inside.judge.state c.in-Some.number c.args.most in
+    ap (λ j. length j.state.judgings) c.fetch.ensures.state ∙ fetch_counts c.self.inside.judge.state c.in-Some.number c.args.most in
     search rules
