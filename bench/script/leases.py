@@ -72,8 +72,8 @@ def grants(program):
         lines = contest(classes)
         before, _ = seconds(program, "granting", lines)
         after, replies = seconds(program, "granted", lines + claims())
-        held = [reply for reply in replies if reply.startswith("task ") and reply.endswith(" until 60")]
-        wanted([len(held)], [HELD], name)
+        tasks = [reply for reply in replies if reply.startswith("task ") and reply.endswith(" until 60")]
+        wanted([len(tasks)], [HELD], name)
         show(f"claims until {HELD:,} leases are held, {name}", after - before, HELD, "a claim")
     before, _ = seconds(program, "granting", contest([""], OF_TEN))
     after, replies = seconds(program, "granted", held())

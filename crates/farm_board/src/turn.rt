@@ -9,20 +9,7 @@ use crate::contents::TrustedContents;
 use crate::rule::{BoardSeat, DrawTicket, FinishTurn, LookForTurn, SharedBoard};
 use crate::trust::Admission;
 use std::sync::Wait;
-use std::{hint, thread};
-
-/// How often a pass that waits looks for its turn before it gives the processor away.
-const LOOKS: u32 = 200;
-
-/// Waits a little before the next look, and counts it. A turn is short, so that at first the processor is kept.
-fn pause(looks: u32) -> u32 {
-    if looks < LOOKS {
-        hint::spin_loop();
-        return looks + 1;
-    }
-    thread::yield_now();
-    looks
-}
+use std::thread;
 
 /// Waits for the turn of the ticket.
 fn await_turn<W: Wait, A: Admission>(
@@ -37,12 +24,11 @@ fn await_turn<W: Wait, A: Admission>(
     ensures table { (seat.new.table_id ≡ seat.old.table_id) × (seat.new.id ≡ seat.old.id) }
     ensures turn { GetsTurn (λ held. held.contents) seat.old.me seat.new.me }
 {
-    let mut looks = 0;
     for _ in rt.forever() {
         if shared.load::<LookForTurn>(seat, 1) == ticket {
             return;
         }
-        looks = pause(looks);
+        thread::yield_now();
     }
     unreachable!()
 }
