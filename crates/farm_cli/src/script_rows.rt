@@ -12,7 +12,7 @@ pub struct Row {
 }
 
 /// The scripts, each with its name.
-pub const SCRIPTS: [Row; 23] = [
+pub const SCRIPTS: [Row; 24] = [
     Row {
         name: "smallest_path",
         settings: b"",
