@@ -16,16 +16,10 @@ import time
 
 sys.dont_write_bytecode = True
 
-from run import path, run  # noqa: E402
+from run import path, run, write  # noqa: E402
 from place import program_and_numbers  # noqa: E402
 
 RUNS = 3
-
-
-def write(name, lines):
-    with open(path(name, ".lines"), "w") as file:
-        file.writelines(line + "\n" for line in lines)
-    return path(name, ".lines")
 
 
 def least(program, source):

@@ -14,18 +14,12 @@ import time
 
 sys.dont_write_bytecode = True
 
-from run import calls, most_memory, path, run  # noqa: E402
+from run import calls, most_memory, path, run, write  # noqa: E402
 from farm_model import Farm  # noqa: E402
 from place import program_and_numbers  # noqa: E402
 
 # The most numbers in a list of a line of at most 4,096 bytes, with up to six digits each.
 IN_A_LINE = 500
-
-
-def write(name, lines):
-    with open(path(name, ".lines"), "w") as file:
-        file.writelines(line + "\n" for line in lines)
-    return path(name, ".lines")
 
 
 def least(program, source, runs=5):

@@ -43,6 +43,13 @@ def path(name, ending):
     return os.path.join(OUT, re.sub(r"\W+", "_", name) + ending)
 
 
+def write(name, lines):
+    """The path of the file in which these lines were written."""
+    with open(path(name, ".lines"), "w") as file:
+        file.writelines(line + "\n" for line in lines)
+    return path(name, ".lines")
+
+
 def make(name, amount):
     with open(path(name, ".lines"), "w") as lines, open(path(name, ".replies"), "w") as replies:
         return write_script(lines, replies, **amount)
