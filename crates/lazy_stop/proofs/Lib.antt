@@ -1,3 +1,4 @@
+pub mod CellLists
 pub mod Firsts
 pub mod Filling
 pub mod Deciding

@@ -1,4 +1,5 @@
 pub mod Matters
+pub mod CellKinds
 pub mod ExtremeKinds
 pub mod RowFacts
 pub mod RowValue

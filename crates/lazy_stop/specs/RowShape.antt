@@ -4,7 +4,7 @@ use Rattle.lazy_stop.specs.RowFacts.{IsRow}
 use Rattle.lazy_stop.specs.declared.row.Row.TheInside.{Inside}
 
 abbrev pub row_value : Inside → RowValue
-row_value a = record { rule = a.rule; cells = a.cells.items }
+row_value a = record { rule = a.rule; cells = a.cells }
 
 abbrev pub IsRowShape : Inside → Type 0
-IsRowShape a = IsRow a.rule a.extremes a.best a.first_empty a.cells.items
+IsRowShape a = IsRow a.rule a.extremes a.best a.first_empty a.cells

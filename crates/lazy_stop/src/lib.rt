@@ -9,6 +9,7 @@
 //! its first empty cell and three kinds of its rule, and answers in constant time.
 #![tactic(auto)]
 
+mod cells;
 mod extremes;
 mod laws;
 mod row;

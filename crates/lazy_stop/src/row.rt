@@ -5,6 +5,7 @@ ghost use Rattle.farm_model.specs.Rows.{answer_of, is_settled, matters};
 ghost use Rattle.lazy_stop.specs.Matters.{IsPossible, Matters};
 ghost use Rattle.lazy_stop.specs.RowFacts.{IsFirstEmpty, BestIs, IsRow};
 
+use crate::cells::Cells;
 use crate::extremes::{Extremes, extremes_of};
 use farm_kinds::{Answer, Kind, Mode, NoMemory, Rule, Verdict};
 use std::alloc::Global;
@@ -27,7 +28,7 @@ pub struct Row {
     extremes: Extremes,
     best: Option<Best>,
     first_empty: usize,
-    cells: Vec<Option<Kind>>,
+    cells: Cells,
 }
 
 impl Model for Row {
@@ -56,7 +57,7 @@ impl Row {
     pub fn new(alloc: Global, rule: Rule, n: u16) -> Result<Row, NoMemory>
         ensures { IfOk result (λ row. row ≡ record { rule = rule; cells = replicate n None }) }
     {
-        let cells = vec![in alloc; None; n as usize].map_err(|_| NoMemory)?;
+        let cells = Cells::new(alloc, n)?;
         let extremes = extremes_of(&rule);
         Ok(Row {
             rule,
@@ -82,10 +83,10 @@ impl Row {
         ensures same_rule { self.new.rule ≡ self.old.rule }
     {
         let at = rank as usize - 1;
-        if let Some(kept) = self.cells[at] {
+        if let Some(kept) = self.cells.get(at) {
             return Put::Kept(kept);
         }
-        self.cells[at] = Some(kind);
+        self.cells.fill(at, kind);
         self.best = Some(best_with(&self.rule, self.best, kind, at));
         self.first_empty = first_empty(&self.cells, self.first_empty);
         Put::First
@@ -97,7 +98,7 @@ impl Row {
         requires high { rank ≤ length self.now.cells }
         ensures { slice_get self.now.cells (rank - 1) ≡ Some result }
     {
-        self.cells[rank as usize - 1]
+        self.cells.get(rank as usize - 1)
     }
 
     /// Whether the result of this test, whose cell is empty, can decide the verdict: two ways to fill
@@ -160,14 +161,14 @@ fn best_with(rule: &Rule, best: Option<Best>, kind: Kind, at: usize) -> Best
 }
 
 /// The place of the first empty cell, at this place or behind it. The row's length where none is.
-fn first_empty(cells: &[Option<Kind>], from: usize) -> usize
+fn first_empty(cells: &Cells, from: usize) -> usize
     requires within { from ≤ length cells.now }
     requires filled { (i : ℕ) → i < from → slice_get cells.now i ≢ Some None }
     ensures { IsFirstEmpty cells.now result }
 {
     let mut at = from;
     while at < cells.len() {
-        if cells[at].is_none() {
+        if cells.get(at).is_none() {
             return at;
         }
         at += 1;

@@ -17,38 +17,38 @@ Answers answer mode row = 0 < length row.cells → answer ≡ answer_of row.rule
 
 pub returns-then-self-len : goal.returns-then-self-len
 returns-then-self-len c =
-    let count : c.len.result ≡ length c.self.inside.cells.items = search rules in
+    let count : c.len.result ≡ length c.self.inside.cells = search rules in
     subst (Answers (Final (Tests c.deciding_kind.result)) c.args.mode) c.self.view_is
-    (λ l. final_when_full _ _ _ _ c.args.mode _ _ c.self.invariant l (c.if-self-len.true ∙ count) (λ v all. c.deciding_kind.ensures _ _ _ v c.self.invariant l (settled_test c.self.inside.rule c.self.inside.cells.items v all)))
+    (λ l. final_when_full _ _ _ _ c.args.mode _ _ c.self.invariant l (c.if-self-len.true ∙ count) (λ v all. c.deciding_kind.ensures _ _ _ v c.self.invariant l (settled_test c.self.inside.rule c.self.inside.cells v all)))
     c.requires
 
 pub returns-in-Full : goal.returns-in-Full
 returns-in-Full c =
-    let count : c.len.result ≡ length c.self.inside.cells.items = search rules in
-    let within : c.self.inside.first_empty ≤ length c.self.inside.cells.items = c.self.invariant.empty_is.within in
-    let e : slice_get c.self.inside.cells.items c.self.inside.first_empty ≡ Some None = c.self.invariant.empty_is.empty (omega arith) in
+    let count : c.len.result ≡ length c.self.inside.cells = search rules in
+    let within : c.self.inside.first_empty ≤ length c.self.inside.cells = c.self.invariant.empty_is.within in
+    let e : slice_get c.self.inside.cells c.self.inside.first_empty ≡ Some None = c.self.invariant.empty_is.empty (omega arith) in
     subst (Answers Pending c.args.mode) c.self.view_is
-    (λ l. pending_when_open c.self.inside.rule c.self.inside.cells.items _ l e ∙ ap (λ m. answer_of c.self.inside.rule m c.self.inside.cells.items) (sym c.in-Full.is))
+    (λ l. pending_when_open c.self.inside.rule c.self.inside.cells _ l e ∙ ap (λ m. answer_of c.self.inside.rule m c.self.inside.cells) (sym c.in-Full.is))
     c.requires
 
 pub returns-then-self-end : goal.returns-then-self-end
 returns-then-self-end c =
-    let count : c.len.result ≡ length c.self.inside.cells.items = search rules in
-    let within : c.self.inside.first_empty ≤ length c.self.inside.cells.items = c.self.invariant.empty_is.within in
-    let e : slice_get c.self.inside.cells.items c.self.inside.first_empty ≡ Some None = c.self.invariant.empty_is.empty (omega arith) in
-    let len : length c.self.inside.cells.items ≡ c.len-2.result = search rules in
-    let m : Matters c.self.inside.rule c.self.inside.cells.items c.self.inside.first_empty = (c.matters_before-end.ensures _ _ _ c.self.invariant len e).0 (lt-ltb _ _ c.if-self-end.true) in
+    let count : c.len.result ≡ length c.self.inside.cells = search rules in
+    let within : c.self.inside.first_empty ≤ length c.self.inside.cells = c.self.invariant.empty_is.within in
+    let e : slice_get c.self.inside.cells c.self.inside.first_empty ≡ Some None = c.self.invariant.empty_is.empty (omega arith) in
+    let len : length c.self.inside.cells ≡ c.len-2.result = search rules in
+    let m : Matters c.self.inside.rule c.self.inside.cells c.self.inside.first_empty = (c.matters_before-end.ensures _ _ _ c.self.invariant len e).0 (lt-ltb _ _ c.if-self-end.true) in
     subst (Answers Pending c.args.mode) c.self.view_is
-    (λ l. pending_when_matters _ _ _ l m ∙ ap (λ m. answer_of c.self.inside.rule m c.self.inside.cells.items) (sym c.in-Lazy.is))
+    (λ l. pending_when_matters _ _ _ l m ∙ ap (λ m. answer_of c.self.inside.rule m c.self.inside.cells) (sym c.in-Lazy.is))
     c.requires
 
 pub returns : goal.returns
 returns c =
-    let count : c.len.result ≡ length c.self.inside.cells.items = search rules in
-    let within : c.self.inside.first_empty ≤ length c.self.inside.cells.items = c.self.invariant.empty_is.within in
-    let e : slice_get c.self.inside.cells.items c.self.inside.first_empty ≡ Some None = c.self.invariant.empty_is.empty (omega arith) in
-    let len : length c.self.inside.cells.items ≡ c.len-2.result = search rules in
+    let count : c.len.result ≡ length c.self.inside.cells = search rules in
+    let within : c.self.inside.first_empty ≤ length c.self.inside.cells = c.self.invariant.empty_is.within in
+    let e : slice_get c.self.inside.cells c.self.inside.first_empty ≡ Some None = c.self.invariant.empty_is.empty (omega arith) in
+    let len : length c.self.inside.cells ≡ c.len-2.result = search rules in
     subst (Answers (Final (Tests c.deciding_kind-2.result)) c.args.mode) c.self.view_is
-    (λ l. final_when_calm _ _ _ _ _ _ c.self.invariant l e (λ m. absurd (omega (arith, ltb-true _ _ ((c.matters_before-end.ensures _ _ _ c.self.invariant len e).1 m), c.if-self-end.false))) (λ v all. c.deciding_kind-2.ensures _ _ _ v c.self.invariant l (settled_test c.self.inside.rule c.self.inside.cells.items v all))
-    ∙ ap (λ m. answer_of c.self.inside.rule m c.self.inside.cells.items) (sym c.in-Lazy.is))
+    (λ l. final_when_calm _ _ _ _ _ _ c.self.invariant l e (λ m. absurd (omega (arith, ltb-true _ _ ((c.matters_before-end.ensures _ _ _ c.self.invariant len e).1 m), c.if-self-end.false))) (λ v all. c.deciding_kind-2.ensures _ _ _ v c.self.invariant l (settled_test c.self.inside.rule c.self.inside.cells v all))
+    ∙ ap (λ m. answer_of c.self.inside.rule m c.self.inside.cells) (sym c.in-Lazy.is))
     c.requires

@@ -10,6 +10,6 @@ pub returns : goal.returns
 returns c = λ rank low.
     let end : ℕ = c.matters_before.result in
     let P : RowValue → Type 0 = λ v. slice_get v.cells (rank - 1) ≡ Some None → matters v.rule v.cells rank ≡ nat_le rank end in
-    let count : length c.self.inside.cells.items ≡ c.len.result = search rules in
+    let count : length c.self.inside.cells ≡ c.len.result = search rules in
     subst P c.self.view_is
-    (λ e. matters_up_to c.self.inside.rule c.self.inside.cells.items rank end low (c.matters_before.ensures _ _ _ c.self.invariant count e))
+    (λ e. matters_up_to c.self.inside.rule c.self.inside.cells rank end low (c.matters_before.ensures _ _ _ c.self.invariant count e))

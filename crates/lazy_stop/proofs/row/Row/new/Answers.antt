@@ -4,5 +4,5 @@ use Rattle.lazy_stop.proofs.row.Row.new.Goals as goal
 
 pub invariant_of-result : goal.invariant_of-result
 invariant_of-result c =
-    let is : c.in_ok-cells.cells.items ≡ replicate c.args.n None = search rules in
+    let is : c.in_ok-cells.cells ≡ replicate c.args.n None = search rules in
     row_empty _ _ c.args.n _ c.extremes_of-extremes.ensures is
