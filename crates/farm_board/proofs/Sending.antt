@@ -4,6 +4,9 @@ use denote.RattleType.{RattleType}
 use denote.Param.Send.{IsSend, IsSync, recorded_send, struct_send, view_send, sendable}
 use denote.Struct.Declared as declared
 use Rattle.std.proofs.Crossing.{crosses}
+use Rattle.std.specs.contracts.alloc.Global as global
+use Rattle.std.specs.contracts.boxed.Box as boxed
+use Rattle.std.specs.contracts.impls.GlobalAllocator.TheImpl as allocator
 use Rattle.std.specs.contracts.option.Option as option
 use Rattle.std.specs.contracts.snapshot.Snapshot as snapshot
 use Rattle.http_server.proofs.log.Log.TheSendSync as log
@@ -55,6 +58,9 @@ contest_send = search (sendable, crosses, judge_send, names_send) depth 60 fits 
 farm_send : IsSend farm.the_row
 farm_send = search (sendable, crosses, contest_send) depth 60 fits 100000
 
+farm_in_box_send : IsSend (boxed.the_field farm.the_row global.the_row allocator.ghosts).row
+farm_in_box_send = search (sendable, crosses, farm_send) depth 60 fits 100000
+
 name_send : IsSend name.the_row
 name_send = search (sendable, crosses) depth 60 fits 100000
 
@@ -84,7 +90,7 @@ journal_send = search (sendable, crosses, history_send) depth 60 fits 100000
 
 inside_send : IsSend inside.the_row
 inside_send = recorded_send _ _ _ (inside.the_type).to_one (struct_send (declared.shape inside.the_type)
-    (farm_send, (search sendable, (search (sendable, crosses) depth 60, (search sendable, (journal_send, tt))))))
+    (farm_in_box_send, (search sendable, (search (sendable, crosses) depth 60, (search sendable, (journal_send, tt))))))
 
 contents_send : IsSend contents.the_row
 contents_send = view_send inside.the_row _ _ _ _ inside_send

@@ -15,7 +15,7 @@ use std::marker::{Model, PhantomData};
 /// What a board keeps: the farm, the numbers of the passes that are out, the last number that was given, and the journal.
 #[derive(Drop)]
 pub struct Contents {
-    farm: Farm,
+    farm: Box<Farm>,
     seats: u16,
     out: Vec<u64>,
     given: u64,
@@ -30,7 +30,7 @@ impl Model for Contents {
     ghost use Rattle.std.specs.Prelude.{◌≤◌};
     ghost use Rattle.std.specs.Vec.{vec_capacity};
 
-    ghost view = { λ a. record { state = a.farm; seats = a.seats; out = a.out.items; given = a.given; journal = a.journal } };
+    ghost view = { λ a. record { state = a.farm.value; seats = a.seats; out = a.out.items; given = a.given; journal = a.journal } };
 
     ghost invariant = { λ a. a.seats ≤ vec_capacity a.out };
 }
@@ -46,6 +46,7 @@ impl Contents {
         requires { 1 ≤ seats }
         ensures { IfOk result (λ contents. contents ≡ opening_board farm seats journal) }
     {
+        let farm = Box::new(alloc, farm).map_err(|_| NoMemory)?;
         let mut out = Vec::with_capacity(alloc, usize::from(seats))?;
         out.push_reserved(0);
         let journal = if journal {
@@ -93,7 +94,7 @@ impl Contents {
         ensures { (result.0 ≡ self.state) × (result.1 ≡ self.journal) }
     {
         let Contents { farm, journal, .. } = self;
-        (farm, journal)
+        (Box::into_inner(farm), journal)
     }
 }
 
