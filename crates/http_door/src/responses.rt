@@ -55,23 +55,20 @@ pub fn write_response<K: Sink>(
     ensures cause { HasCauseWritten (K.faults sink.old) (K.faults sink.new) result }
     ensures beside { K.beside sink.new ≡ K.beside sink.old }
 {
-    match write_head(alloc, &status, body.len()) {
+    match response_bytes(alloc, &status, body) {
         Err(_) => Err(ResponseFault::NoMemory),
-        Ok(head) => put_two(sink, head.as_bytes(), body),
-    }
-}
-
-/// Puts two pieces, one behind the other.
-fn put_two<K: Sink>(sink: &mut K, first: &[u8], second: &[u8]) -> Result<(), ResponseFault>
-    ensures writes { Writes (K.held sink.old) (K.held sink.new) (first.now ++ second.now) result }
-    ensures cause { HasCauseWritten (K.faults sink.old) (K.faults sink.new) result }
-    ensures beside { K.beside sink.new ≡ K.beside sink.old }
-{
-    match sink.put(first) {
-        PutEnd::Failed => Err(ResponseFault::WriteFault),
-        PutEnd::Done => match sink.put(second) {
+        Ok(text) => match sink.put(text.as_slice()) {
             PutEnd::Failed => Err(ResponseFault::WriteFault),
             PutEnd::Done => Ok(()),
         },
     }
+}
+
+/// The bytes of a response. They are put at once: a second piece may wait until the peer has told that the first one came.
+fn response_bytes(alloc: Global, status: &StatusCode, body: &[u8]) -> Result<Vec<u8>, AllocError>
+    ensures { IfOk result (λ text. text.items ≡ response_text status.now body.now) }
+{
+    let mut text = write_head(alloc, status, body.len())?.into_bytes();
+    text.extend_from_slice(body)?;
+    Ok(text)
 }
