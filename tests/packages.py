@@ -13,6 +13,7 @@ import tempfile
 
 sys.dont_write_bytecode = True
 
+from package_rows import ECHO, LARGE, ROWS, TOO_LARGE, files_of  # noqa: E402
 from place import TOP  # noqa: E402
 
 PROGRAM = os.path.join(TOP, "crates", "package_info", "out", "package_info")
@@ -79,6 +80,43 @@ def is_fault(done, said):
     return done.returncode == 1 and not done.stdout and line.count("\n") == 1 and said in line
 
 
+def is_said(done, said):
+    """Whether this fault is told, or a package with this name, these instructions, this check and these tests."""
+    if isinstance(said, str):
+        return is_fault(done, said)
+    name, instructions, check, tests = said
+    lines = done.stdout.decode().splitlines()
+    head = [f"name {name}", f"limits instructions {instructions} pages 16384 output 8388608", f"check {check}"]
+    return done.returncode == 0 and lines[:3] == head and [line.split(" ")[1] for line in lines[3:-1]] == tests.split(" ")
+
+
+def rows(top):
+    """The rows, and files at the limits of their sizes and numbers."""
+    for number, (changes, said) in enumerate(ROWS):
+        folder = os.path.join(top, f"row {number}")
+        write(folder, files_of(changes))
+        yield changes or "no change", said, run(folder)
+    for path, said in TOO_LARGE:
+        folder = os.path.join(top, f"large {path.replace('/', ' ')}")
+        write(folder, {**ECHO, path: "x" * LARGE})
+        yield f"{path} with {LARGE} bytes", said, run(folder)
+    just = os.path.join(top, "just")
+    write(just, {**ECHO, "data/secret/01.in": "x" * (LARGE - 1)})
+    yield "a byte less", ("Echo", 100000, "default", "sample/1 secret/01"), run(just)
+    for count, said in [(8, ("Echo", 100000, "default", " ".join(f"secret/{n}" for n in range(8)))), (9, "too much: 285212672 bytes")]:
+        folder = os.path.join(top, f"{count} heavy tests")
+        write(folder, {name: text for name, text in ECHO.items() if not name.startswith("data/")})
+        for number in range(count):
+            for end in ("in", "ans"):
+                write(folder, {f"data/secret/{number}.{end}": ""})
+                os.truncate(os.path.join(folder, "data", "secret", f"{number}.{end}"), LARGE - 1)
+        yield f"{count} tests of twice 16 MiB", said, run(folder)
+    many = os.path.join(top, "many")
+    write(many, ECHO | {f"data/secret/g/{n}.{end}": "" for n in range(998) for end in ("in", "ans")})
+    names = sorted(f"secret/g/{n}" for n in range(998))
+    yield "1,000 tests", ("Echo", 100000, "default", " ".join(["sample/1", "secret/01", *names])), run(many)
+
+
 def unreadable(folder):
     """A folder of tests that cannot be listed: it leads to itself."""
     write(folder, PLAIN)
@@ -96,6 +134,8 @@ def looks():
             write(folder, {**PLAIN, **changes})
             done = run(folder)
             yield said, is_fault(done, said), done
+        for name, said, done in rows(top):
+            yield name, is_said(done, said), done
         deep = os.path.join(top, "deep")
         write(deep, PLAIN)
         inner = os.path.join(deep, "data", "secret", *["d" * 100] * 30)

@@ -2,7 +2,7 @@
 use crate::script_rows::Row;
 
 /// The scripts, each with its name.
-pub const REJUDGINGS: [Row; 11] = [
+pub const REJUDGINGS: [Row; 14] = [
     Row {
         name: "apply_is_one_change",
         settings: b"",
@@ -330,5 +330,176 @@ pub const REJUDGINGS: [Row; 11] = [
             bad-line\n\
             no-submission 4294967295\n\
             no-submission 0\n",
+    },
+    Row {
+        name: "each_refusal_of_the_jury",
+        settings: b"",
+        input: b"problem A 1\n\
+            submit A\n\
+            submit A\n\
+            submit A\n\
+            record 1 1 correct\n\
+            record 2 1 correct\n\
+            rejudge\n\
+            rejudge 3,9,3\n\
+            rejudge 1,0\n\
+            rejudge 1,3,1\n\
+            rejudge 1,2,1\n\
+            rejudge 1\n\
+            rejudge 1,2,2\n\
+            rejudge 2,1\n\
+            apply 2\n\
+            cancel 0\n\
+            matrix 2\n\
+            apply 1\n\
+            matrix 1\n\
+            verify 9\n\
+            verify 4\n\
+            record 4 1 wrong-answer\n\
+            verify 4\n\
+            verify 4\n\
+            matrix 1\n\
+            board\n\
+            apply 1\n\
+            apply 1\n\
+            cancel 1\n\
+            board\n\
+            host h\n\
+            rejudge 2\n\
+            claim h\n\
+            claim h\n\
+            @ann cancel 2\n\
+            down h\n\
+            result h 5 1 correct\n\
+            verify 5\n\
+            apply 2\n\
+            board\n\
+            matrix 1\n",
+        output: b"problem A version 1\n\
+            submission 1 judging 1\n\
+            submission 2 judging 2\n\
+            submission 3 judging 3\n\
+            counted\n\
+            counted\n\
+            empty-set\n\
+            no-submission 9\n\
+            no-submission 0\n\
+            not-final 3\n\
+            twice 1\n\
+            rejudging 1 judgings 4 to 4\n\
+            twice 2\n\
+            busy 1 1\n\
+            no-rejudging 2\n\
+            no-rejudging 0\n\
+            no-rejudging 2\n\
+            unfinished 4\n\
+            correct pending 1\n\
+            matrix 1\n\
+            no-judging 9\n\
+            not-final 4\n\
+            counted\n\
+            verified 4\n\
+            already 4\n\
+            correct wrong-answer 1\n\
+            matrix 1\n\
+            1 correct\n\
+            2 correct\n\
+            3 pending\n\
+            board 3\n\
+            applied 1\n\
+            closed applied\n\
+            closed applied\n\
+            1 wrong-answer\n\
+            2 correct\n\
+            3 pending\n\
+            board 3\n\
+            host h\n\
+            rejudging 2 judgings 5 to 5\n\
+            task 3 1 until 60\n\
+            task 5 1 until 60\n\
+            cancelled 1\n\
+            ended 1\n\
+            no-host h\n\
+            dropped\n\
+            closed cancelled\n\
+            1 wrong-answer\n\
+            2 correct\n\
+            3 pending\n\
+            board 3\n\
+            correct wrong-answer 1\n\
+            matrix 1\n",
+    },
+    // `sha256sum` computes the digests from the texts `jury problem A 1`, `ann verify 1`, `jury rejudge 1,2` and
+    // `bob replace A 2`.
+    Row {
+        name: "the_log_holds_what_the_jury_did",
+        settings: b"",
+        input: b"audit\n\
+            problem A 1\n\
+            audit\n\
+            problem A 1\n\
+            submit A\n\
+            submit A\n\
+            record 1 1 correct\n\
+            record 2 1 correct\n\
+            @bob apply 1\n\
+            @ann verify 1\n\
+            rejudge 1,2\n\
+            @bob replace A 2\n\
+            rejudge 1\n\
+            audit\n",
+        output: b"audit 0 e3b0c44298fc1c149afbf4c8996fb92427ae41e4649b934ca495991b7852b855\n\
+            problem A version 1\n\
+            audit 1 3e52ab297b4c3536c40d23a0058825ecd07923db2f1024a04330ac85bb4925dd\n\
+            known A\n\
+            submission 1 judging 1\n\
+            submission 2 judging 2\n\
+            counted\n\
+            counted\n\
+            no-rejudging 1\n\
+            verified 1\n\
+            rejudging 1 judgings 3 to 4\n\
+            problem A version 2\n\
+            busy 1 1\n\
+            audit 4 09c482614fb48540bb5a06398a4b062616ff38e5ae075036ec417eb40ee10c9f\n",
+    },
+    Row {
+        name: "the_public_sees_what_is_verified",
+        settings: b"{\"verification_required\": true}",
+        input: b"problem A 1\n\
+            submit A\n\
+            record 1 1 correct\n\
+            show 1\n\
+            board\n\
+            verify 1\n\
+            board\n\
+            rejudge 1\n\
+            record 2 1 wrong-answer\n\
+            board\n\
+            apply 1\n\
+            board\n\
+            show 2\n\
+            matrix 1\n\
+            verify 2\n",
+        output: b"problem A version 1\n\
+            submission 1 judging 1\n\
+            counted\n\
+            final correct\n\
+            1 pending\n\
+            board 1\n\
+            verified 1\n\
+            1 correct\n\
+            board 1\n\
+            rejudging 1 judgings 2 to 2\n\
+            counted\n\
+            1 correct\n\
+            board 1\n\
+            applied 1\n\
+            1 pending\n\
+            board 1\n\
+            final wrong-answer\n\
+            correct wrong-answer 1\n\
+            matrix 1\n\
+            verified 2\n",
     },
 ];

@@ -12,7 +12,7 @@ pub struct Row {
 }
 
 /// The scripts, each with its name.
-pub const SCRIPTS: [Row; 24] = [
+pub const SCRIPTS: [Row; 25] = [
     Row {
         name: "smallest_path",
         settings: b"",
@@ -553,5 +553,43 @@ pub const SCRIPTS: [Row; 24] = [
             no-judging 7\n\
             bad-line\n\
             no-host h9\n",
+    },
+    Row {
+        name: "names_are_found_among_others",
+        settings: b"",
+        input: b"problem A 1\n\
+            problem B 2\n\
+            problem C 3\n\
+            host h1\n\
+            host h2\n\
+            submit C\n\
+            submit D\n\
+            problem B 1\n\
+            replace C 1\n\
+            replace D 1\n\
+            submit C\n\
+            down h2\n\
+            claim h2\n\
+            claim h1\n\
+            host h2\n\
+            host h2\n\
+            claim h2\n",
+        output: b"problem A version 1\n\
+            problem B version 1\n\
+            problem C version 1\n\
+            host h1\n\
+            host h2\n\
+            submission 1 judging 1\n\
+            no-problem D\n\
+            known B\n\
+            problem C version 2\n\
+            no-problem D\n\
+            submission 2 judging 2\n\
+            ended 0\n\
+            no-host h2\n\
+            task 1 1 until 60\n\
+            host h2\n\
+            known h2\n\
+            task 1 2 until 60\n",
     },
 ];

@@ -46,18 +46,28 @@ fn reliable_conn(alloc: Global, bytes: &[u8]) -> Result<ReliableConn, AllocError
     Ok(Connection::new(source, sink))
 }
 
+/// What the connection answers to reads of two bytes and to writes of one, which take turns.
+fn take_and_put<N: Source + Sink>(conn: &mut N) -> ([Taken; 4], [PutEnd; 3]) {
+    let mut room = [0u8; 2];
+    let first = conn.take(&mut room);
+    let x = conn.put(b"x");
+    let second = conn.take(&mut room);
+    let y = conn.put(b"y");
+    let third = conn.take(&mut room);
+    let z = conn.put(b"z");
+    let last = conn.take(&mut room);
+    ([first, second, third, last], [x, y, z])
+}
+
 #[test]
 fn each_side_of_a_connection_fails_by_itself(rt: HostRuntime) -> Result<(), Fail> {
-    let alloc = rt.alloc();
-    let mut conn = memory_conn(alloc, b"abc")?;
-    let mut room = [0u8; 2];
-    assert_eq!(rt; conn.take(&mut room), Taken::Bytes(2));
-    assert_eq!(rt; conn.put(b"x"), PutEnd::Done);
-    assert_eq!(rt; conn.take(&mut room), Taken::Failed);
-    assert_eq!(rt; conn.put(b"y"), PutEnd::Failed);
-    assert_eq!(rt; conn.take(&mut room), Taken::Bytes(1));
-    assert_eq!(rt; conn.put(b"z"), PutEnd::Done);
-    assert_eq!(rt; conn.take(&mut room), Taken::End);
+    let mut conn = memory_conn(rt.alloc(), b"abc")?;
+    let (takes, puts) = take_and_put(&mut conn);
+    assert_eq!(rt;
+        takes,
+        [Taken::Bytes(2), Taken::Failed, Taken::Bytes(1), Taken::End]
+    );
+    assert_eq!(rt; puts, [PutEnd::Done, PutEnd::Failed, PutEnd::Done]);
     assert_eq!(rt; conn.sink.bytes(), b"xz".as_slice());
     Ok(())
 }
@@ -71,46 +81,81 @@ fn first_byte<S: Source>(source: &mut S) -> u8 {
     }
 }
 
-#[test]
-fn connections_come_in_order_and_go_back_as_they_are_given(rt: HostRuntime) -> Result<(), Fail> {
-    let alloc = rt.alloc();
+/// Accepts two connections, and gives them back the other way round, the second one with a byte put on it: what each had
+/// left. Zeros where fewer came.
+fn serve_two(door: &mut ReliableDoor) -> [u8; 2]
+    requires { door.old.accepted ≡ length door.old.back }
+{
+    let Accepted::Conn(mut first) = door.accept() else {
+        return [0, 0];
+    };
+    let Accepted::Conn(mut second) = door.accept() else {
+        door.give_back(first);
+        return [0, 0];
+    };
+    let bytes = [first_byte(&mut first), first_byte(&mut second)];
+    let _ = second.put(b"2");
+    door.give_back(second);
+    door.give_back(first);
+    bytes
+}
+
+/// A door to which two connections come, with a byte each.
+fn door_of_two(alloc: Global) -> Result<ReliableDoor, AllocError>
+    ensures { IfOk result (λ door. (door.accepted ≡ 0) × (length door.back ≡ 0)) }
+{
     let mut coming = Vec::new(alloc);
     coming.push(reliable_conn(alloc, b"a")?)?;
     coming.push(reliable_conn(alloc, b"b")?)?;
-    let mut door = ReliableDoor::new(alloc, coming)?;
-    assert_eq!(rt; door.listen(0), Ok(()));
-    let Accepted::Conn(mut first) = door.accept() else {
-        return Err(Fail::new("no connection"));
-    };
-    let Accepted::Conn(mut second) = door.accept() else {
-        return Err(Fail::new("no connection"));
-    };
-    assert_eq!(rt; first_byte(&mut first), b'a');
-    assert_eq!(rt; first_byte(&mut second), b'b');
+    ReliableDoor::new(alloc, coming)
+}
+
+#[test]
+fn connections_come_in_order_and_go_back_as_they_are_given(rt: HostRuntime) -> Result<(), Fail> {
+    let mut door = door_of_two(rt.alloc())?;
+    assert_eq!(rt; serve_two(&mut door), [b'a', b'b']);
     assert!(rt; matches!(door.accept(), Accepted::End));
-    assert_eq!(rt; second.put(b"2"), PutEnd::Done);
-    door.give_back(second);
-    door.give_back(first);
-    assert_eq!(rt; door.back().len(), 2);
-    assert_eq!(rt; door.back()[0].sink.bytes(), b"2".as_slice());
+    let [second, _] = door.back() else {
+        return Err(Fail::new("not both came back"));
+    };
+    assert_eq!(rt; second.sink.bytes(), b"2".as_slice());
     Ok(())
+}
+
+/// Listens and accepts as often as the door fails, and once more, and gives the connection back: what it had left, and how
+/// often the door had failed.
+fn serve_one(door: &mut MemoryDoor) -> Option<u8>
+    requires { door.old.accepted ≡ length door.old.back }
+{
+    let refused = door.listen(80);
+    let heard = door.listen(80);
+    if (refused, heard) != (Err(DoorErr::Failed), Ok(()))
+        || !matches!(door.accept(), Accepted::Failed)
+    {
+        return None;
+    }
+    let Accepted::Conn(mut conn) = door.accept() else {
+        return None;
+    };
+    let byte = first_byte(&mut conn);
+    door.give_back(conn);
+    Some(byte)
+}
+
+/// A door to which one connection comes, and whose first and third calls fail.
+fn failing_door(alloc: Global) -> Result<MemoryDoor, AllocError>
+    ensures { IfOk result (λ door. (door.accepted ≡ 0) × (length door.back ≡ 0)) }
+{
+    let mut coming = Vec::new(alloc);
+    coming.push(memory_conn(alloc, b"a")?)?;
+    MemoryDoor::new(alloc, coming, [0, 2].to_vec(alloc)?)
 }
 
 #[test]
 fn a_door_fails_at_the_listed_calls_and_loses_no_connection(rt: HostRuntime) -> Result<(), Fail> {
-    let alloc = rt.alloc();
-    let mut coming = Vec::new(alloc);
-    coming.push(memory_conn(alloc, b"a")?)?;
-    let mut door = MemoryDoor::new(alloc, coming, [0, 2].to_vec(alloc)?)?;
-    assert_eq!(rt; door.listen(80), Err(DoorErr::Failed));
-    assert_eq!(rt; door.listen(80), Ok(()));
-    assert!(rt; matches!(door.accept(), Accepted::Failed));
-    let Accepted::Conn(mut conn) = door.accept() else {
-        return Err(Fail::new("no connection"));
-    };
-    assert_eq!(rt; first_byte(&mut conn), b'a');
+    let mut door = failing_door(rt.alloc())?;
+    assert_eq!(rt; serve_one(&mut door), Some(b'a'));
     assert!(rt; matches!(door.accept(), Accepted::End));
-    door.give_back(conn);
     assert_eq!(rt; door.back().len(), 1);
     Ok(())
 }

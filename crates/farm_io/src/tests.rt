@@ -7,6 +7,7 @@ use crate::{
     Sink, Source, Taken, WriteSink,
 };
 use std::alloc::{AllocError, Global};
+use std::process::Abort;
 use std::test::Fail;
 
 /// The lines of some bytes, as the checker computes them.
@@ -56,6 +57,20 @@ fn read_all<S: Source>(alloc: Global, source: &mut S) -> Result<(Vec<u8>, Line),
     Ok((shown, Line::Text))
 }
 
+/// Compares the lines of the source, as `read_all` shows them, and why no more came.
+fn check_lines<S: Source>(
+    rt: &impl Abort,
+    alloc: Global,
+    source: &mut S,
+    want: &[u8],
+    end: Line,
+) -> Result<(), AllocError> {
+    let (shown, stop) = read_all(alloc, source)?;
+    assert_eq!(rt; shown.as_slice(), want);
+    assert_eq!(rt; stop, end);
+    Ok(())
+}
+
 const TEXTS: [(&[u8], &[u8]); 12] = [
     (b"", b""),
     (b"a", b"a|"),
@@ -74,17 +89,11 @@ const TEXTS: [(&[u8], &[u8]); 12] = [
 #[test]
 fn cuts_lines(rt: HostRuntime) -> Result<(), Fail> {
     let alloc = rt.alloc();
-    for (i, (text, want)) in TEXTS.iter().enumerate() {
+    for (text, want) in TEXTS {
         let mut source = ReliableSource::new(text.to_vec(alloc)?);
-        let (shown, stop) = read_all(alloc, &mut source)?;
-        assert_eq!(rt; shown.as_slice(), *want, "text {i}");
-        assert_eq!(rt; stop, Line::End, "text {i}");
-        let mut slow = Slow {
-            inner: ReliableSource::new(text.to_vec(alloc)?),
-        };
-        let (shown, stop) = read_all(alloc, &mut slow)?;
-        assert_eq!(rt; shown.as_slice(), *want, "slow text {i}");
-        assert_eq!(rt; stop, Line::End, "slow text {i}");
+        check_lines(&rt, alloc, &mut source, want, Line::End)?;
+        let inner = ReliableSource::new(text.to_vec(alloc)?);
+        check_lines(&rt, alloc, &mut Slow { inner }, want, Line::End)?;
     }
     Ok(())
 }
@@ -111,9 +120,7 @@ fn skips_long_lines(rt: HostRuntime) -> Result<(), Fail> {
     let alloc = rt.alloc();
     for (count, end, want) in LONG {
         let mut source = ReliableSource::new(letters(alloc, count, end)?);
-        let (shown, stop) = read_all(alloc, &mut source)?;
-        assert_eq!(rt; shown.as_slice(), want, "{count}");
-        assert_eq!(rt; stop, Line::End, "{count}");
+        check_lines(&rt, alloc, &mut source, want, Line::End)?;
     }
     Ok(())
 }
@@ -122,14 +129,10 @@ fn skips_long_lines(rt: HostRuntime) -> Result<(), Fail> {
 fn keeps_lines_within_the_limit(rt: HostRuntime) -> Result<(), Fail> {
     let alloc = rt.alloc();
     for (count, end) in [(4096, b"\n".as_slice()), (4095, b"\r\n".as_slice())] {
-        let mut reader = LineReader::new();
+        let mut want = vec![in alloc; b'a'; count]?;
+        want.extend_from_slice(b"|b|")?;
         let mut source = ReliableSource::new(letters(alloc, count, end)?);
-        assert_eq!(rt; reader.next_line(&mut source), Line::Text);
-        assert_eq!(rt; reader.text(), vec![in alloc; b'a'; count]?.as_slice());
-        assert_eq!(rt; reader.next_line(&mut source), Line::Text);
-        assert_eq!(rt; reader.text(), b"b".as_slice());
-        assert_eq!(rt; reader.next_line(&mut source), Line::End);
-        assert_eq!(rt; reader.text(), b"".as_slice());
+        check_lines(&rt, alloc, &mut source, want.as_slice(), Line::End)?;
     }
     Ok(())
 }
@@ -139,18 +142,20 @@ fn failing(alloc: Global, text: &[u8], calls: &[u64]) -> Result<MemorySource, Al
     Ok(MemorySource::new(text.to_vec(alloc)?, calls.to_vec(alloc)?))
 }
 
+/// Whether a line needed no read, the next one, and how long its text is.
+fn next<S: Source>(reader: &mut LineReader, source: &mut S) -> (bool, Line, usize) {
+    let held = reader.has_line();
+    let line = reader.next_line(source);
+    (held, line, reader.text().len())
+}
+
 #[test]
 fn a_read_that_fails_within_a_line_is_answered_again(rt: HostRuntime) -> Result<(), Fail> {
-    let alloc = rt.alloc();
     let mut reader = LineReader::new();
-    let mut source = failing(alloc, b"a\nb", &[1])?;
-    assert_eq!(rt; reader.has_line(), false);
-    assert_eq!(rt; reader.next_line(&mut source), Line::Text);
-    assert_eq!(rt; reader.text(), b"a".as_slice());
+    let mut source = failing(rt.alloc(), b"a\nb", &[1])?;
+    assert_eq!(rt; next(&mut reader, &mut source), (false, Line::Text, 1));
     for _ in 0..3 {
-        assert_eq!(rt; reader.has_line(), false);
-        assert_eq!(rt; reader.next_line(&mut source), Line::ReadFault);
-        assert_eq!(rt; reader.text(), b"".as_slice());
+        assert_eq!(rt; next(&mut reader, &mut source), (false, Line::ReadFault, 0));
     }
     Ok(())
 }
@@ -168,59 +173,66 @@ fn each_failing_read_ends_the_lines(rt: HostRuntime) -> Result<(), Fail> {
         (3, whole),
     ] {
         let mut source = failing(alloc, text.as_slice(), &[call])?;
-        let (shown, stop) = read_all(alloc, &mut source)?;
-        assert_eq!(rt; shown.as_slice(), want, "call {call}");
-        assert_eq!(rt; stop, Line::ReadFault, "call {call}");
+        check_lines(&rt, alloc, &mut source, want, Line::ReadFault)?;
     }
     Ok(())
 }
 
 #[test]
 fn a_held_line_needs_no_read(rt: HostRuntime) -> Result<(), Fail> {
-    let alloc = rt.alloc();
     let mut reader = LineReader::new();
-    let mut source = failing(alloc, b"a\nb\nc", &[1])?;
-    for held in [true, false] {
-        assert_eq!(rt; reader.next_line(&mut source), Line::Text);
-        assert_eq!(rt; reader.has_line(), held);
-    }
+    let mut source = failing(rt.alloc(), b"a\nb\nc", &[1])?;
+    assert_eq!(rt; next(&mut reader, &mut source), (false, Line::Text, 1));
+    assert_eq!(rt; next(&mut reader, &mut source), (true, Line::Text, 1));
     Ok(())
+}
+
+/// What the sink answers to each of these.
+fn put_each<K: Sink>(sink: &mut K, pieces: [&[u8]; 4]) -> [PutEnd; 4] {
+    let [a, b, c, d] = pieces;
+    [sink.put(a), sink.put(b), sink.put(c), sink.put(d)]
 }
 
 #[test]
 fn a_sink_holds_what_was_put(rt: HostRuntime) -> Result<(), Fail> {
     let alloc = rt.alloc();
     let mut sink = MemorySink::new(Vec::with_capacity(alloc, 4)?, [1].to_vec(alloc)?);
-    let ends = [PutEnd::Done, PutEnd::Failed, PutEnd::Done, PutEnd::Failed];
-    for (piece, end) in [b"ab".as_slice(), b"c", b"de", b"f"].iter().zip(ends) {
-        assert_eq!(rt; sink.put(piece), end);
-    }
+    let ends = put_each(&mut sink, [b"ab", b"c", b"de", b"f"]);
+    assert_eq!(rt;
+        ends,
+        [PutEnd::Done, PutEnd::Failed, PutEnd::Done, PutEnd::Failed]
+    );
     assert_eq!(rt; sink.bytes(), b"abde".as_slice());
-    let mut sink = ReliableSink::new(Vec::with_capacity(alloc, 4)?);
-    for (piece, end) in [
-        (b"ab".as_slice(), PutEnd::Done),
-        (b"cde", PutEnd::Failed),
-        (b"fg", PutEnd::Done),
-    ] {
-        assert_eq!(rt; sink.put(piece), end);
-    }
+    Ok(())
+}
+
+#[test]
+fn a_sink_without_faults_holds_what_has_room(rt: HostRuntime) -> Result<(), Fail> {
+    let mut sink = ReliableSink::new(Vec::with_capacity(rt.alloc(), 4)?);
+    let ends = put_each(&mut sink, [b"ab", b"cde", b"fg", b""]);
+    assert_eq!(rt;
+        ends,
+        [PutEnd::Done, PutEnd::Failed, PutEnd::Done, PutEnd::Done]
+    );
     assert_eq!(rt; sink.bytes(), b"abfg".as_slice());
     Ok(())
 }
 
 #[test]
-fn readers_and_writers_are_streams(rt: HostRuntime) -> Result<(), Fail> {
-    let alloc = rt.alloc();
+fn a_reader_is_a_source(rt: HostRuntime) -> Result<(), Fail> {
     let mut source = ReadSource::new(b"a\nb".as_slice());
-    let (shown, stop) = read_all(alloc, &mut source)?;
-    assert_eq!(rt; shown.as_slice(), b"a|b|".as_slice());
-    assert_eq!(rt; stop, Line::End);
+    check_lines(&rt, rt.alloc(), &mut source, b"a|b|", Line::End)?;
     assert_eq!(rt; source.faults, 0);
-    let mut sink = WriteSink::new(Vec::new(alloc));
-    assert_eq!(rt; sink.put(b"ab"), PutEnd::Done);
-    assert_eq!(rt; sink.put(b""), PutEnd::Done);
-    assert_eq!(rt; sink.put(b"c"), PutEnd::Done);
+    Ok(())
+}
+
+#[test]
+fn a_writer_is_a_sink(rt: HostRuntime) {
+    let mut sink = WriteSink::new(Vec::new(rt.alloc()));
+    assert_eq!(rt;
+        put_each(&mut sink, [b"ab", b"", b"c", b""]),
+        [PutEnd::Done; 4]
+    );
     assert_eq!(rt; sink.writer.as_slice(), b"abc".as_slice());
     assert_eq!(rt; sink.faults, 0);
-    Ok(())
 }
