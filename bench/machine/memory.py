@@ -18,7 +18,9 @@ OUT = os.path.join(HERE, "..", "out")
 RVRUN = os.environ.get("RVRUN", os.path.join(HERE, "..", "..", "crates", "rvrun", "out", "rvrun"))
 FEW, MANY = 20_000, 40_000
 FIRST = 0x100000  # the first page of data
-PAGE, T0, T1, T2, S0, T3, T4 = 4096, 5, 6, 7, 8, 28, 29
+PAGE = 4096
+# Numbers of registers, by the names that the calling convention gives them.
+t0, t1, t2, s0, t3, t4 = 5, 6, 7, 8, 28, 29
 EXIT = [0x00000513, 0x05D00893, 0x00000073]  # li a0, 0; li a7, 93; ecall
 
 
@@ -51,15 +53,15 @@ def load(rd, value):  # li rd, value
 
 def image(data, code):
     behind = FIRST + PAGE * data
-    words = [upper(T2, 1)]
+    words = [upper(t2, 1)]
     if data:
-        words += [*load(T0, FIRST), *load(T1, behind), store(T0, T0, 0), add(T0, T0, T2), unequal(T0, T1, 2)]
+        words += [*load(t0, FIRST), *load(t1, behind), store(t0, t0, 0), add(t0, t0, t2), unequal(t0, t1, 2)]
     if code:
-        words += [*load(T0, behind), *load(T1, behind + PAGE * code), *load(T3, add(S0, S0, T2)), *load(T4, jump(S0)),
-                  store(T3, T0, 0), store(T4, T0, 4), add(T0, T0, T2), unequal(T0, T1, 3)]
+        words += [*load(t0, behind), *load(t1, behind + PAGE * code), *load(t3, add(s0, s0, t2)), *load(t4, jump(s0)),
+                  store(t3, t0, 0), store(t4, t0, 4), add(t0, t0, t2), unequal(t0, t1, 3)]
         for place, word in enumerate(EXIT):
-            words += [*load(T3, word), store(T3, T1, 4 * place)]
-        words += [*load(S0, behind), jump(S0)]
+            words += [*load(t3, word), store(t3, t1, 4 * place)]
+        words += [*load(s0, behind), jump(s0)]
     else:
         words += EXIT
     return b"".join((word & 0xFFFFFFFF).to_bytes(4, "little") for word in words)

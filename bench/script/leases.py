@@ -3,14 +3,18 @@
 
     bench/script/leases.py [PROGRAM]
 
-PROGRAM is the built program, `crates/farm/out/farm` of this repository if none is given. Each figure is the processor's
-time of a script less that of the same script without the lines that are measured, the least of three runs: granting in
+PROGRAM is the built program, `crates/farm/out/farm` of this repository if none is given. Figures of many lines are the
+processor's time of a script less that of the same script without these lines, the least of three runs: granting in
 the order of judgings and of classes that change from one to the next, while time stands still, so that all leases end
-together; renewing a lease of each host, with the 63 others that it holds of the judging; a `down` of one host and of all;
-a `tick` that ends all leases; and a `cancel` of 10,000 members while 60,000 leases are held.
+together, and renewing a lease of each host, with the 63 others that it holds of the judging. Figures of one line are by the
+clock, from when it is written to a pipe until its reply is read from another, less that of `show 1`, whose work is next
+to nothing, the least of three runs: a `down` of one host and the mean of all; a `tick` that ends all leases; and a `cancel` of
+each of 20 rejudgings, of 500 members each, while 60,000 leases are held.
 """
 
+import subprocess
 import sys
+import time
 
 sys.dont_write_bytecode = True
 
@@ -94,32 +98,76 @@ def renewals(program):
     show("renewals, each of a host's 64 leases", after - before, HOSTS, "a line")
 
 
+class Conversation:
+    """A running `farm script` that answers line by line."""
+
+    def __init__(self, program):
+        self.process = subprocess.Popen([program, "script"], stdin=subprocess.PIPE, stdout=subprocess.PIPE)
+
+    def __enter__(self):
+        return self
+
+    def __exit__(self, *_):
+        self.process.stdin.close()
+        if self.process.wait() != 0:
+            sys.exit(f"status {self.process.returncode}")
+
+    def say(self, lines):
+        """The replies to many lines, of which so few are under way that no pipe is ever full."""
+        replies = []
+        for at in range(0, len(lines), 100):
+            some = lines[at:at + 100]
+            self.process.stdin.write("".join(line + "\n" for line in some).encode())
+            self.process.stdin.flush()
+            replies += [self.process.stdout.readline().decode().rstrip("\n") for _ in some]
+        return replies
+
+    def time(self, line):
+        """The reply to a line, and the seconds until it was there."""
+        begin = time.perf_counter()
+        [reply] = self.say([line])
+        return reply, time.perf_counter() - begin
+
+
+def timed(program, before, lines, reply, what):
+    """The seconds of each of these lines behind others, the least of some runs, less those of a line without work."""
+    best = [float("inf")] * len(lines)
+    for _ in range(RUNS):
+        with Conversation(program) as farm:
+            farm.say(before)
+            nothing = min(farm.time("show 1")[1] for _ in range(100))
+            for at, line in enumerate(lines):
+                got, taken = farm.time(line)
+                wanted(got, reply, what)
+                best[at] = min(best[at], taken - nothing)
+    return best
+
+
 def ends(program):
-    before, _ = seconds(program, "held", held())
-    for what, lines, reply, count, each in [
-        ("a `down` of one host", ["down h500"], ["ended 64"], 1, "a host"),
-        ("a `down` of each host", [f"down h{number}" for number in range(HOSTS)], ["ended 64"] * HOSTS, HOSTS, "a host"),
-        (f"a `tick` that ends {HELD:,} leases", ["tick 60"], [f"ended {HELD}"], HELD, "a lease"),
+    for what, lines, reply, each in [
+        ("a `down` of one host", ["down h500"], "ended 64", "a host"),
+        ("a `down` of each host", [f"down h{number}" for number in range(HOSTS)], "ended 64", "a host"),
+        (f"a `tick` that ends {HELD:,} leases", ["tick 60"], f"ended {HELD}", "a line"),
     ]:
-        after, replies = seconds(program, "ended", held() + lines)
-        wanted(replies[-len(lines):], reply, what)
-        show(what, after - before, count, each)
+        taken = timed(program, held(), lines, reply, what)
+        show(what, sum(taken), len(lines), each)
 
 
 def cancels(program):
-    """10,000 submissions are judged anew, and 60,000 tests of others and of these are held when that is cancelled."""
+    """10,000 submissions are judged anew by 500, and 60,000 tests of others and of these are held when that is cancelled."""
     members = 10_000
-    lines = ["problem q 6"] + hosts() + ["submit q"] * members
-    lines += [f"record {number} 1 run-error" for number in range(1, members + 1)]
+    before = ["problem q 6"] + hosts() + ["submit q"] * members
+    before += [f"record {number} 1 run-error" for number in range(1, members + 1)]
     lists = [range(at, min(at + IN_A_LINE, members + 1)) for at in range(1, members + 1, IN_A_LINE)]
-    lines += [f"rejudge {','.join(map(str, numbers))}" for numbers in lists]
-    lines += [f"fetch h{number} 16" for number in range(HOSTS) for _ in range(10)]
-    before, replies = seconds(program, "rejudged", lines)
-    held_now = sum(reply.count(",") + 1 for reply in replies if reply.startswith("batch "))
-    cancel = [f"cancel {number}" for number in range(1, len(lists) + 1)]
-    after, replies = seconds(program, "cancelled", lines + cancel + ["tick 60"])
-    wanted(replies[-1:], ["ended 0"], "cancel")
-    show(f"a cancel of {members:,} members while {held_now:,} leases are held", after - before, members, "a member")
+    before += [f"rejudge {','.join(map(str, numbers))}" for numbers in lists]
+    before += [f"fetch h{number} 16" for number in range(HOSTS) for _ in range(10)]
+    cancels = [f"cancel {number}" for number in range(1, len(lists) + 1)]
+    with Conversation(program) as farm:
+        held_now = sum(reply.count(",") + 1 for reply in farm.say(before) if reply.startswith("batch "))
+        replies = farm.say(cancels + ["tick 60"])
+    wanted(replies[-1], "ended 0", "cancel")
+    taken = timed(program, before, cancels, replies[0], "cancel")
+    show(f"cancels of {members:,} members, {IN_A_LINE} a line, while {held_now:,} leases are held", sum(taken), len(taken), "a line")
 
 
 def main():
