@@ -17,7 +17,7 @@ import tempfile
 sys.dont_write_bytecode = True
 
 from judge import REALISTIC, TABLE, write  # noqa: E402
-from memory import make_refuser  # noqa: E402
+from memory import make_refuser, refuse_each  # noqa: E402
 from place import OUT, program_and_numbers  # noqa: E402
 
 
@@ -34,20 +34,17 @@ def main():
     program, numbers = program_and_numbers(sys.argv[1:])
     hosts = (numbers + [0])[0]
     library = make_refuser()
-    sound, ends = True, {}
     with tempfile.TemporaryDirectory() as folder:
         write(folder, REALISTIC)
         status, table, _, asked = play(program, library, folder, hosts, 0)
-        sound = (status, table) == (0, TABLE)
-        for refused in range(1, asked + 1):
+
+        def end_of(refused):
             status, written, said, _ = play(program, library, folder, hosts, refused)
-            ends[status] = ends.get(status, 0) + 1
             done = status == 0 and written == TABLE and not said
             out = status == 6 and TABLE.startswith(written) and said.count(b"\n") == 1
-            if not done and not out:
-                print(f"  allocation {refused} refused: status {status}, wrote {written!r}, said {said!r}")
-                sound = False
-    print(f"{asked} allocations, each refused in turn: {'as wanted' if sound else 'NOT as wanted'}; ends by status: {ends}")
+            return f"status {status}", None if done or out else (status, written, said)
+
+        sound = (status, table) == (0, TABLE) and refuse_each(asked, end_of)
     return 0 if sound else 1
 
 

@@ -74,6 +74,20 @@ def make_refuser():
     return library
 
 
+def refuse_each(count, end_of):
+    """Whether each of so many allocations can be refused. `end_of` runs with the one of this number refused, and gives the
+    name of the run's end and, where that is not as wanted, what happened."""
+    sound, ends = True, {}
+    for refused in range(1, count + 1):
+        end, fault = end_of(refused)
+        ends[end] = ends.get(end, 0) + 1
+        if fault is not None:
+            print(f"  allocation {refused} refused: {fault}")
+            sound = False
+    print(f"{count} allocations, each refused in turn: {'as wanted' if sound else 'NOT as wanted'}; the ends: {ends}")
+    return sound
+
+
 def play(program, library, lines, refused):
     """The status, what was written, and how many allocations were asked for."""
     asked = os.path.join(OUT, "asked")
@@ -87,16 +101,18 @@ def measure(program, library, name):
     """Whether every run ends as it should."""
     lines = SCRIPTS[name]
     status, replies, asked = play(program, library, lines, 0)
-    sound, prefixes = status == 0, set()
-    for refused in range(1, asked + 1):
+    prefixes = set()
+
+    def end_of(refused):
         status, written, _ = play(program, library, lines, refused)
         prefixes.add(written)
         # A list that is made with room for all that may come is made with less where that was refused.
         done = status == 0 and written == replies
-        if not done and (status != 6 or not replies.startswith(written)):
-            print(f"  {name}: allocation {refused} refused: status {status}, {written!r}")
-            sound = False
-    print(f"{name}: {asked} allocations, each refused in turn: {'status 6 and a prefix of the replies, or all of them' if sound else 'NOT as wanted'}")
+        out = status == 6 and replies.startswith(written)
+        return "done" if done else f"status {status}", None if done or out else (status, written)
+
+    print(f"{name}:")
+    sound = status == 0 and refuse_each(asked, end_of)
     print(f"  {len(prefixes)} different prefixes")
     return sound
 
