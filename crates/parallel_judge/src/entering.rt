@@ -38,7 +38,8 @@ pub(crate) fn enter_contest<W: Wait, R: Trust + Drop, A: Admission>(
     enter_hosts(rt, board, pass, hosts)
 }
 
-fn enter_problems<W: Wait, R: Trust + Drop, A: Admission>(
+/// Enters the problems of a contest, in order.
+pub fn enter_problems<W: Wait, R: Trust + Drop, A: Admission>(
     rt: &W,
     board: &Board<R, A>,
     pass: &mut Pass<A>,
@@ -68,7 +69,8 @@ fn enter_problems<W: Wait, R: Trust + Drop, A: Admission>(
     Ok(())
 }
 
-fn enter_submissions<W: Wait, R: Trust + Drop, A: Admission>(
+/// Enters the submissions of a contest, in order.
+pub fn enter_submissions<W: Wait, R: Trust + Drop, A: Admission>(
     rt: &W,
     board: &Board<R, A>,
     pass: &mut Pass<A>,

@@ -11,5 +11,6 @@ mod noted;
 mod progress;
 mod verdicts;
 
+pub use entering::{enter_problems, enter_submissions};
 pub use judging::{Outcome, judge_all};
 pub use progress::{Progress, Silent};

@@ -1,0 +1,8 @@
+pub mod Numbers
+pub mod Beside
+pub mod Stands
+pub mod Telling
+pub mod Ending
+pub mod Whole
+pub mod Finishing
+mod Sending

@@ -1,0 +1,18 @@
+use Rattle.std.proofs.Common.{Err, sym, ap, subst}
+use Rattle.contest_server.specs.declared.lines.TextFault.TheVariants as fault
+use Rattle.contest_server.specs.Visits.{watch}
+use Rattle.contest_server.specs.Lanes.{starts_of}
+use Rattle.contest_server.specs.Serving.{desk, ServesNext}
+use Rattle.contest_server.proofs.Ending.{no_memory_next}
+use Rattle.contest_server.proofs.serving.serve_next.Goals as goal
+
+pub returns-then-is_err-clause-serves : goal.returns-then-is_err-clause-serves
+returns-then-is_err-clause-serves g c =
+    let w = watch g.D.Conn.Source.left g.D.Conn.Sink.held g.D.Conn.Source.faults g.D.Conn.Sink.faults (g.C.Clock.shows c.args.clock.now) in
+    let board = c.args.board.now.id in
+    let old = desk (g.D.Door.state c.args.door.now) c.args.pass.now (starts_of c.args.lanes.now.items) in
+    let door = g.D.Door.state c.make_room.new.door in
+    let held = g.K.Sink.held c.args.out.now in
+    let held' = g.K.Sink.held c.make_room.new.out in
+    subst (λ starts. ServesNext w board old (desk door c.make_room.new.pass starts) held held' c.args.count (Err fault.NoMemory)) (sym (ap starts_of c.try_reserve.ensures.items))
+    (no_memory_next w board old (desk door c.make_room.new.pass (starts_of c.make_room.new.lanes.items)) held held' c.args.count _ c.in_ok-make_room.ensures.makes)

@@ -1,0 +1,18 @@
+use Rattle.std.proofs.Common.{[], refl, sym, subst, arith, append-nil}
+use Rattle.contest_server.specs.Visits.{watch}
+use Rattle.contest_server.specs.Lanes.{starts_of}
+use Rattle.contest_server.specs.Serving.{desk, Stands}
+use Rattle.contest_server.proofs.serving.take_all.Goals as goal
+
+pub loop-init : goal.loop-init
+loop-init g c =
+    let w = watch g.D.Conn.Source.left g.D.Conn.Sink.held g.D.Conn.Source.faults g.D.Conn.Sink.faults (g.C.Clock.shows c.args.clock.now) in
+    record {
+      stays = record { orderly = c.requires.orderly; seats = refl };
+      count = omega arith;
+      left = omega arith;
+      coming = refl;
+      taken = λ o visits h. ([], refl, subst (λ vs. Stands w o vs (desk (g.D.Door.state c.args.door.now) c.args.pass.now (starts_of c.args.lanes.now.items))) (sym (append-nil visits)) h);
+      lanes = c.requires.lanes;
+      later = omega arith;
+    }

@@ -1,0 +1,87 @@
+-- Connections that are being served, and those that were, with the lines that say so.
+use Rattle.std.specs.Prelude.{◌≡◌, ℕ, ◌+◌, List, [], ◌∷◌, ◌++◌, Bool, Option, Some, codes}
+use Rattle.std.specs.Fmt.{decimal}
+use Rattle.farm_io.specs.Doors.{IsFresh}
+use Rattle.farm_board.specs.Passes.{PassValue}
+use Rattle.judge_server.specs.declared.ends.ConnHow.{ConnHow}
+use Rattle.judge_server.specs.declared.ends.ConnHow.TheVariants as how
+use Rattle.judge_server.specs.Serving.{untaken, IsServed, HasCauseServed, AnswersAll}
+use Rattle.judge_server.specs.PassCalls.{MakesCalls}
+
+-- the bytes that a connection tells, if it tells any
+abbrev pub Telling : Type 0 → Type 0
+Telling N = N → Option (List ℕ)
+
+-- how often a side of a connection has failed
+abbrev pub Counting : Type 0 → Type 0
+Counting N = N → ℕ
+
+-- what is told of connections of one type, and of the clock by which they are served
+pub record Watch (N : Type 0) : Type 0 where
+  -- the bytes that a connection has left, and those that it holds, where it tells them
+  pub left : Telling N
+  pub held : Telling N
+  -- how often reading and writing have failed on it
+  pub reads : Counting N
+  pub writes : Counting N
+  -- the numbers that the clock may show
+  pub shows : ℕ → Bool
+
+abbrev pub watch : {N : Type 0} → Telling N → Telling N → Counting N → Counting N → (ℕ → Bool) → Watch N
+watch left held reads writes shows =
+    record { left = left; held = held; reads = reads; writes = writes; shows = shows }
+
+-- a connection as it came, and the pass that was split off for it
+pub record Start (N : Type 0) : Type 0 where
+  pub came : N
+  pub begun : PassValue
+
+-- a connection as it came, and as it was when it had been served; the pass that served it, as it was split off and as
+-- it was to be taken in; and how it ended
+pub record Visit (N : Type 0) : Type 0 where
+  pub came : N
+  pub back : N
+  pub begun : PassValue
+  pub ended : PassValue
+  pub requests : ℕ
+  pub how : ConnHow
+
+abbrev pub visit : {N : Type 0} → N → N → PassValue → PassValue → ℕ → ConnHow → Visit N
+visit came back begun ended requests how =
+    record { came = came; back = back; begun = begun; ended = ended; requests = requests; how = how }
+
+-- what `serve_conn` says of a connection
+pub record IsAnswered {N : Type 0} (w : Watch N) (v : Visit N) : Type 0 where
+  pub served : IsServed MakesCalls w.shows (untaken v.begun (w.left v.came) (w.held v.came))
+      (untaken v.ended (w.left v.back) (w.held v.back)) v.requests v.how
+  pub cause : HasCauseServed (w.reads v.came) (w.reads v.back) (w.writes v.came) (w.writes v.back) (Some v.how)
+  pub complete : AnswersAll (w.left v.came) (w.reads v.came) (w.reads v.back) (w.writes v.came) (w.writes v.back)
+      v.requests v.how
+
+-- The connection came with nothing put on it and neither side failed. It was answered on a pass that had no entries yet
+pub record IsVisit {N : Type 0} (w : Watch N) (v : Visit N) : Type 0 where
+  pub fresh : IsFresh (w.held v.came) (w.reads v.came) (w.writes v.came)
+  pub unused : v.begun.mine ≡ []
+  pub answered : IsAnswered w v
+
+-- Lines
+
+abbrev pub how_word : ConnHow → List ℕ
+how_word how.End = codes "end"
+how_word how.Closed = codes "closed"
+how_word how.Cut = codes "cut"
+how_word how.BadRequest = codes "bad-request"
+how_word how.ReadFault = codes "read-fault"
+how_word how.WriteFault = codes "write-fault"
+how_word how.InputLimit = codes "input-limit"
+how_word how.NoMemory = codes "memory"
+
+-- `conn I requests R END`
+abbrev pub conn_line : ℕ → ℕ → ConnHow → List ℕ
+conn_line number requests how =
+    codes "conn " ++ (decimal number ++ (codes " requests " ++ (decimal requests ++ 32 ∷ (how_word how ++ 10 ∷ []))))
+
+-- the lines of the connections, from this number on
+abbrev pub conn_lines : {N : Type 0} → ℕ → List (Visit N) → List ℕ
+conn_lines n [] = []
+conn_lines n (v ∷ vs) = conn_line n v.requests v.how ++ conn_lines (n + 1) vs

@@ -1,0 +1,165 @@
+ghost use Rattle.std.specs.Prelude.{◌≡◌, ◌≢◌, ◌+◌, ◌*◌, ◌<◌, [], List};
+ghost use Rattle.std.specs.Bool.{OnTrue, OnFalse};
+ghost use Rattle.farm_kinds.specs.declared.events.Event.{Event as EventValue};
+ghost use Rattle.farm_board.specs.BoardState.{BoardState};
+ghost use Rattle.farm_board.specs.Histories.{IsOpening};
+ghost use Rattle.parallel_judge.specs.Hosts.{HasEntered};
+ghost use Rattle.contest_server.specs.Visits.{watch};
+ghost use Rattle.contest_server.specs.Serving.{desk, share, IsOrderly, ServesLanes, HasCauseEnd};
+ghost use Rattle.contest_server.specs.Served.{HasServed, ShowsBoard};
+
+use crate::ends::ServeEnd;
+use crate::lines::put_text;
+use crate::serving::{end_of, serve_lanes};
+use command_text::push_reply;
+use farm_board::{Admission, Anyone, Board, Pass};
+use farm_io::{Clock, Door, Sink};
+use farm_kinds::{Event, Reply};
+use judge_server::Paths;
+use std::alloc::Global;
+use std::sync::Wait;
+use std::thread;
+use std::thread::Threads;
+
+/// Serves so many connections at the most, each by a worker of its own, and hands the pass back.
+fn serve_in_scope<
+    R: Threads + Wait + Sync,
+    D: Door,
+    K: Sink,
+    A: Admission + Send + Sync,
+    C: Clock + Sync,
+>(
+    rt: &R,
+    alloc: Global,
+    paths: &Paths,
+    board: &Board<Anyone, A>,
+    clock: &C,
+    door: &mut D,
+    out: &mut K,
+    pass: Pass<A>,
+    most: u16,
+    connections: u32,
+) -> (Pass<A>, ServeEnd)
+where
+    D::Conn: Drop,
+    requires orderly { IsOrderly (watch D.Conn.left D.Conn.held D.Conn.Source.faults D.Conn.Sink.faults (C.shows clock.now)) board.now.id (desk (D.state door.old) pass []) }
+    requires some { 0 < most }
+    requires seats { pass.spare ≡ most }
+    requires left { connections * (share + 2) + 2 * most < pass.left }
+    ensures serves { ServesLanes (watch D.Conn.left D.Conn.held D.Conn.Source.faults D.Conn.Sink.faults (C.shows clock.now)) board.now.id (desk (D.state door.old) pass []) (desk (D.state door.new) result.0 []) (K.held out.old) (K.held out.new) connections result.1 }
+    ensures cause { HasCauseEnd (D.faults door.old) (D.faults door.new) (K.faults out.old) (K.faults out.new) result.1 }
+{
+    let (lent_door, lent_out, pass, end) = thread::scope(
+        thread::scope_env(),
+        rt,
+        |scope| -> (&mut D, &mut K, Pass<A>, ServeEnd)
+            requires orderly { IsOrderly (watch D.Conn.left D.Conn.held D.Conn.Source.faults D.Conn.Sink.faults (C.shows clock.now)) board.now.id (desk (D.state door.now) pass []) }
+            requires some { 0 < most }
+            requires seats { pass.spare ≡ most }
+            requires left { connections * (share + 2) + 2 * most < pass.left }
+            ensures { (result.0.ghost_name ≡ door.entry.ghost_name) × (result.1.ghost_name ≡ out.entry.ghost_name)
+                × ServesLanes (watch D.Conn.left D.Conn.held D.Conn.Source.faults D.Conn.Sink.faults (C.shows clock.entry.now)) board.entry.now.id (desk (D.state door.entry.now) pass []) (desk (D.state result.0.now) result.2 []) (K.held out.entry.now) (K.held result.1.now) connections result.3
+                × HasCauseEnd (D.faults door.entry.now) (D.faults result.0.now) (K.faults out.entry.now) (K.faults result.1.now) result.3 }
+        {
+            let mut pass = pass;
+            let end = serve_lanes(
+                rt,
+                alloc,
+                paths,
+                board,
+                clock,
+                scope,
+                door,
+                out,
+                &mut pass,
+                most,
+                connections,
+            );
+            (door, out, pass, end)
+        },
+    );
+    let _ = lent_door;
+    let _ = lent_out;
+    (pass, end)
+}
+
+fn is_done(end: ServeEnd) -> bool
+    ensures done { OnTrue result (end ≡ ServeEnd.Done) }
+    ensures other { OnFalse result (end ≢ ServeEnd.Done) }
+{
+    matches!(end, ServeEnd::Done)
+}
+
+/// Asks for `board`, and writes its text.
+fn show_board<W: Wait, K: Sink, A: Admission>(
+    rt: &W,
+    alloc: Global,
+    board: &Board<Anyone, A>,
+    pass: &mut Pass<A>,
+    out: &mut K,
+) -> ServeEnd
+    requires board { pass.old.board ≡ board.now.id }
+    requires left { 0 < pass.old.left }
+    ensures shows { ShowsBoard pass.old pass.new (K.held out.old) (K.held out.new) (K.faults out.old) (K.faults out.new) result }
+{
+    let reply = board.step(rt, pass, &Event::Board);
+    if matches!(reply, Reply::NoMemory) {
+        return ServeEnd::NoMemory;
+    }
+    let mut text = Vec::new(alloc);
+    if push_reply(&mut text, &reply).is_err() {
+        return ServeEnd::NoMemory;
+    }
+    match put_text(out, text.as_slice()) {
+        Ok(()) => ServeEnd::Done,
+        Err(fault) => end_of(fault),
+    }
+}
+
+/// Serves so many connections at the most on a board that the contest has entered, and writes their lines and behind
+/// them the text of `board`.
+pub(crate) fn serve_board<
+    R: Threads + Wait + Sync,
+    D: Door,
+    K: Sink,
+    A: Admission + Send + Sync,
+    C: Clock + Sync,
+>(
+    rt: &R,
+    alloc: Global,
+    paths: &Paths,
+    board: &Board<Anyone, A>,
+    clock: &C,
+    door: &mut D,
+    out: &mut K,
+    pass: Pass<A>,
+    lanes: u16,
+    connections: u32,
+) -> ServeEnd
+where
+    D::Conn: Drop,
+    requires orderly { IsOrderly (watch D.Conn.left D.Conn.held D.Conn.Source.faults D.Conn.Sink.faults (C.shows clock.now)) board.now.id (desk (D.state door.old) pass []) }
+    requires some { 0 < lanes }
+    requires seats { pass.spare ≡ lanes }
+    requires left { connections * (share + 2) + 4 * lanes < pass.left }
+    ensures served { (start : BoardState) (events : List EventValue) → IsOpening start → HasEntered start events pass
+        → HasServed (watch D.Conn.left D.Conn.held D.Conn.Source.faults D.Conn.Sink.faults (C.shows clock.now)) start events (D.state door.old) (D.state door.new) (K.held out.old) (K.held out.new) connections result }
+    ensures cause { HasCauseEnd (D.faults door.old) (D.faults door.new) (K.faults out.old) (K.faults out.new) result }
+{
+    let (mut pass, end) = serve_in_scope(
+        rt,
+        alloc,
+        paths,
+        board,
+        clock,
+        door,
+        out,
+        pass,
+        lanes,
+        connections,
+    );
+    if is_done(end) {
+        return show_board(rt, alloc, board, &mut pass, out);
+    }
+    end
+}

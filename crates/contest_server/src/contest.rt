@@ -1,0 +1,92 @@
+ghost use Rattle.std.specs.Prelude.{◌≡◌, ◌≤◌, ◌⊎◌, ◌+◌, ◌*◌, ◌^◌, IfOk, true, false};
+ghost use Rattle.farm_io.specs.Streams.{Rose};
+ghost use Rattle.farm_model.specs.State.{start};
+ghost use Rattle.farm_board.specs.Histories.{opening_board};
+ghost use Rattle.parallel_judge.specs.Hosts.{HasEntered};
+ghost use Rattle.contest_server.specs.Contest.{entering_events};
+ghost use Rattle.contest_server.specs.Visits.{watch};
+ghost use Rattle.contest_server.specs.Serving.{HasCauseEnd};
+ghost use Rattle.contest_server.specs.Served.{Serves};
+
+use crate::boards::serve_board;
+use crate::ends::ServeEnd;
+use contest_folder::Roster;
+use farm_board::{Admission, Anyone, Board, Pass};
+use farm_core::Farm;
+use farm_io::{Clock, Door, Sink};
+use farm_kinds::NoMemory;
+use judge_server::Paths;
+use parallel_judge::{enter_problems, enter_submissions};
+use std::alloc::Global;
+use std::marker::Brand;
+use std::sync::Wait;
+use std::thread::Threads;
+
+/// Serves a contest to the connections of a door, `connections` at the most. Each is served by a worker of its own as
+/// soon as it was accepted, or by the caller where none can be started, and at most `lanes` at the same time: then the
+/// one that was accepted first is waited for before the next is accepted. Whoever was waited for is given back to the
+/// door, and its line written; behind the lines stands the text of `board`.
+///
+/// Where the door fails, the connections that were accepted are served and their lines written, but no board. Where a
+/// text can't be written, they are served and given back.
+pub fn serve_contest<R: Threads + Wait + Sync, D: Door, K: Sink, C: Clock + Sync>(
+    rt: &R,
+    alloc: Global,
+    roster: &Roster,
+    lanes: u16,
+    connections: u32,
+    clock: &C,
+    door: &mut D,
+    out: &mut K,
+) -> ServeEnd
+where
+    D::Conn: Drop,
+    requires lanes { (1 ≤ lanes) × (lanes ≤ 16) }
+    requires connections { connections ≤ 100000 }
+    requires door { (D.state door.old).returned ≤ (D.state door.old).accepted }
+    ensures serves { Serves (watch D.Conn.left D.Conn.held D.Conn.Source.faults D.Conn.Sink.faults (C.shows clock.now)) (opening_board (start roster.now.settings) (lanes + 1) false)
+        (entering_events roster.now) (D.state door.old) (D.state door.new) (K.held out.old) (K.held out.new) connections result }
+    ensures cause { HasCauseEnd (D.faults door.old) (D.faults door.new) (K.faults out.old) (K.faults out.new) result }
+    ensures complete { ¬ Rose (D.faults door.old) (D.faults door.new) → ¬ Rose (K.faults out.old) (K.faults out.new)
+        → (result ≡ ServeEnd.Done) ⊎ (result ≡ ServeEnd.NoMemory) }
+{
+    let Ok(paths) = Paths::new(alloc) else {
+        return ServeEnd::NoMemory;
+    };
+    let Ok((board, pass)) = open_board::<R, Brand>(rt, alloc, roster, lanes) else {
+        return ServeEnd::NoMemory;
+    };
+    serve_board(
+        rt,
+        alloc,
+        &paths,
+        &board,
+        clock,
+        door,
+        out,
+        pass,
+        lanes,
+        connections,
+    )
+}
+
+/// A board with a seat for each lane, and its opening pass, by which the contest has entered.
+fn open_board<W: Wait, A: Admission>(
+    rt: &W,
+    alloc: Global,
+    roster: &Roster,
+    lanes: u16,
+) -> Result<(Board<Anyone, A>, Pass<A>), NoMemory>
+    requires named { A.admits ≡ (λ task kind. true) }
+    requires lanes { lanes ≤ 16 }
+    ensures board { IfOk result (λ opened. opened.1.board ≡ opened.0.id) }
+    ensures spare { IfOk result (λ opened. opened.1.spare ≡ lanes) }
+    ensures left { IfOk result (λ opened. 2 ^ 62 ≤ opened.1.left + 2 * 2 ^ 32) }
+    ensures entered { IfOk result (λ opened. HasEntered (opening_board (start roster.now.settings) (lanes + 1) false) (entering_events roster.now) opened.1) }
+{
+    let farm = Farm::new(alloc, roster.settings().copy()?);
+    let (board, mut pass) = Board::<Anyone, A>::new(alloc, farm, Anyone, lanes + 1, false)?;
+    enter_problems(rt, &board, &mut pass, roster)?;
+    enter_submissions(rt, &board, &mut pass, roster)?;
+    Ok((board, pass))
+}

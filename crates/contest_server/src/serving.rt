@@ -1,0 +1,437 @@
+ghost use Rattle.std.specs.Prelude.{◌≡◌, ◌+◌, ◌*◌, ◌<◌, ◌≤◌, Ok, []};
+ghost use Rattle.std.specs.VecDeque.{deque_len, deque_capacity};
+ghost use Rattle.farm_io.specs.Streams.{Rose};
+ghost use Rattle.contest_server.specs.Texts.{HasCauseTold};
+ghost use Rattle.contest_server.specs.Visits.{watch};
+ghost use Rattle.contest_server.specs.Lanes.{starts_of, AreLanes};
+ghost use Rattle.contest_server.specs.Serving.{desk, share, IsOrderly, TakesFirst, TellsFirst, TakesAll, TellsAll, AcceptsNext, MakesRoom, ServesNext, HasCauseNext, end_of, EndsWith, ServesAll, ServesLanes, HasCauseEnd};
+
+use crate::ends::ServeEnd;
+use crate::lanes::{Served, Worker, begin, end};
+use crate::lines::{TextFault, write_line};
+use farm_board::{Admission, Anyone, Board, Pass};
+use farm_io::{Accepted, Clock, Door, Sink};
+use judge_server::{ConnEnd, Paths};
+use std::alloc::Global;
+use std::collections::VecDeque;
+use std::sync::Wait;
+use std::thread::{Scope, Threads};
+
+/// How many calls the pass of a connection may make.
+const SHARE: u64 = 1 << 42;
+
+/// What came of asking the door for a connection.
+#[derive(Clone, Copy, Debug, PartialEq, Eq)]
+pub(crate) enum Coming {
+    /// A connection came, and is being served.
+    Conn,
+    /// No connection is left to come.
+    End,
+    /// The door failed.
+    Failed,
+}
+
+/// Waits for the connection that was accepted first among those that are being served, takes its pass in, and gives it
+/// back.
+fn take_in<R: Threads + Wait, D: Door, A: Admission, C: Clock>(
+    rt: &R,
+    board: &Board<Anyone, A>,
+    clock: &C,
+    door: &mut D,
+    pass: &mut Pass<A>,
+    lanes: &mut VecDeque<Worker<D::Conn, A, C>>,
+) -> ConnEnd
+where
+    D::Conn: Drop,
+    requires orderly { IsOrderly (watch D.Conn.left D.Conn.held D.Conn.Source.faults D.Conn.Sink.faults (C.shows clock.now)) board.now.id (desk (D.state door.old) pass.old (starts_of lanes.old.items)) }
+    requires lanes { AreLanes (watch D.Conn.left D.Conn.held D.Conn.Source.faults D.Conn.Sink.faults (C.shows clock.now)) clock.now lanes.old.items }
+    requires some { 0 < deque_len lanes.old }
+    requires left { 0 < pass.old.left }
+    ensures takes { TakesFirst (watch D.Conn.left D.Conn.held D.Conn.Source.faults D.Conn.Sink.faults (C.shows clock.now)) board.now.id (desk (D.state door.old) pass.old (starts_of lanes.old.items)) (desk (D.state door.new) pass.new (starts_of lanes.new.items)) result }
+    ensures lanes { AreLanes (watch D.Conn.left D.Conn.held D.Conn.Source.faults D.Conn.Sink.faults (C.shows clock.now)) clock.now lanes.new.items }
+    ensures later { D.faults door.old ≤ D.faults door.new }
+{
+    let Some(lane) = lanes.pop_front() else {
+        unreachable!()
+    };
+    let Served {
+        conn,
+        pass: from,
+        end,
+    } = end(rt, clock, lane);
+    board.join(rt, pass, from);
+    door.give_back(conn);
+    end
+}
+
+/// The same, and writes its line, where so many connections came.
+fn tell_next<R: Threads + Wait, D: Door, K: Sink, A: Admission, C: Clock>(
+    rt: &R,
+    alloc: Global,
+    board: &Board<Anyone, A>,
+    clock: &C,
+    door: &mut D,
+    out: &mut K,
+    pass: &mut Pass<A>,
+    lanes: &mut VecDeque<Worker<D::Conn, A, C>>,
+    count: u64,
+) -> Result<(), TextFault>
+where
+    D::Conn: Drop,
+    requires orderly { IsOrderly (watch D.Conn.left D.Conn.held D.Conn.Source.faults D.Conn.Sink.faults (C.shows clock.now)) board.now.id (desk (D.state door.old) pass.old (starts_of lanes.old.items)) }
+    requires lanes { AreLanes (watch D.Conn.left D.Conn.held D.Conn.Source.faults D.Conn.Sink.faults (C.shows clock.now)) clock.now lanes.old.items }
+    requires some { 0 < deque_len lanes.old }
+    requires left { 0 < pass.old.left }
+    requires count { deque_len lanes.old ≤ count }
+    ensures tells { TellsFirst (watch D.Conn.left D.Conn.held D.Conn.Source.faults D.Conn.Sink.faults (C.shows clock.now)) board.now.id (desk (D.state door.old) pass.old (starts_of lanes.old.items)) (desk (D.state door.new) pass.new (starts_of lanes.new.items)) (K.held out.old) (K.held out.new) count result }
+    ensures cause { HasCauseTold (K.faults out.old) (K.faults out.new) result }
+    ensures lanes { AreLanes (watch D.Conn.left D.Conn.held D.Conn.Source.faults D.Conn.Sink.faults (C.shows clock.now)) clock.now lanes.new.items }
+    ensures later { D.faults door.old ≤ D.faults door.new }
+{
+    let end = take_in(rt, board, clock, door, pass, lanes);
+    write_line(alloc, out, count - lanes.len() as u64, end)
+}
+
+/// Takes in all connections that are being served, and writes their lines, where so many connections came.
+fn tell_all<R: Threads + Wait, D: Door, K: Sink, A: Admission, C: Clock>(
+    rt: &R,
+    alloc: Global,
+    board: &Board<Anyone, A>,
+    clock: &C,
+    door: &mut D,
+    out: &mut K,
+    pass: &mut Pass<A>,
+    lanes: &mut VecDeque<Worker<D::Conn, A, C>>,
+    count: u64,
+) -> Result<(), TextFault>
+where
+    D::Conn: Drop,
+    requires orderly { IsOrderly (watch D.Conn.left D.Conn.held D.Conn.Source.faults D.Conn.Sink.faults (C.shows clock.now)) board.now.id (desk (D.state door.old) pass.old (starts_of lanes.old.items)) }
+    requires lanes { AreLanes (watch D.Conn.left D.Conn.held D.Conn.Source.faults D.Conn.Sink.faults (C.shows clock.now)) clock.now lanes.old.items }
+    requires left { deque_len lanes.old ≤ pass.old.left }
+    requires count { deque_len lanes.old ≤ count }
+    ensures tells { TellsAll (watch D.Conn.left D.Conn.held D.Conn.Source.faults D.Conn.Sink.faults (C.shows clock.now)) board.now.id (desk (D.state door.old) pass.old (starts_of lanes.old.items)) (desk (D.state door.new) pass.new (starts_of lanes.new.items)) (K.held out.old) (K.held out.new) count result }
+    ensures cause { HasCauseTold (K.faults out.old) (K.faults out.new) result }
+    ensures lanes { AreLanes (watch D.Conn.left D.Conn.held D.Conn.Source.faults D.Conn.Sink.faults (C.shows clock.now)) clock.now lanes.new.items }
+    ensures later { D.faults door.old ≤ D.faults door.new }
+{
+    for _ in 0..lanes.len() {
+        tell_next(rt, alloc, board, clock, door, out, pass, lanes, count)?;
+    }
+    Ok(())
+}
+
+/// Takes in all connections that are being served, where no line is written any more.
+fn take_all<R: Threads + Wait, D: Door, A: Admission, C: Clock>(
+    rt: &R,
+    board: &Board<Anyone, A>,
+    clock: &C,
+    door: &mut D,
+    pass: &mut Pass<A>,
+    lanes: &mut VecDeque<Worker<D::Conn, A, C>>,
+)
+where
+    D::Conn: Drop,
+    requires orderly { IsOrderly (watch D.Conn.left D.Conn.held D.Conn.Source.faults D.Conn.Sink.faults (C.shows clock.now)) board.now.id (desk (D.state door.old) pass.old (starts_of lanes.old.items)) }
+    requires lanes { AreLanes (watch D.Conn.left D.Conn.held D.Conn.Source.faults D.Conn.Sink.faults (C.shows clock.now)) clock.now lanes.old.items }
+    requires left { deque_len lanes.old ≤ pass.old.left }
+    ensures takes { TakesAll (watch D.Conn.left D.Conn.held D.Conn.Source.faults D.Conn.Sink.faults (C.shows clock.now)) board.now.id (desk (D.state door.old) pass.old (starts_of lanes.old.items)) (desk (D.state door.new) pass.new (starts_of lanes.new.items)) }
+    ensures later { D.faults door.old ≤ D.faults door.new }
+{
+    for _ in 0..lanes.len() {
+        take_in(rt, board, clock, door, pass, lanes);
+    }
+}
+
+/// Asks the door for a connection, and begins to serve it.
+fn accept_next<
+    's,
+    E,
+    R: Threads + Wait + Sync,
+    D: Door,
+    A: Admission + Send + Sync,
+    C: Clock + Sync,
+>(
+    rt: &'s R,
+    alloc: Global,
+    paths: &'s Paths,
+    board: &'s Board<Anyone, A>,
+    clock: &'s C,
+    scope: &Scope<'s, E>,
+    door: &mut D,
+    pass: &mut Pass<A>,
+    lanes: &mut VecDeque<Worker<D::Conn, A, C>>,
+) -> Coming
+where
+    D::Conn: Drop + 's,
+    requires orderly { IsOrderly (watch D.Conn.left D.Conn.held D.Conn.Source.faults D.Conn.Sink.faults (C.shows clock.now)) board.now.id (desk (D.state door.old) pass.old (starts_of lanes.old.items)) }
+    requires lanes { AreLanes (watch D.Conn.left D.Conn.held D.Conn.Source.faults D.Conn.Sink.faults (C.shows clock.now)) clock.now lanes.old.items }
+    requires room { deque_len lanes.old < deque_capacity lanes.old }
+    requires spare { 0 < pass.old.spare }
+    requires left { share < pass.old.left }
+    ensures accepts { AcceptsNext (watch D.Conn.left D.Conn.held D.Conn.Source.faults D.Conn.Sink.faults (C.shows clock.now)) board.now.id (desk (D.state door.old) pass.old (starts_of lanes.old.items)) (desk (D.state door.new) pass.new (starts_of lanes.new.items)) result }
+    ensures lanes { AreLanes (watch D.Conn.left D.Conn.held D.Conn.Source.faults D.Conn.Sink.faults (C.shows clock.now)) clock.now lanes.new.items }
+    ensures later { D.faults door.old ≤ D.faults door.new }
+    ensures failed { result ≡ Coming.Failed → Rose (D.faults door.old) (D.faults door.new) }
+{
+    match door.accept() {
+        Accepted::Conn(conn) => {
+            let own = board.split(rt, pass, SHARE);
+            lanes.push_back_reserved(begin(rt, alloc, paths, board, clock, scope, own, conn));
+            Coming::Conn
+        }
+        Accepted::End => Coming::End,
+        Accepted::Failed => Coming::Failed,
+    }
+}
+
+/// Takes in the connection that was accepted first, and writes its line, where `most` are being served.
+fn make_room<R: Threads + Wait, D: Door, K: Sink, A: Admission, C: Clock>(
+    rt: &R,
+    alloc: Global,
+    board: &Board<Anyone, A>,
+    clock: &C,
+    door: &mut D,
+    out: &mut K,
+    pass: &mut Pass<A>,
+    lanes: &mut VecDeque<Worker<D::Conn, A, C>>,
+    most: u16,
+    count: u64,
+) -> Result<(), TextFault>
+where
+    D::Conn: Drop,
+    requires orderly { IsOrderly (watch D.Conn.left D.Conn.held D.Conn.Source.faults D.Conn.Sink.faults (C.shows clock.now)) board.now.id (desk (D.state door.old) pass.old (starts_of lanes.old.items)) }
+    requires lanes { AreLanes (watch D.Conn.left D.Conn.held D.Conn.Source.faults D.Conn.Sink.faults (C.shows clock.now)) clock.now lanes.old.items }
+    requires some { 0 < most }
+    requires few { deque_len lanes.old ≤ most }
+    requires left { 0 < pass.old.left }
+    requires count { deque_len lanes.old ≤ count }
+    ensures makes { MakesRoom (watch D.Conn.left D.Conn.held D.Conn.Source.faults D.Conn.Sink.faults (C.shows clock.now)) board.now.id (desk (D.state door.old) pass.old (starts_of lanes.old.items)) (desk (D.state door.new) pass.new (starts_of lanes.new.items)) (K.held out.old) (K.held out.new) count result }
+    ensures room { deque_len lanes.new < most }
+    ensures cause { HasCauseTold (K.faults out.old) (K.faults out.new) result }
+    ensures lanes { AreLanes (watch D.Conn.left D.Conn.held D.Conn.Source.faults D.Conn.Sink.faults (C.shows clock.now)) clock.now lanes.new.items }
+    ensures later { D.faults door.old ≤ D.faults door.new }
+{
+    if lanes.len() < usize::from(most) {
+        return Ok(());
+    }
+    tell_next(rt, alloc, board, clock, door, out, pass, lanes, count)
+}
+
+/// Makes room for a connection, and begins to serve the next one, where so many came.
+fn serve_next<
+    's,
+    E,
+    R: Threads + Wait + Sync,
+    D: Door,
+    K: Sink,
+    A: Admission + Send + Sync,
+    C: Clock + Sync,
+>(
+    rt: &'s R,
+    alloc: Global,
+    paths: &'s Paths,
+    board: &'s Board<Anyone, A>,
+    clock: &'s C,
+    scope: &Scope<'s, E>,
+    door: &mut D,
+    out: &mut K,
+    pass: &mut Pass<A>,
+    lanes: &mut VecDeque<Worker<D::Conn, A, C>>,
+    most: u16,
+    count: u64,
+) -> Result<Coming, TextFault>
+where
+    D::Conn: Drop + 's,
+    requires orderly { IsOrderly (watch D.Conn.left D.Conn.held D.Conn.Source.faults D.Conn.Sink.faults (C.shows clock.now)) board.now.id (desk (D.state door.old) pass.old (starts_of lanes.old.items)) }
+    requires lanes { AreLanes (watch D.Conn.left D.Conn.held D.Conn.Source.faults D.Conn.Sink.faults (C.shows clock.now)) clock.now lanes.old.items }
+    requires some { 0 < most }
+    requires seats { pass.old.spare + deque_len lanes.old ≡ most }
+    requires left { share + 1 < pass.old.left }
+    requires count { deque_len lanes.old ≤ count }
+    ensures serves { ServesNext (watch D.Conn.left D.Conn.held D.Conn.Source.faults D.Conn.Sink.faults (C.shows clock.now)) board.now.id (desk (D.state door.old) pass.old (starts_of lanes.old.items)) (desk (D.state door.new) pass.new (starts_of lanes.new.items)) (K.held out.old) (K.held out.new) count result }
+    ensures cause { HasCauseNext (D.faults door.old) (D.faults door.new) (K.faults out.old) (K.faults out.new) result }
+    ensures lanes { AreLanes (watch D.Conn.left D.Conn.held D.Conn.Source.faults D.Conn.Sink.faults (C.shows clock.now)) clock.now lanes.new.items }
+{
+    make_room(rt, alloc, board, clock, door, out, pass, lanes, most, count)?;
+    if lanes.try_reserve(1).is_err() {
+        return Err(TextFault::NoMemory);
+    }
+    Ok(accept_next(rt, alloc, paths, board, clock, scope, door, pass, lanes))
+}
+
+/// Takes in the connections that are being served, and writes their lines; then the serving ends so, unless a line was
+/// not written whole.
+fn end_with<R: Threads + Wait, D: Door, K: Sink, A: Admission, C: Clock>(
+    rt: &R,
+    alloc: Global,
+    board: &Board<Anyone, A>,
+    clock: &C,
+    door: &mut D,
+    out: &mut K,
+    pass: &mut Pass<A>,
+    lanes: &mut VecDeque<Worker<D::Conn, A, C>>,
+    count: u64,
+    end: ServeEnd,
+) -> ServeEnd
+where
+    D::Conn: Drop,
+    requires orderly { IsOrderly (watch D.Conn.left D.Conn.held D.Conn.Source.faults D.Conn.Sink.faults (C.shows clock.now)) board.now.id (desk (D.state door.old) pass.old (starts_of lanes.old.items)) }
+    requires lanes { AreLanes (watch D.Conn.left D.Conn.held D.Conn.Source.faults D.Conn.Sink.faults (C.shows clock.now)) clock.now lanes.old.items }
+    requires left { deque_len lanes.old ≤ pass.old.left }
+    requires count { deque_len lanes.old ≤ count }
+    ensures ends { EndsWith (watch D.Conn.left D.Conn.held D.Conn.Source.faults D.Conn.Sink.faults (C.shows clock.now)) board.now.id (desk (D.state door.old) pass.old (starts_of lanes.old.items)) (desk (D.state door.new) pass.new (starts_of lanes.new.items)) (K.held out.old) (K.held out.new) (K.faults out.old) (K.faults out.new) count end result }
+    ensures lanes { AreLanes (watch D.Conn.left D.Conn.held D.Conn.Source.faults D.Conn.Sink.faults (C.shows clock.now)) clock.now lanes.new.items }
+    ensures later { D.faults door.old ≤ D.faults door.new }
+{
+    match tell_all(rt, alloc, board, clock, door, out, pass, lanes, count) {
+        Ok(()) => end,
+        Err(fault) => end_of(fault),
+    }
+}
+
+/// The end where a text was not written whole.
+pub(crate) fn end_of(fault: TextFault) -> ServeEnd
+    ensures { result ≡ end_of fault }
+{
+    match fault {
+        TextFault::WriteFault => ServeEnd::WriteFault,
+        TextFault::NoMemory => ServeEnd::NoMemory,
+    }
+}
+
+/// Serves so many connections at the most, and writes their lines. Where a line was not written whole, connections may
+/// still be served.
+fn serve_all<
+    's,
+    E,
+    R: Threads + Wait + Sync,
+    D: Door,
+    K: Sink,
+    A: Admission + Send + Sync,
+    C: Clock + Sync,
+>(
+    rt: &'s R,
+    alloc: Global,
+    paths: &'s Paths,
+    board: &'s Board<Anyone, A>,
+    clock: &'s C,
+    scope: &Scope<'s, E>,
+    door: &mut D,
+    out: &mut K,
+    pass: &mut Pass<A>,
+    lanes: &mut VecDeque<Worker<D::Conn, A, C>>,
+    most: u16,
+    connections: u32,
+) -> ServeEnd
+where
+    D::Conn: Drop + 's,
+    requires orderly { IsOrderly (watch D.Conn.left D.Conn.held D.Conn.Source.faults D.Conn.Sink.faults (C.shows clock.now)) board.now.id (desk (D.state door.old) pass.old (starts_of lanes.old.items)) }
+    requires lanes { AreLanes (watch D.Conn.left D.Conn.held D.Conn.Source.faults D.Conn.Sink.faults (C.shows clock.now)) clock.now lanes.old.items }
+    requires some { 0 < most }
+    requires none { deque_len lanes.old ≡ 0 }
+    requires seats { pass.old.spare ≡ most }
+    requires left { connections * (share + 2) + most < pass.old.left }
+    ensures serves { ServesAll (watch D.Conn.left D.Conn.held D.Conn.Source.faults D.Conn.Sink.faults (C.shows clock.now)) board.now.id (desk (D.state door.old) pass.old (starts_of lanes.old.items)) (desk (D.state door.new) pass.new (starts_of lanes.new.items)) (K.held out.old) (K.held out.new) connections result }
+    ensures cause { HasCauseEnd (D.faults door.old) (D.faults door.new) (K.faults out.old) (K.faults out.new) result }
+    ensures lanes { AreLanes (watch D.Conn.left D.Conn.held D.Conn.Source.faults D.Conn.Sink.faults (C.shows clock.now)) clock.now lanes.new.items }
+{
+    for i in 0..connections {
+        match serve_next(
+            rt, alloc, paths, board, clock, scope, door, out, pass, lanes, most, i as u64,
+        ) {
+            Ok(Coming::Conn) => {}
+            Ok(Coming::End) => {
+                return end_with(
+                    rt,
+                    alloc,
+                    board,
+                    clock,
+                    door,
+                    out,
+                    pass,
+                    lanes,
+                    i as u64,
+                    ServeEnd::Done,
+                );
+            }
+            Ok(Coming::Failed) => {
+                return end_with(
+                    rt,
+                    alloc,
+                    board,
+                    clock,
+                    door,
+                    out,
+                    pass,
+                    lanes,
+                    i as u64,
+                    ServeEnd::DoorFault,
+                );
+            }
+            Err(fault) => return end_of(fault),
+        }
+    }
+    end_with(
+        rt,
+        alloc,
+        board,
+        clock,
+        door,
+        out,
+        pass,
+        lanes,
+        connections as u64,
+        ServeEnd::Done,
+    )
+}
+
+/// Serves so many connections at the most, and writes their lines.
+pub(crate) fn serve_lanes<
+    's,
+    E,
+    R: Threads + Wait + Sync,
+    D: Door,
+    K: Sink,
+    A: Admission + Send + Sync,
+    C: Clock + Sync,
+>(
+    rt: &'s R,
+    alloc: Global,
+    paths: &'s Paths,
+    board: &'s Board<Anyone, A>,
+    clock: &'s C,
+    scope: &Scope<'s, E>,
+    door: &mut D,
+    out: &mut K,
+    pass: &mut Pass<A>,
+    most: u16,
+    connections: u32,
+) -> ServeEnd
+where
+    D::Conn: Drop + 's,
+    requires orderly { IsOrderly (watch D.Conn.left D.Conn.held D.Conn.Source.faults D.Conn.Sink.faults (C.shows clock.now)) board.now.id (desk (D.state door.old) pass.old []) }
+    requires some { 0 < most }
+    requires seats { pass.old.spare ≡ most }
+    requires left { connections * (share + 2) + 2 * most < pass.old.left }
+    ensures serves { ServesLanes (watch D.Conn.left D.Conn.held D.Conn.Source.faults D.Conn.Sink.faults (C.shows clock.now)) board.now.id (desk (D.state door.old) pass.old []) (desk (D.state door.new) pass.new []) (K.held out.old) (K.held out.new) connections result }
+    ensures cause { HasCauseEnd (D.faults door.old) (D.faults door.new) (K.faults out.old) (K.faults out.new) result }
+{
+    let mut lanes = VecDeque::new(alloc);
+    let end = serve_all(
+        rt,
+        alloc,
+        paths,
+        board,
+        clock,
+        scope,
+        door,
+        out,
+        pass,
+        &mut lanes,
+        most,
+        connections,
+    );
+    take_all(rt, board, clock, door, pass, &mut lanes);
+    end
+}
