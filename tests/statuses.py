@@ -54,7 +54,8 @@ def looks(program, folder):
 
     yield "0: done", fault_of(ended(program, script, text=LINES), 0, REPLIES, [])
     yield "0: with settings", fault_of(ended(program, script + ["--config", path("good.json")], text=LINES), 0, REPLIES, [])
-    for words in [[], ["scripts"], ["script", "more"], ["script", "--config"], ["script", "--config", ""], ["--help"]]:
+    serve = ["serve", "c", "--port", "0", "--lanes", "17", "--connections", "1"]
+    for words in [[], ["scripts"], ["script", "more"], ["script", "--config"], ["script", "--config", ""], ["--help"], serve]:
         yield f"2: words {words}", fault_of(ended(program, words), 2, b"", [b"usage"])
     yield "3: no file", fault_of(
         ended(program, script + ["--config", path("none")], text=LINES), 3, b"bad contest: no config\n", [path("none").encode()])

@@ -1,8 +1,11 @@
 //! `farm`: the judging back end of a programming contest.
 #![tactic(auto)]
 
-use farm_cli::{Command, Exit, farm_main, read_command};
-use farm_io::{ReadSource, WriteSink};
+ghost use Rattle.std.specs.Prelude.{◌≡◌, None, refl};
+
+use command_line::{Command, read_command};
+use farm_cli::{Exit, farm_main};
+use farm_io::{Accepted, Door, DoorErr, ReadSource, SystemClock, TcpConn, TcpDoor, WriteSink};
 use farm_kinds::Task;
 use farm_tree::DiskTree;
 use judgehost::AlwaysOn;
@@ -24,6 +27,7 @@ const PAUSE_MILLISECONDS: u64 = 100;
 const USAGE: &str = "usage: farm judge FOLDER --hosts N [--journal]
        farm script [--config FILE] < LINES
        farm make NUMBER PROBLEMS SUBMISSIONS
+       farm serve FOLDER --port P --lanes N --connections M
 
 judge reads the contest in FOLDER (problems/NAME/ for each package,
 submissions.txt, submissions/, farm.json), runs its submissions on N hosts at
@@ -63,8 +67,15 @@ make makes a contest of NUMBER (0 to 4294967295) with 1 to 50 PROBLEMS and 1 to
 2000 SUBMISSIONS, runs it on two hosts, and writes how many submissions have
 each verdict, and the SHA-256 digest of the table that judge would write.
 
+serve reads the contest in FOLDER, listens at port P of this machine (0 is any
+port that is free) and says on standard error at which, and answers judgehosts
+and the jury by HTTP: up to N connections at the same time, 1 to 16, and up to M
+in all, 1 to 100000. It writes a line conn I requests R END for each of them when
+it ended, and then the board. A connection that says nothing holds its place for
+good: put a proxy that has time-outs before it.
+
 Status: 0 done, 2 usage, 3 bad settings or contest, 4 read fault, 5 write
-fault, 6 no memory, 7 file fault, 9 input limit.
+fault, 6 no memory, 7 file fault, 8 port or connection fault, 9 input limit.
 ";
 
 fn main(rt: HostRuntime) -> ExitCode {
@@ -156,6 +167,65 @@ impl Progress for Shown<'_> {
     }
 }
 
+/// The sockets of the machine as a door that says on standard error at which port it listens.
+#[derive(Drop)]
+struct Announced<'a> {
+    rt: &'a HostRuntime,
+    door: TcpDoor<&'a HostRuntime>,
+}
+
+impl<'a> Announced<'a> {
+    fn new(rt: &'a HostRuntime) -> Announced<'a>
+        ensures { (result.door.accepted ≡ 0) × (result.door.returned ≡ 0) }
+    {
+        Announced {
+            rt,
+            door: TcpDoor::new(rt),
+        }
+    }
+
+    /// Says at which port the door listens. Where standard error cannot be written, nobody can be told.
+    fn announce(&self) {
+        if let Some(listener) = &self.door.listener
+            && let Ok(address) = listener.local_addr()
+        {
+            let port = address.port();
+            let _ = eprintln!(self.rt; "farm: listening at port {port}");
+        }
+    }
+}
+
+impl Door for Announced<'_> {
+    type Conn = TcpConn;
+
+    ghost state = { λ d. record { coming = None; back = None; accepted = d.door.accepted; returned = d.door.returned } };
+
+    ghost faults = { λ d. d.door.faults };
+
+    fn listen(&mut self, port: u16) -> Result<(), DoorErr> {
+        let heard = self.door.listen(port);
+        if heard.is_ok() {
+            self.announce();
+        }
+        heard
+    }
+
+    fn accept(&mut self) -> Accepted<TcpConn> {
+        let accepted = self.door.accept();
+        if let Accepted::Conn(conn) = &accepted {
+            // A response then never waits for word that the one before it has come.
+            let _ = conn.stream.set_nodelay(true);
+        }
+        accepted
+    }
+
+    fn give_back(&mut self, conn: TcpConn) {
+        self.door.give_back(conn);
+    }
+
+    ghost sides = { λ _. (refl, refl) };
+}
+
 /// The words of the command line. An error where no memory was left for them, or one is no UTF-8.
 fn read_words(rt: &HostRuntime) -> io::Result<Vec<String>> {
     let words = env::args(&(OwnName { rt }, rt.alloc()))?;
@@ -177,6 +247,8 @@ fn run(rt: &HostRuntime, threads: &(impl Threads + Wait + Sync), words: &[String
         &mut tree,
         &mut input,
         &mut out,
+        &SystemClock::new(rt),
+        &mut Announced::new(rt),
         &AlwaysOn,
         &mut progress,
     );
@@ -187,11 +259,13 @@ fn run(rt: &HostRuntime, threads: &(impl Threads + Wait + Sync), words: &[String
 /// Says on standard error why the command is not done, and what can be done about it.
 fn explain(rt: &HostRuntime, exit: Exit, words: &[String]) {
     // Where standard error cannot be written, nobody can be told.
-    let _ = match read_command(words) {
-        Some(Command::Judge { folder, .. }) => explain_judging(rt, exit, folder),
-        Some(Command::Script { config }) => explain_script(rt, exit, config.unwrap_or("")),
-        Some(Command::Make { .. }) => explain_making(rt, exit),
-        None => explain_words(rt, exit),
+    let _ = match read_command(rt.alloc(), words) {
+        Ok(Some(Command::Judge { folder, .. })) => explain_judging(rt, exit, folder),
+        Ok(Some(Command::Script { config })) => explain_script(rt, exit, config.unwrap_or("")),
+        Ok(Some(Command::Make { .. })) => explain_making(rt, exit),
+        Ok(Some(Command::Serve { folder, port, .. })) => { explain_serving(rt, exit, folder, port) }
+        Ok(None) => explain_words(rt, exit),
+        Err(_) => explain_unread(rt, exit),
     };
 }
 
@@ -199,6 +273,15 @@ fn explain_words(rt: &HostRuntime, exit: Exit) -> io::Result<()> {
     match exit {
         Exit::Memory => rt.eprintln("farm: out of memory. Run it again with more memory"),
         _ => rt.eprint(USAGE),
+    }
+}
+
+/// Where no memory was left to read the words a second time.
+fn explain_unread(rt: &HostRuntime, exit: Exit) -> io::Result<()> {
+    match exit {
+        Exit::Done => Ok(()),
+        Exit::Usage | Exit::Memory => explain_words(rt, exit),
+        _ => rt.eprintln("farm: out of memory to say why; the exit status tells it"),
     }
 }
 
@@ -215,6 +298,27 @@ fn explain_judging(rt: &HostRuntime, exit: Exit, folder: &str) -> io::Result<()>
         ),
         Exit::TreeFault => eprintln!(rt;
             "farm: a file or folder of {folder} could not be read: check their permissions; nothing was judged"
+        ),
+        _ => Ok(()),
+    }
+}
+
+fn explain_serving(rt: &HostRuntime, exit: Exit, folder: &str, port: u16) -> io::Result<()> {
+    match exit {
+        Exit::BadContest => eprintln!(rt;
+            "farm: {folder} is no contest, for the reason on standard output; nobody was served"
+        ),
+        Exit::WriteFault => rt.eprintln(
+            "farm: standard output could not be written (is the disk full, or its reader gone?); who was connected was served to the end",
+        ),
+        Exit::Memory => rt.eprintln(
+            "farm: out of memory; who was connected was served to the end. Run it again with more memory, or with fewer lanes",
+        ),
+        Exit::TreeFault => eprintln!(rt;
+            "farm: a file or folder of {folder} could not be read: check their permissions; nobody was served"
+        ),
+        Exit::DoorFault => eprintln!(rt;
+            "farm: no connection can be had at port {port}: it is taken, may not be used, or the system has none left; who was connected was served to the end"
         ),
         _ => Ok(()),
     }
@@ -252,7 +356,7 @@ fn explain_script(rt: &HostRuntime, exit: Exit, file: &str) -> io::Result<()> {
         Exit::InputLimit => rt.eprintln(
             "farm: standard input has more than 2^40 bytes, of which no more is read; all complete lines before that were answered",
         ),
-        Exit::Done | Exit::Usage => Ok(()),
+        Exit::Done | Exit::Usage | Exit::DoorFault => Ok(()),
     }
 }
 

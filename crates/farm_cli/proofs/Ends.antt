@@ -9,9 +9,9 @@ use Rattle.farm_laws.proofs.Outputs.{state_behind, output_from-append}
 use Rattle.script_session.specs.Session.{SessionState, Answers, AllAnswered, LinesAnswered, PrefixAnswered}
 use Rattle.farm_cli.specs.declared.config.BadConfig.{BadConfig}
 use Rattle.farm_cli.specs.declared.exit.Exit.{Exit}
-use Rattle.farm_cli.specs.CommandLine.{CommandValue}
+use Rattle.command_line.specs.CommandLine.{CommandValue, Script}
 use Rattle.farm_cli.specs.Config.{ConfigIs}
-use Rattle.farm_cli.specs.Scripted.{Streams, Answered, AllDone, LinesDone, PrefixDone, NoSettingsEnds, ScriptEnds, HasSettings}
+use Rattle.farm_cli.specs.Scripted.{Streams, Answered, AllDone, LinesDone, PrefixDone, NoSettingsEnds, ScriptEnds, HasSettings, ScriptIsDone, CommandIsDone}
 
 -- a session with this farm over these streams
 abbrev pub session : State → Streams → SessionState
@@ -66,6 +66,14 @@ refused_ends files config path old new unread unwritten e is untouched ends =
     subst (λ (o : Option (Bor (List ℕ))). ScriptEnds files (option_map (λ p. p.now) o) old new unread unwritten e) (sym is) (inr (untouched, ends))
 
 -- Commands
+
+-- T, S, K and D: the tree, the input, the output and the door have failed
+pub script_complete : (files : Option (List TreeFile)) (config : Option (List ℕ)) (command : Option CommandValue) (left : Option (List ℕ)) (T S K D : Type 0) (e : Exit)
+    → Some (Script config) ≡ command → ScriptIsDone files config left (¬ T × ¬ S × ¬ K) e → IfSome command (λ command. CommandIsDone files command left (¬ T × ¬ S × ¬ K × ¬ D) e)
+unfolding ScriptIsDone
+script_complete files config command left T S K D e is done =
+    subst (λ (o : Option CommandValue). IfSome o (λ command. CommandIsDone files command left (¬ T × ¬ S × ¬ K × ¬ D) e)) is
+    (λ has short faultless. done has short (faultless.0, faultless.1, faultless.2))
 
 pub if_asked : (o : Option CommandValue) (P : CommandValue → Type 0) (command : CommandValue) → Some command ≡ o → P command → IfSome o P
 if_asked o P command e p = subst (λ (x : Option CommandValue). IfSome x P) e p

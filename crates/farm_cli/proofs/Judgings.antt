@@ -7,17 +7,17 @@ use Rattle.contest_folder.specs.Contest.{contest_of}
 use Rattle.contest_folder.specs.Telling.{IsStop}
 use Rattle.farm_cli.specs.declared.exit.Exit.{Exit}
 use Rattle.farm_cli.specs.declared.exit.Exit.TheVariants as exit
-use Rattle.farm_cli.specs.CommandLine.{CommandValue, Judge}
-use Rattle.farm_cli.specs.Judged.{ContestIs, NoContestEnds, JudgeEnds, HasContest, JudgeIsDone}
+use Rattle.command_line.specs.CommandLine.{CommandValue, Judge}
+use Rattle.farm_cli.specs.Judged.{ContestIs, NoContestEnds, JudgeEnds, HasContest, ContestIsDone}
 use Rattle.farm_cli.specs.Scripted.{CommandIsDone}
 
--- T, S and K: the tree, the input and the output have failed
-pub judge_complete : (files : Option (List TreeFile)) (folder : List ℕ) (hosts : ℕ) (journal : Bool) (command : Option CommandValue) (left : Option (List ℕ)) (T S K : Type 0) (e : Exit)
+-- T, S, K and D: the tree, the input, the output and the door have failed
+pub judge_complete : (files : Option (List TreeFile)) (folder : List ℕ) (hosts : ℕ) (journal : Bool) (command : Option CommandValue) (left : Option (List ℕ)) (T S K D : Type 0) (e : Exit)
     → Some (Judge folder hosts journal) ≡ command → (HasContest files folder → ¬ T → ¬ K → (e ≡ exit.Done) ⊎ (e ≡ exit.Memory))
-    → IfSome command (λ command. CommandIsDone files command left (¬ T × ¬ S × ¬ K) e)
-unfolding JudgeIsDone
-judge_complete files folder hosts journal command left T S K e is done =
-    subst (λ (o : Option CommandValue). IfSome o (λ command. CommandIsDone files command left (¬ T × ¬ S × ¬ K) e)) is (λ has faultless. done has faultless.0 faultless.2)
+    → IfSome command (λ command. CommandIsDone files command left (¬ T × ¬ S × ¬ K × ¬ D) e)
+unfolding ContestIsDone
+judge_complete files folder hosts journal command left T S K D e is done =
+    subst (λ (o : Option CommandValue). IfSome o (λ command. CommandIsDone files command left (¬ T × ¬ S × ¬ K × ¬ D) e)) is (λ has faultless. done has faultless.0 faultless.2)
 
 -- what the reading of a folder answered is what the folder is, where the tree tells its files
 pub fault_told : (files : Option (List TreeFile)) (folder : List ℕ) (fault : ContestFault)
@@ -34,4 +34,5 @@ no_contest files folder hosts journal held held' unwritten exit.ReadFault h = h
 no_contest files folder hosts journal held held' unwritten exit.WriteFault h = record { text = h.text; is_text = inr h.is_text; count = h.count; wrote = h.wrote }
 no_contest files folder hosts journal held held' unwritten exit.Memory h = h
 no_contest files folder hosts journal held held' unwritten exit.TreeFault h = h
+no_contest files folder hosts journal held held' unwritten exit.DoorFault h = h
 no_contest files folder hosts journal held held' unwritten exit.InputLimit h = h

@@ -4,18 +4,18 @@ use Rattle.std.specs.Prelude.{◌⊎◌, IfSome}
 use Rattle.farm_tree.specs.declared.reads.TreeFile.{TreeFile}
 use Rattle.farm_cli.specs.declared.exit.Exit.{Exit}
 use Rattle.farm_cli.specs.declared.exit.Exit.TheVariants as exit
-use Rattle.farm_cli.specs.CommandLine.{CommandValue, Make}
-use Rattle.farm_cli.specs.MadeSizes.{Size}
+use Rattle.command_line.specs.CommandLine.{CommandValue, Make}
+use Rattle.command_line.specs.Ranges.{Size}
 use Rattle.farm_cli.specs.Making.{MakeIsDone}
 use Rattle.farm_cli.specs.Scripted.{CommandIsDone}
 
--- T, S and K: the tree, the input and the output have failed
-pub make_complete : (files : Option (List TreeFile)) (number : ℕ) (size : Size) (command : Option CommandValue) (left : Option (List ℕ)) (T S K : Type 0) (e : Exit) → Some (Make number size) ≡ command
+-- T, S, K and D: the tree, the input, the output and the door have failed
+pub make_complete : (files : Option (List TreeFile)) (number : ℕ) (size : Size) (command : Option CommandValue) (left : Option (List ℕ)) (T S K D : Type 0) (e : Exit) → Some (Make number size) ≡ command
     → (e ≡ exit.Done) ⊎ (e ≡ exit.WriteFault) ⊎ (e ≡ exit.Memory) → (e ≡ exit.WriteFault → K)
-    → IfSome command (λ command. CommandIsDone files command left (¬ T × ¬ S × ¬ K) e)
+    → IfSome command (λ command. CommandIsDone files command left (¬ T × ¬ S × ¬ K × ¬ D) e)
 unfolding MakeIsDone
-make_complete files number size command left T S K e is ends cause =
-    subst (λ (o : Option CommandValue). IfSome o (λ command. CommandIsDone files command left (¬ T × ¬ S × ¬ K) e)) is
+make_complete files number size command left T S K D e is ends cause =
+    subst (λ (o : Option CommandValue). IfSome o (λ command. CommandIsDone files command left (¬ T × ¬ S × ¬ K × ¬ D) e)) is
     (λ faultless. elim ends [
       | inl done ↦ inl done
       | inr others ↦ elim others [

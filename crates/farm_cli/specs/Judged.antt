@@ -1,5 +1,5 @@
 -- How the judging of a contest ends.
-use Rattle.std.specs.Prelude.{◌≡◌, ◌⊎◌, ℕ, List, ◌∷◌, ◌++◌, [], Bool, true, false, codes, Option, Result, Ok, Err, IfSome, take}
+use Rattle.std.specs.Prelude.{◌≡◌, ◌⊎◌, ℕ, List, ◌∷◌, ◌++◌, [], Bool, true, false, codes, Option, Some, None, Result, Ok, Err, IfSome, take}
 use Rattle.std.specs.Fmt.{decimal}
 use Rattle.std.specs.List.{flat_map}
 use Rattle.std.specs.Option.{IsSomeAnd}
@@ -32,6 +32,11 @@ journal_line call =
 
 abbrev pub journal_text : List Call → List ℕ
 journal_text calls = flat_map journal_line calls
+
+-- the text of a journal, where one was asked for
+abbrev pub history_text : Option (List Call) → List ℕ
+history_text None = []
+history_text (Some calls) = journal_text calls
 
 -- the table, whose verdicts are what running every test in rank order on one thread gives, and behind it, where a
 -- journal is asked for, a line for each call of one
@@ -79,6 +84,7 @@ NoContestEnds files folder held held' unwritten exit.ReadFault = ⊥
 NoContestEnds files folder held held' unwritten exit.WriteFault = WritesFront (IsFaultLine files folder) held held'
 NoContestEnds files folder held held' unwritten exit.Memory = unwritten
 NoContestEnds files folder held held' unwritten exit.TreeFault = unwritten
+NoContestEnds files folder held held' unwritten exit.DoorFault = ⊥
 NoContestEnds files folder held held' unwritten exit.InputLimit = ⊥
 
 -- how a contest's judging ends
@@ -93,12 +99,13 @@ JudgeEnds files folder hosts journal held held' unwritten exit.WriteFault =
     WritesFront (IsWritten files folder hosts journal) held held'
 JudgeEnds files folder hosts journal held held' unwritten exit.Memory = unwritten
 JudgeEnds files folder hosts journal held held' unwritten exit.TreeFault = unwritten
+JudgeEnds files folder hosts journal held held' unwritten exit.DoorFault = ⊥
 JudgeEnds files folder hosts journal held held' unwritten exit.InputLimit = ⊥
 
 -- the tree tells that the folder is a contest
 abbrev pub HasContest : Option (List TreeFile) → List ℕ → Type 0
 HasContest files folder = IsSomeAnd files (λ held. (roster : RosterValue) × (contest_of held folder ≡ Ok roster))
 
--- with a contest and no fault, it is judged unless memory is wanting
-unfoldable pub JudgeIsDone : Option (List TreeFile) → List ℕ → Type 0 → Exit → Type 0
-JudgeIsDone files folder faultless e = HasContest files folder → faultless → (e ≡ exit.Done) ⊎ (e ≡ exit.Memory)
+-- with a contest and no fault, it is judged or served unless memory is wanting
+unfoldable pub ContestIsDone : Option (List TreeFile) → List ℕ → Type 0 → Exit → Type 0
+ContestIsDone files folder faultless e = HasContest files folder → faultless → (e ≡ exit.Done) ⊎ (e ≡ exit.Memory)

@@ -13,7 +13,7 @@ use Rattle.contest_folder.specs.RosterValue.{RosterValue}
 use Rattle.contest_folder.specs.Contest.{contest_of}
 use Rattle.parallel_judge.specs.Table.{table_rows}
 use Rattle.work_maker.specs.Files.{contest_folder, made_files}
-use Rattle.farm_cli.specs.MadeSizes.{Size}
+use Rattle.command_line.specs.Ranges.{Size}
 use Rattle.farm_cli.specs.declared.exit.Exit.{Exit}
 use Rattle.farm_cli.specs.declared.exit.Exit.TheVariants as exit
 use Rattle.farm_cli.specs.Judged.{Writes, WritesFront}
@@ -53,6 +53,7 @@ MakeEnds number size held held' unwritten exit.ReadFault = ⊥
 MakeEnds number size held held' unwritten exit.WriteFault = WritesFront (IsSummary number size) held held'
 MakeEnds number size held held' unwritten exit.Memory = unwritten
 MakeEnds number size held held' unwritten exit.TreeFault = ⊥
+MakeEnds number size held held' unwritten exit.DoorFault = ⊥
 MakeEnds number size held held' unwritten exit.InputLimit = ⊥
 
 -- without a fault it is done unless memory is wanting

@@ -9,13 +9,14 @@ use Rattle.farm_model.specs.State.{SettingsValue, standard_settings}
 use Rattle.farm_model.specs.Script.{script_output}
 use Rattle.farm_laws.specs.Output.{OutputKeepsPromise, EachLineIsWritten}
 use Rattle.script_session.specs.Session.{TookLimit, IsShort}
+use Rattle.command_line.specs.CommandLine.{CommandValue, Script, Judge, Make, Serve}
 use Rattle.farm_cli.specs.declared.config.BadConfig.{BadConfig}
 use Rattle.farm_cli.specs.declared.exit.Exit.{Exit}
 use Rattle.farm_cli.specs.declared.exit.Exit.TheVariants as exit
-use Rattle.farm_cli.specs.CommandLine.{CommandValue, Script, Judge, Make}
 use Rattle.farm_cli.specs.Config.{config_in, ConfigIs, bad_contest_line}
-use Rattle.farm_cli.specs.Judged.{JudgeEnds, JudgeIsDone}
+use Rattle.farm_cli.specs.Judged.{JudgeEnds, ContestIsDone}
 use Rattle.farm_cli.specs.Making.{MakeEnds, MakeIsDone}
+use Rattle.farm_cli.specs.ServedContest.{DoorUse, ServeEnds}
 
 -- what the input has left and the output holds, as far as these tell, before a command and after it
 pub record Streams : Type 0 where
@@ -68,6 +69,7 @@ RunEnds InUse old new exit.ReadFault = LinesDone InUse old new
 RunEnds InUse old new exit.WriteFault = PrefixDone InUse old new
 RunEnds InUse old new exit.Memory = PrefixDone InUse old new
 RunEnds InUse old new exit.TreeFault = ⊥
+RunEnds InUse old new exit.DoorFault = ⊥
 RunEnds InUse old new exit.InputLimit = LinesDone InUse old new × TookLimit old.left new.left
 
 -- Settings that the file at the path does not give
@@ -94,6 +96,7 @@ NoSettingsEnds files path held held' unwritten exit.ReadFault = ⊥
 NoSettingsEnds files path held held' unwritten exit.WriteFault = PrefixTold files path held held'
 NoSettingsEnds files path held held' unwritten exit.Memory = unwritten
 NoSettingsEnds files path held held' unwritten exit.TreeFault = unwritten
+NoSettingsEnds files path held held' unwritten exit.DoorFault = ⊥
 NoSettingsEnds files path held held' unwritten exit.InputLimit = ⊥
 
 -- Commands
@@ -107,12 +110,30 @@ ScriptEnds files (Some path) old new unread unwritten e =
     RunEnds (λ settings. ConfigIs files path (Ok settings)) old new e
     ⊎ (unread × NoSettingsEnds files path old.held new.held unwritten e)
 
-abbrev pub CommandEnds : Option (List TreeFile) → CommandValue → Streams → Streams → Type 0 → Type 0 → Exit → Type 0
-CommandEnds files (Script config) old new unread unwritten e = ScriptEnds files config old new unread unwritten e
-CommandEnds files (Judge folder hosts journal) old new unread unwritten e =
+-- how a command ends
+abbrev pub CommandEnds : {N : Type 0} → Option (List TreeFile) → CommandValue → DoorUse N → Streams → Streams
+    → Type 0 → Type 0 → Exit → Type 0
+CommandEnds files (Script config) door old new unread unwritten e = ScriptEnds files config old new unread unwritten e
+CommandEnds files (Judge folder hosts journal) door old new unread unwritten e =
     unread × JudgeEnds files folder hosts journal old.held new.held unwritten e
-CommandEnds files (Make number size) old new unread unwritten e =
+CommandEnds files (Make number size) door old new unread unwritten e =
     unread × MakeEnds number size old.held new.held unwritten e
+CommandEnds files (Serve folder port lanes connections) door old new unread unwritten e =
+    unread × ServeEnds files folder lanes connections door old.held new.held unwritten e
+
+-- the path of the file or the folder that a command reads, where it reads one
+abbrev pub file_of : CommandValue → Option (List ℕ)
+file_of (Script config) = config
+file_of (Judge folder hosts journal) = Some folder
+file_of (Make number size) = None
+file_of (Serve folder port lanes connections) = Some folder
+
+-- this holds, unless the command serves
+abbrev pub UnlessServing : CommandValue → Type 0 → Type 0
+UnlessServing (Script config) fact = fact
+UnlessServing (Judge folder hosts journal) fact = fact
+UnlessServing (Make number size) fact = fact
+UnlessServing (Serve folder port lanes connections) fact = ⊤
 
 -- there is no file of settings, or the tree tells one that gives settings
 abbrev pub HasSettings : Option (List TreeFile) → Option (List ℕ) → Type 0
@@ -127,5 +148,6 @@ ScriptIsDone files config left faultless e =
 
 abbrev pub CommandIsDone : Option (List TreeFile) → CommandValue → Option (List ℕ) → Type 0 → Exit → Type 0
 CommandIsDone files (Script config) left faultless e = ScriptIsDone files config left faultless e
-CommandIsDone files (Judge folder hosts journal) left faultless e = JudgeIsDone files folder faultless e
+CommandIsDone files (Judge folder hosts journal) left faultless e = ContestIsDone files folder faultless e
 CommandIsDone files (Make number size) left faultless e = MakeIsDone faultless e
+CommandIsDone files (Serve folder port lanes connections) left faultless e = ContestIsDone files folder faultless e

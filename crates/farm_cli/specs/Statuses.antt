@@ -12,4 +12,5 @@ status_of exit.ReadFault = 4
 status_of exit.WriteFault = 5
 status_of exit.Memory = 6
 status_of exit.TreeFault = 7
+status_of exit.DoorFault = 8
 status_of exit.InputLimit = 9

@@ -18,6 +18,8 @@ pub enum Exit {
     Memory,
     /// The tree of files failed.
     TreeFault,
+    /// The door to which connections come failed.
+    DoorFault,
     /// As many bytes were taken from the input as are taken at most, 2^40, and its end was not among them.
     InputLimit,
 }
@@ -35,6 +37,7 @@ impl Exit {
             Exit::WriteFault => 5,
             Exit::Memory => 6,
             Exit::TreeFault => 7,
+            Exit::DoorFault => 8,
             Exit::InputLimit => 9,
         }
     }

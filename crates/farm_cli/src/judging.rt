@@ -1,8 +1,9 @@
-ghost use Rattle.std.specs.Prelude.{◌≡◌, ◌≢◌, ◌⊎◌, ◌≤◌, ℕ, Option, List, IfOk, Ok, Err};
+ghost use Rattle.std.specs.Prelude.{◌≡◌, ◌≢◌, ◌⊎◌, ◌≤◌, ◌++◌, ℕ, Option, List, IfOk, Ok, Err};
 ghost use Rattle.farm_io.specs.Streams.{Rose};
 ghost use Rattle.farm_tree.specs.declared.reads.TreeFile.{TreeFile};
+ghost use Rattle.farm_model.specs.Texts.{table_text};
 ghost use Rattle.contest_folder.specs.Telling.{IsStop};
-ghost use Rattle.farm_cli.specs.Judged.{ContestIs, HasContest, IsReport, NoContestEnds, JudgeEnds, contest_line};
+ghost use Rattle.farm_cli.specs.Judged.{ContestIs, HasContest, IsReport, NoContestEnds, JudgeEnds, contest_line, history_text};
 
 use crate::exit::Exit;
 use crate::journal::push_journal;
@@ -12,7 +13,7 @@ use farm_io::{PutEnd, Sink};
 use farm_kinds::NoMemory;
 use farm_tree::Tree;
 use judgehost::Gate;
-use parallel_judge::{Progress, judge_all};
+use parallel_judge::{Outcome, Progress, judge_all};
 use std::alloc::Global;
 use std::sync::Wait;
 use std::thread::Threads;
@@ -32,6 +33,7 @@ pub fn judge<R: Threads + Wait + Sync, T: Tree, K: Sink, G: Gate + Sync, P: Prog
 ) -> Exit
     requires hosts { hosts ≤ 16 }
     ensures command { result ≢ Exit.Usage }
+    ensures door_fault { result ≢ Exit.DoorFault }
     ensures read_fault { result ≢ Exit.ReadFault }
     ensures ends { JudgeEnds (T.files tree.old) folder.now hosts journal (K.held out.old) (K.held out.new) (out.new ≡ out.old) result }
     ensures files { T.files tree.new ≡ T.files tree.old }
@@ -74,7 +76,6 @@ fn judge_roster<R: Threads + Wait + Sync, K: Sink, G: Gate + Sync, P: Progress>(
 }
 
 /// The text of a contest's table, and behind it the journal where one is asked for.
-#[tactic(auto, using(crate::proofs::Reports::table_alone, crate::proofs::Reports::table_and_journal))]
 fn report<R: Threads + Wait + Sync, G: Gate + Sync, P: Progress>(
     rt: &R,
     alloc: Global,
@@ -88,6 +89,14 @@ fn report<R: Threads + Wait + Sync, G: Gate + Sync, P: Progress>(
     ensures { IfOk result (λ text. IsReport roster.now hosts journal text.items) }
 {
     let outcome = judge_all(rt, alloc, roster, hosts, gate, journal, progress)?;
+    text_of(alloc, &outcome)
+}
+
+/// The text of the table, and behind it that of the journal where there is one.
+#[tactic(auto, using(crate::proofs::Reports::table_alone))]
+fn text_of(alloc: Global, outcome: &Outcome) -> Result<Vec<u8>, NoMemory>
+    ensures { IfOk result (λ text. text.items ≡ table_text outcome.now.table ++ history_text outcome.now.history) }
+{
     let mut text = write_table(alloc, &outcome.table)?.into_vec();
     let Some(history) = &outcome.history else {
         return Ok(text);
@@ -97,8 +106,9 @@ fn report<R: Threads + Wait + Sync, G: Gate + Sync, P: Progress>(
 }
 
 /// Ends where the folder is no contest, or could not be read.
-fn refuse<K: Sink>(alloc: Global, fault: &ContestFault, out: &mut K) -> Exit
+pub(crate) fn refuse<K: Sink>(alloc: Global, fault: &ContestFault, out: &mut K) -> Exit
     ensures command { result ≢ Exit.Usage }
+    ensures door_fault { result ≢ Exit.DoorFault }
     ensures read_fault { result ≢ Exit.ReadFault }
     ensures tree { result ≡ Exit.TreeFault → fault.now ≡ ContestFault.Tree }
     ensures memory { fault.now ≡ ContestFault.NoMemory → result ≡ Exit.Memory }

@@ -1,12 +1,11 @@
 ghost use Rattle.std.specs.Prelude.{true};
 
-use crate::tests::words;
-use crate::{Command, Exit, farm_main, read_command};
+use crate::Exit;
+use crate::tests::{end_of, words};
 use farm_io::{ReliableSink, ReliableSource, Sink};
 use farm_kinds::Text;
 use farm_tree::{MemoryTree, ReliableTree, Tree, TreeFile, TreeFiles};
 use judgehost::{AlwaysOn, Gate, Go, Point};
-use parallel_judge::Silent;
 use std::alloc::{AllocError, Global};
 use std::sync::{Mutex, Wait};
 use std::test::Fail;
@@ -303,16 +302,7 @@ fn judge<T: Tree, K: Sink, G: Gate + Sync>(
         words.push(String::from_str(alloc, option)?)?;
     }
     let mut input = ReliableSource::new(Vec::new(alloc));
-    Ok(farm_main(
-        rt,
-        alloc,
-        words.as_slice(),
-        tree,
-        &mut input,
-        out,
-        gate,
-        &mut Silent,
-    ))
+    end_of(rt, alloc, words.as_slice(), tree, &mut input, out, gate)
 }
 
 /// What `farm judge c` writes with these options over a contest's files, and how it ends.
@@ -493,73 +483,5 @@ fn a_tree_whose_first_read_fails(rt: HostRuntime) -> Result<(), Fail> {
     )?;
     assert_eq!(rt; exit, Exit::TreeFault);
     assert!(rt; out.bytes().is_empty());
-    Ok(())
-}
-
-/// Words behind `farm`, with a space between two of them, and how many hosts they ask for to judge the contest in `c`,
-/// and whether for a journal. Where there is nothing, they are no command.
-const WORDS: [(&str, Option<(u16, bool)>); 40] = [
-    ("judge c --hosts 0", Some((0, false))),
-    ("judge c --hosts=0", Some((0, false))),
-    ("judge --hosts 16 c", Some((16, false))),
-    ("judge --hosts=16 c", Some((16, false))),
-    ("judge c --hosts 1 --journal", Some((1, true))),
-    ("judge c --journal --hosts 9", Some((9, true))),
-    ("judge --journal c --hosts 10", Some((10, true))),
-    ("judge --hosts 2 c --journal", Some((2, true))),
-    ("judge --hosts=3 --journal c", Some((3, true))),
-    ("judge --journal --hosts=4 c", Some((4, true))),
-    ("judge", None),
-    ("judge c", None),
-    ("judge --hosts 1", None),
-    ("judge --hosts=1", None),
-    ("judge c --journal", None),
-    ("judge --hosts 1 --journal", None),
-    ("judge c --hosts", None),
-    ("judge c --hosts=", None),
-    ("judge c --hosts ", None),
-    ("judge c --hosts 17", None),
-    ("judge c --hosts=17", None),
-    ("judge c --hosts 4294967296", None),
-    ("judge c --hosts 00", None),
-    ("judge c --hosts 01", None),
-    ("judge c --hosts=01", None),
-    ("judge c --hosts +1", None),
-    ("judge c --hosts -1", None),
-    ("judge c --hosts 1\t", None),
-    ("judge c --hosts one", None),
-    ("judge c --hosts --journal", None),
-    ("judge c --hosts 1 --hosts 1", None),
-    ("judge c --hosts=1 --hosts=1", None),
-    ("judge c --hosts=1 --hosts", None),
-    ("judge c --hosts 1 --journal --journal", None),
-    ("judge c --hosts 1 --journal=", None),
-    ("judge c --hosts 1 --journals", None),
-    ("judge c c --hosts 1", None),
-    ("judge c --hosts 1 ", None),
-    ("judge - --hosts 1", None),
-    ("judge -- --hosts 1", None),
-];
-
-#[test]
-fn words_of_judge(rt: HostRuntime) -> Result<(), Fail> {
-    let alloc = rt.alloc();
-    for (line, asked) in WORDS {
-        let mut words = words(alloc, &["farm"])?;
-        for word in line.split(' ') {
-            words.push(String::from_str(alloc, word)?)?;
-        }
-        let read = match read_command(words.as_slice()) {
-            Some(
-                Command::Judge {
-                    folder: "c",
-                    hosts,
-                    journal,
-                },
-            ) => Some((hosts.get(), journal)),
-            _ => None,
-        };
-        assert_eq!(rt; read, asked, "{line:?}");
-    }
     Ok(())
 }

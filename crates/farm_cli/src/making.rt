@@ -1,13 +1,14 @@
 ghost use Rattle.std.specs.Prelude.{◌≡◌, ◌≢◌, ◌⊎◌, IfOk, Ok};
 ghost use Rattle.farm_io.specs.Streams.{Rose};
 ghost use Rattle.contest_folder.specs.Contest.{contest_of};
+ghost use Rattle.parallel_judge.specs.Table.{table_rows};
 ghost use Rattle.work_maker.specs.Files.{contest_folder, made_files};
-ghost use Rattle.farm_cli.specs.CommandLine.{size_value};
-ghost use Rattle.farm_cli.specs.Making.{IsSummary, MakeEnds};
+ghost use Rattle.command_line.specs.CommandLine.{size_value};
+ghost use Rattle.farm_cli.specs.Making.{IsSummary, MakeEnds, summary_text};
 
 use crate::exit::Exit;
-use crate::made_size::MadeSize;
 use crate::summary::summary_text;
+use command_line::MadeSize;
 use contest_folder::{ContestFault, Roster, read_contest};
 use farm_io::{PutEnd, Sink};
 use farm_kinds::NoMemory;
@@ -35,6 +36,7 @@ pub fn make<R: Threads + Wait + Sync, K: Sink, G: Gate + Sync, P: Progress>(
 ) -> Exit
     ensures ends { MakeEnds number (size_value size) (K.held out.old) (K.held out.new) (out.new ≡ out.old) result }
     ensures command { result ≢ Exit.Usage }
+    ensures door_fault { result ≢ Exit.DoorFault }
     ensures read_fault { result ≢ Exit.ReadFault }
     ensures tree_fault { result ≢ Exit.TreeFault }
     ensures write_fault { result ≡ Exit.WriteFault → Rose (K.faults out.old) (K.faults out.new) }
@@ -61,9 +63,21 @@ fn summarize<R: Threads + Wait + Sync, G: Gate + Sync, P: Progress>(
     ensures { IfOk result (λ text. IsSummary number (size_value size) text.items) }
 {
     let roster = made_roster(alloc, number, size)?;
-    let outcome = judge_all(rt, alloc, &roster, HOSTS, gate, false, progress)?;
-    let text = summary_text(alloc, &outcome.table)?;
-    Ok(text)
+    summary_of(rt, alloc, &roster, gate, progress)
+}
+
+/// What is written of the contest that was made.
+fn summary_of<R: Threads + Wait + Sync, G: Gate + Sync, P: Progress>(
+    rt: &R,
+    alloc: Global,
+    roster: &Roster,
+    gate: &G,
+    progress: &mut P,
+) -> Result<Vec<u8>, NoMemory>
+    ensures { IfOk result (λ text. text.items ≡ summary_text (table_rows roster.now)) }
+{
+    let outcome = judge_all(rt, alloc, roster, HOSTS, gate, false, progress)?;
+    summary_text(alloc, &outcome.table)
 }
 
 /// The contest, as it is read from its files.

@@ -1,10 +1,12 @@
 use crate::rejudging_rows::REJUDGINGS;
 use crate::script_rows::{Row, SCRIPTS};
 use crate::{Exit, farm_main};
-use farm_io::{MemorySink, MemorySource, ReliableSink, ReliableSource};
+use farm_io::{
+    FixedClock, MemorySink, MemorySource, ReliableDoor, ReliableSink, ReliableSource, Sink, Source,
+};
 use farm_kinds::NoMemory;
-use farm_tree::{MemoryTree, ReliableTree, TreeFiles};
-use judgehost::AlwaysOn;
+use farm_tree::{MemoryTree, ReliableTree, Tree, TreeFiles};
+use judgehost::{AlwaysOn, Gate};
 use parallel_judge::Silent;
 use std::alloc::{AllocError, Global};
 use std::process::Abort;
@@ -26,12 +28,37 @@ pub(crate) fn words(alloc: Global, given: &[&str]) -> Result<Vec<String>, AllocE
 }
 
 /// A tree of this one file.
-fn tree_of(alloc: Global, path: &str, text: &[u8]) -> Result<ReliableTree, NoMemory> {
+pub(crate) fn tree_of(alloc: Global, path: &str, text: &[u8]) -> Result<ReliableTree, NoMemory> {
     let mut tree = ReliableTree::new(alloc, TreeFiles::new(alloc));
     if path.len() <= 4096 {
         tree.add(path, text)?;
     }
     Ok(tree)
+}
+
+/// How the words end, where no connection is to come.
+pub(crate) fn end_of<T: Tree, S: Source, K: Sink, G: Gate + Sync>(
+    rt: &(impl Threads + Wait + Sync),
+    alloc: Global,
+    words: &[String],
+    tree: &mut T,
+    input: &mut S,
+    out: &mut K,
+    gate: &G,
+) -> Result<Exit, AllocError> {
+    let mut door = ReliableDoor::new(alloc, Vec::new(alloc))?;
+    Ok(farm_main(
+        rt,
+        alloc,
+        words,
+        tree,
+        input,
+        out,
+        &FixedClock::new(0),
+        &mut door,
+        gate,
+        &mut Silent,
+    ))
 }
 
 /// What the words write for the input, where nothing fails, and how they end.
@@ -45,7 +72,7 @@ fn run(
     let mut source = ReliableSource::new(input.to_vec(alloc)?);
     let mut sink = ReliableSink::new(Vec::with_capacity(alloc, ROOM)?);
     let words = words(alloc, given)?;
-    let exit = farm_main(
+    let exit = end_of(
         rt,
         alloc,
         words.as_slice(),
@@ -53,8 +80,7 @@ fn run(
         &mut source,
         &mut sink,
         &AlwaysOn,
-        &mut Silent,
-    );
+    )?;
     Ok((exit, sink))
 }
 
@@ -312,11 +338,21 @@ fn a_line_of_4097_letters_is_too_long(rt: HostRuntime) -> Result<(), Fail> {
 #[test]
 fn other_words_are_no_command(rt: HostRuntime) -> Result<(), Fail> {
     let alloc = rt.alloc();
-    let lines: [&[&str]; 17] = [
+    let lines: [&[&str]; 20] = [
         &[],
         &["farm"],
         &["script"],
         &["farm", "serve"],
+        &[
+            "farm",
+            "serve",
+            "f",
+            "--port=0",
+            "--lanes=0",
+            "--connections=1",
+        ],
+        &["farm", "judge", "f", "--hosts=17"],
+        &["farm", "make", "1", "51", "1"],
         &["farm", "Script"],
         &["farm", "judge", "c"],
         &["farm", "script", "more"],
@@ -526,7 +562,7 @@ fn faults(rt: HostRuntime) -> Result<(), Fail> {
         let mut source = MemorySource::new(text, failing(alloc, row.input)?);
         let mut sink = MemorySink::new(Vec::with_capacity(alloc, ROOM)?, failing(alloc, row.out)?);
         let words = words(alloc, row.words)?;
-        let exit = farm_main(
+        let exit = end_of(
             &rt,
             alloc,
             words.as_slice(),
@@ -534,8 +570,7 @@ fn faults(rt: HostRuntime) -> Result<(), Fail> {
             &mut source,
             &mut sink,
             &AlwaysOn,
-            &mut Silent,
-        );
+        )?;
         assert_eq!(rt; exit, row.exit, "{name}");
         assert_eq!(rt; exit.status(), row.status, "{name}");
         assert_eq!(rt; sink.bytes(), row.output, "{name}");

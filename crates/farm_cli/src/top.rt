@@ -1,20 +1,23 @@
-ghost use Rattle.std.specs.Prelude.{◌≡◌, ◌≢◌, ◌↔◌, ◌⊎◌, ℕ, List, Option, None, Err, IfSome, map, option_map, string_bytes, take};
+ghost use Rattle.std.specs.Prelude.{◌≡◌, ◌≢◌, ◌↔◌, ◌⊎◌, ◌≤◌, ℕ, List, Option, None, Err, IfOk, IfSome, map, option_map, string_bytes, take};
 ghost use Rattle.std.specs.Io.KnownBytes.{Appends};
 ghost use Rattle.farm_io.specs.Streams.{Rose};
 ghost use Rattle.farm_tree.specs.declared.reads.TreeFile.{TreeFile};
+ghost use Rattle.farm_model.specs.State.{SettingsValue, start};
 ghost use Rattle.script_session.specs.Session.{IsShort};
-ghost use Rattle.farm_cli.specs.CommandLine.{command_of, file_of};
+ghost use Rattle.command_line.specs.CommandLine.{command_of};
+ghost use Rattle.contest_server.specs.Visits.{watch};
 ghost use Rattle.farm_cli.specs.Config.{ConfigIs};
-ghost use Rattle.farm_cli.specs.Scripted.{RunEnds, NoSettingsEnds, ScriptEnds, CommandEnds, ScriptIsDone, CommandIsDone};
+ghost use Rattle.farm_cli.specs.Scripted.{file_of, UnlessServing, RunEnds, NoSettingsEnds, ScriptEnds, CommandEnds, ScriptIsDone, CommandIsDone};
 
-use crate::command_line::read_command;
 use crate::config::{BadConfig, ConfigEnd, bad_contest_line, read_config};
 use crate::exit::Exit;
 use crate::judging::judge;
 use crate::making::make;
-use crate::words::Command;
+use crate::serving::serve;
+use command_line::{Command, read_command};
 use farm_core::Farm;
-use farm_io::{PutEnd, Sink, Source};
+use farm_io::{Clock, Door, PutEnd, Sink, Source};
+use farm_kinds::NoMemory;
 use farm_settings::Settings;
 use farm_tree::Tree;
 use judgehost::Gate;
@@ -35,11 +38,16 @@ use std::thread::Threads;
 ///
 /// `farm make` makes a contest of a number, judges it in the same way by two host threads and the caller, and writes how
 /// many submissions have each verdict, and the digest of its table.
+///
+/// `farm serve` reads the contest in a folder, listens at a port, and answers judgehosts and the jury by HTTP, each connection
+/// in a thread of its own; it writes a line for each connection and behind them the board.
 pub fn farm_main<
     R: Threads + Wait + Sync,
     T: Tree,
     S: Source,
     K: Sink,
+    C: Clock + Sync,
+    D: Door,
     G: Gate + Sync,
     P: Progress,
 >(
@@ -49,12 +57,20 @@ pub fn farm_main<
     tree: &mut T,
     input: &mut S,
     out: &mut K,
+    clock: &C,
+    door: &mut D,
     gate: &G,
     progress: &mut P,
 ) -> Exit
-    // Other words are no command. Then nothing is read, and nothing is written.
-    ensures usage { (result ≡ Exit.Usage) ↔ (command_of (map string_bytes words.now) ≡ None) }
-    ensures silent { result ≡ Exit.Usage → (tree.new ≡ tree.old) × (input.new ≡ input.old) × (out.new ≡ out.old) }
+where
+    D::Conn: Drop,
+    // Of the connections that the door let in, no more were given back than came.
+    requires door { (D.state door.old).returned ≤ (D.state door.old).accepted }
+
+    // `Usage` comes for other words alone, and for all of them, unless memory is wanting while they are read. Whatever
+    // comes for them, nothing is read, and nothing is written.
+    ensures usage { (result ≡ Exit.Usage) ↔ ((command_of (map string_bytes words.now) ≡ None) × (result ≢ Exit.Memory)) }
+    ensures silent { command_of (map string_bytes words.now) ≡ None → (tree.new ≡ tree.old) × (input.new ≡ input.old) × (out.new ≡ out.old) × (door.new ≡ door.old) }
 
     // How each command ends: what was read and what was written, which keeps the promise. Whatever lines come,
     // and so whatever hosts claim, answer, repeat, lose leases or die, a judging is reported final exactly where
@@ -62,6 +78,7 @@ pub fn farm_main<
     // that verdict is what running every test in rank order on one thread gives; final stays; each result counts
     // once. A contest's verdicts are the same whatever the number of its hosts, the gate and the schedule.
     ensures ends { IfSome (command_of (map string_bytes words.now)) (λ command. CommandEnds (T.files tree.old) command
+        (record { watch = watch D.Conn.left D.Conn.held D.Conn.Source.faults D.Conn.Sink.faults (C.shows clock.now); old = D.state door.old; new = D.state door.new })
         (record { left = S.left input.old; held = K.held out.old }) (record { left = S.left input.new; held = K.held out.new })
         (input.new ≡ input.old) (out.new ≡ out.old) result) }
 
@@ -69,15 +86,22 @@ pub fn farm_main<
     ensures tree { IfSome (command_of (map string_bytes words.now)) (λ command. file_of command ≡ None → tree.new ≡ tree.old) }
     ensures files { T.files tree.new ≡ T.files tree.old }
 
+    // The door is as it was unless the command serves.
+    ensures door { IfSome (command_of (map string_bytes words.now)) (λ command. UnlessServing command (door.new ≡ door.old)) }
+
     // Each fault has its cause, and without one the command is done unless memory is wanting.
     ensures read_fault { result ≡ Exit.ReadFault → Rose (S.faults input.old) (S.faults input.new) }
     ensures write_fault { result ≡ Exit.WriteFault → Rose (K.faults out.old) (K.faults out.new) }
     ensures tree_fault { result ≡ Exit.TreeFault → Rose (T.faults tree.old) (T.faults tree.new) }
+    ensures door_fault { result ≡ Exit.DoorFault → Rose (D.faults door.old) (D.faults door.new) }
     ensures complete { IfSome (command_of (map string_bytes words.now)) (λ command. CommandIsDone (T.files tree.old) command (S.left input.old)
-        (¬ Rose (T.faults tree.old) (T.faults tree.new) × ¬ Rose (S.faults input.old) (S.faults input.new) × ¬ Rose (K.faults out.old) (K.faults out.new))
-        result) }
+        (¬ Rose (T.faults tree.old) (T.faults tree.new) × ¬ Rose (S.faults input.old) (S.faults input.new) × ¬ Rose (K.faults out.old) (K.faults out.new)
+        × ¬ Rose (D.faults door.old) (D.faults door.new)) result) }
 {
-    let Some(command) = read_command(words) else {
+    let Ok(command) = read_command(alloc, words) else {
+        return Exit::Memory;
+    };
+    let Some(command) = command else {
         return Exit::Usage;
     };
     match command {
@@ -98,6 +122,23 @@ pub fn farm_main<
             progress,
         ),
         Command::Make { number, size } => make(rt, alloc, number, size, out, gate, progress),
+        Command::Serve {
+            folder,
+            port,
+            lanes,
+            connections,
+        } => serve(
+            rt,
+            alloc,
+            folder,
+            port,
+            lanes.get(),
+            connections.get(),
+            tree,
+            out,
+            clock,
+            door,
+        ),
     }
 }
 
@@ -111,6 +152,7 @@ fn script<T: Tree, S: Source, K: Sink>(
     out: &mut K,
 ) -> Exit
     ensures command { result ≢ Exit.Usage }
+    ensures door_fault { result ≢ Exit.DoorFault }
     ensures ends { ScriptEnds (T.files tree.old) (option_map (λ path. path.now) config.entry)
         (record { left = S.left input.old; held = K.held out.old }) (record { left = S.left input.new; held = K.held out.new })
         (input.new ≡ input.old) (out.new ≡ out.old) result }
@@ -137,6 +179,7 @@ fn script<T: Tree, S: Source, K: Sink>(
 /// Answers the lines of the input by an empty farm with these settings.
 fn run<S: Source, K: Sink>(alloc: Global, settings: Settings, input: &mut S, out: &mut K) -> Exit
     ensures command { result ≢ Exit.Usage }
+    ensures door_fault { result ≢ Exit.DoorFault }
     ensures tree_fault { result ≢ Exit.TreeFault }
     ensures ends { RunEnds (λ in_use. in_use ≡ settings)
         (record { left = S.left input.old; held = K.held out.old }) (record { left = S.left input.new; held = K.held out.new }) result }
@@ -147,7 +190,23 @@ fn run<S: Source, K: Sink>(alloc: Global, settings: Settings, input: &mut S, out
         → (result ≡ Exit.Done) ⊎ (result ≡ Exit.Memory) }
 {
     let mut farm = Farm::new(alloc, settings);
-    match run_script(alloc, &mut farm, input, out) {
+    answer(alloc, &mut farm, input, out)
+}
+
+/// Answers the lines of the input by this farm.
+fn answer<S: Source, K: Sink>(alloc: Global, farm: &mut Farm, input: &mut S, out: &mut K) -> Exit
+    ensures command { result ≢ Exit.Usage }
+    ensures door_fault { result ≢ Exit.DoorFault }
+    ensures tree_fault { result ≢ Exit.TreeFault }
+    ensures ends { (settings : SettingsValue) → farm.old ≡ start settings → RunEnds (λ in_use. in_use ≡ settings)
+        (record { left = S.left input.old; held = K.held out.old }) (record { left = S.left input.new; held = K.held out.new }) result }
+    ensures read_fault { result ≡ Exit.ReadFault → Rose (S.faults input.old) (S.faults input.new) }
+    ensures write_fault { result ≡ Exit.WriteFault → Rose (K.faults out.old) (K.faults out.new) }
+    ensures complete { IsShort (S.left input.old)
+        → ¬ Rose (S.faults input.old) (S.faults input.new) → ¬ Rose (K.faults out.old) (K.faults out.new)
+        → (result ≡ Exit.Done) ⊎ (result ≡ Exit.Memory) }
+{
+    match run_script(alloc, farm, input, out) {
         ScriptEnd::Done => Exit::Done,
         ScriptEnd::ReadFault => Exit::ReadFault,
         ScriptEnd::WriteFault => Exit::WriteFault,
@@ -159,6 +218,7 @@ fn run<S: Source, K: Sink>(alloc: Global, settings: Settings, input: &mut S, out
 /// Writes the line that says why the file at the path gives no settings.
 fn refuse<K: Sink>(alloc: Global, path: &str, bad: &BadConfig, out: &mut K) -> Exit
     ensures command { result ≢ Exit.Usage }
+    ensures door_fault { result ≢ Exit.DoorFault }
     ensures tree_fault { result ≢ Exit.TreeFault }
     ensures read_fault { result ≢ Exit.ReadFault }
     ensures ends { (files : Option (List TreeFile)) → ConfigIs files path.now (Err bad.now)

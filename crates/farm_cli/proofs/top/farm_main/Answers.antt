@@ -1,17 +1,45 @@
-use Rattle.std.proofs.Common.{Some, ap, sym, ◌∙◌}
+use Rattle.std.proofs.Common.{◌≡◌, Some, map, ap, refl, sym, ◌∙◌, string_bytes}
 use Rattle.std.specs.Option.{option_map}
-use Rattle.farm_cli.specs.CommandLine.{command_value, size_value}
+use Rattle.command_line.specs.CommandLine.{command_value, size_value}
+use Rattle.contest_server.specs.Visits.{watch}
+use Rattle.farm_io.specs.Streams.{Rose}
+use Rattle.farm_cli.specs.Scripted.{Streams}
 use Rattle.farm_cli.proofs.Judgings.{judge_complete}
 use Rattle.farm_cli.proofs.Makings.{make_complete}
+use Rattle.farm_cli.proofs.Ends.{script_complete}
+use Rattle.farm_cli.proofs.Servings.{serve_complete}
+use Rattle.farm_cli.proofs.Unread.{unread_ends, unread_is_done}
 use Rattle.farm_cli.proofs.top.farm_main.Goals as goal
 
--- src/top.rt:29:1
+pub returns-in_default-clause-ends : goal.returns-in_default-clause-ends
+returns-in_default-clause-ends g c =
+    let streams : Streams = record { left = g.S.Source.left c.args.input.now; held = g.K.Sink.held c.args.out.now } in
+    unread_ends (g.T.Tree.files c.args.tree.now) (map string_bytes c.args.words.now)
+    (record { watch = watch g.D.Conn.Source.left g.D.Conn.Sink.held g.D.Conn.Source.faults g.D.Conn.Sink.faults (g.C.Clock.shows c.args.clock.now); old = g.D.Door.state c.args.door.now; new = g.D.Door.state c.args.door.now })
+    streams (c.args.input.now ≡ c.args.input.now) (c.args.out.now ≡ c.args.out.now) refl refl refl
+
+pub returns-in_default-clause-complete : goal.returns-in_default-clause-complete
+returns-in_default-clause-complete g c =
+    unread_is_done (g.T.Tree.files c.args.tree.now) (map string_bytes c.args.words.now) (g.S.Source.left c.args.input.now)
+    (¬ Rose (g.T.Tree.faults c.args.tree.now) (g.T.Tree.faults c.args.tree.now) × ¬ Rose (g.S.Source.faults c.args.input.now) (g.S.Source.faults c.args.input.now)
+    × ¬ Rose (g.K.Sink.faults c.args.out.now) (g.K.Sink.faults c.args.out.now) × ¬ Rose (g.D.Door.faults c.args.door.now) (g.D.Door.faults c.args.door.now))
+
+pub returns-in-Script-clause-complete : goal.returns-in-Script-clause-complete
+returns-in-Script-clause-complete g c =
+    script_complete (g.T.Tree.files c.args.tree.now) (option_map (λ path. path.now) c.in-Script.config) _ (g.S.Source.left c.args.input.now) _ _ _ _ c.script.result
+    (sym (ap (λ o. option_map command_value o) (c.in-Some.is ∙ ap Some c.in-Script.is)) ∙ c.in-Ok.ensures) c.script.ensures.complete
+
 pub returns-in-Judge-clause-complete : goal.returns-in-Judge-clause-complete
 returns-in-Judge-clause-complete g c =
-    judge_complete (g.T.Tree.files c.args.tree.now) c.in-Judge.folder.now c.in-Judge.hosts.count c.in-Judge.journal _ (g.S.Source.left c.args.input.now) _ _ _ c.judge.result
-    (sym (ap (option_map command_value) (c.in-Some.is ∙ ap Some c.in-Judge.is)) ∙ c.read_command.ensures) c.judge.ensures.complete
+    judge_complete (g.T.Tree.files c.args.tree.now) c.in-Judge.folder.now c.in-Judge.hosts.count c.in-Judge.journal _ (g.S.Source.left c.args.input.now) _ _ _ _ c.judge.result
+    (sym (ap (λ o. option_map command_value o) (c.in-Some.is ∙ ap Some c.in-Judge.is)) ∙ c.in-Ok.ensures) c.judge.ensures.complete
 
 pub returns-in-Make-clause-complete : goal.returns-in-Make-clause-complete
 returns-in-Make-clause-complete g c =
-    make_complete (g.T.Tree.files c.args.tree.now) c.in-Make.number (size_value c.in-Make.size) _ (g.S.Source.left c.args.input.now) _ _ _ c.make.result
-    (sym (ap (option_map command_value) (c.in-Some.is ∙ ap Some c.in-Make.is)) ∙ c.read_command.ensures) c.make.ensures.all c.make.ensures.write_fault
+    make_complete (g.T.Tree.files c.args.tree.now) c.in-Make.number (size_value c.in-Make.size) _ (g.S.Source.left c.args.input.now) _ _ _ _ c.make.result
+    (sym (ap (λ o. option_map command_value o) (c.in-Some.is ∙ ap Some c.in-Make.is)) ∙ c.in-Ok.ensures) c.make.ensures.all c.make.ensures.write_fault
+
+pub returns-in-Serve-clause-complete : goal.returns-in-Serve-clause-complete
+returns-in-Serve-clause-complete g c =
+    serve_complete (g.T.Tree.files c.args.tree.now) c.in-Serve.folder.now c.in-Serve.port c.in-Serve.lanes.count c.in-Serve.connections.count _ (g.S.Source.left c.args.input.now) _ _ _ _ c.serve.result
+    (sym (ap (λ o. option_map command_value o) (c.in-Some.is ∙ ap Some c.in-Serve.is)) ∙ c.in-Ok.ensures) c.serve.ensures.complete

@@ -1,0 +1,31 @@
+-- A contest's serving among the commands.
+use Rattle.std.proofs.Common.{◌≡◌, ℕ, List, Option, Some, inr, refl, sym, subst}
+use Rattle.std.specs.Prelude.{◌⊎◌, IfSome}
+use Rattle.farm_tree.specs.declared.reads.TreeFile.{TreeFile}
+use Rattle.farm_cli.specs.declared.exit.Exit.{Exit}
+use Rattle.farm_cli.specs.declared.exit.Exit.TheVariants as exit
+use Rattle.command_line.specs.CommandLine.{CommandValue, Serve}
+use Rattle.farm_cli.specs.Judged.{NoContestEnds, HasContest, ContestIsDone}
+use Rattle.farm_cli.specs.ServedContest.{DoorUse, IsUnasked, ServeEnds}
+use Rattle.farm_cli.specs.Scripted.{CommandIsDone}
+
+-- T, S, K and D: the tree, the input, the output and the door have failed
+pub serve_complete : (files : Option (List TreeFile)) (folder : List ℕ) (port lanes connections : ℕ) (command : Option CommandValue) (left : Option (List ℕ)) (T S K D : Type 0) (e : Exit)
+    → Some (Serve folder port lanes connections) ≡ command → (HasContest files folder → ¬ T → ¬ D → ¬ K → (e ≡ exit.Done) ⊎ (e ≡ exit.Memory))
+    → IfSome command (λ command. CommandIsDone files command left (¬ T × ¬ S × ¬ K × ¬ D) e)
+unfolding ContestIsDone
+serve_complete files folder port lanes connections command left T S K D e is done =
+    subst (λ (o : Option CommandValue). IfSome o (λ command. CommandIsDone files command left (¬ T × ¬ S × ¬ K × ¬ D) e)) is
+    (λ has faultless. done has faultless.0 faultless.3 faultless.2)
+
+pub unserved : {N : Type 0} (files : Option (List TreeFile)) (folder : List ℕ) (lanes connections : ℕ) (door : DoorUse N) (held held' : Option (List ℕ)) (unwritten : Type 0) (e : Exit)
+    → IsUnasked door → NoContestEnds files folder held held' unwritten e → ServeEnds files folder lanes connections door held held' unwritten e
+unserved files folder lanes connections door held held' unwritten exit.Done same h = absurd h
+unserved files folder lanes connections door held held' unwritten exit.Usage same h = h
+unserved files folder lanes connections door held held' unwritten exit.BadContest same h = (same, h)
+unserved files folder lanes connections door held held' unwritten exit.ReadFault same h = h
+unserved files folder lanes connections door held held' unwritten exit.WriteFault same h = inr (same, h)
+unserved files folder lanes connections door held held' unwritten exit.Memory same h = inr (same, h)
+unserved files folder lanes connections door held held' unwritten exit.TreeFault same h = (same, h)
+unserved files folder lanes connections door held held' unwritten exit.DoorFault same h = absurd h
+unserved files folder lanes connections door held held' unwritten exit.InputLimit same h = h

@@ -1,0 +1,335 @@
+#!/usr/bin/env python3
+"""Runs `farm serve` and talks to it as judgehosts and the jury do, and as hostile clients do.
+
+    tests/serve.py [PROGRAM]
+
+PROGRAM is the built program, `crates/farm/out/farm` of this repository if none is given. One line is printed for each
+look, and the status is 1 where one shows something else than is wanted.
+"""
+
+import http.client
+import json
+import os
+import re
+import signal
+import socket
+import subprocess
+import sys
+import tempfile
+import time
+
+sys.dont_write_bytecode = True
+
+from judge import write  # noqa: E402
+from place import TOP, program_and_numbers  # noqa: E402
+
+FILES = {
+    "problems/echo/problem.yaml": "name: Echo\n",
+    "problems/echo/data/secret/1.in": "7\n",
+    "problems/echo/data/secret/1.ans": "7\n",
+    "problems/echo/data/secret/2.in": "8\n",
+    "problems/echo/data/secret/2.ans": "8\n",
+    "submissions/a.rv32": "\x13\0\0\0",
+    "submissions.txt": "1 otters echo a.rv32\n2 newts echo a.rv32\n",
+    "farm.json": '{"lease": 1000, "problem_modes": {"echo": "full"}}',
+}
+
+
+class Server:
+    """A running `farm serve` of a folder, at a port that it has found."""
+
+    def __init__(self, program, folder, lanes=4, connections=1000, port=0, stdout=None):
+        words = [program, "serve", folder, "--port", str(port), "--lanes", str(lanes), "--connections", str(connections)]
+        # a pipe would be full behind some thousands of lines
+        self.out = tempfile.TemporaryFile()
+        self.process = subprocess.Popen(words, stdout=stdout or self.out, stderr=subprocess.PIPE)
+        self.said = self.process.stderr.readline().decode()
+        found = re.fullmatch(r"farm: listening at port (\d+)\n", self.said)
+        self.port = int(found[1]) if found else None
+
+    def __enter__(self):
+        return self
+
+    def __exit__(self, *_):
+        if self.process.poll() is None:
+            self.process.kill()
+        self.process.communicate()
+        self.out.close()
+
+    def connect(self):
+        return socket.create_connection(("127.0.0.1", self.port), timeout=10)
+
+    def client(self):
+        return http.client.HTTPConnection("127.0.0.1", self.port, timeout=10)
+
+    def ended(self):
+        """The status, and what was written, once the server has ended."""
+        self.process.wait(timeout=20)
+        self.out.seek(0)
+        return self.process.returncode, self.out.read().decode()
+
+
+def ask(client, method, path, body=None):
+    """The status and the reply, by a client that keeps its connection."""
+    client.request(method, path, None if body is None else json.dumps(body))
+    response = client.getresponse()
+    return response.status, json.loads(response.read())
+
+
+def sent(server, text):
+    """All that comes for these bytes, until the server ends the connection, whose end of writing is closed at once. It
+    ends it when it has waited for it: at once where it has one lane, or no connection is to come any more.
+    """
+    with server.connect() as conn:
+        conn.sendall(text)
+        conn.shutdown(socket.SHUT_WR)
+        got = b""
+        while more := conn.recv(65536):
+            got += more
+        return got
+
+
+def request(method, path, body=None, fields=""):
+    length = f"content-length: {len(body)}\r\n" if body is not None else ""
+    return f"{method} {path} HTTP/1.1\r\nhost: x\r\n{length}{fields}\r\n{body or ''}".encode()
+
+
+def response(status, phrase, body):
+    return f"HTTP/1.1 {status} {phrase}\r\ncontent-length: {len(body)}\r\ncontent-type: application/json\r\n\r\n{body}".encode()
+
+
+H1 = {"hostname": "h1"}
+# Each request behind those before it, with its status and some of its reply.
+TALK = [
+    ("POST", "/judgehosts", H1, 200, {"reply": "host", "host": "h1"}),
+    ("POST", "/judgehosts", H1, 409, {"reply": "known"}),
+    ("POST", "/judgehosts/fetch-work", {"hostname": "h2"}, 404, {"reply": "no-host"}),
+    ("POST", "/judgehosts/fetch-work", H1, 200, {"reply": "task", "judging": 1, "test": 1}),
+    ("POST", "/judgehosts/renew", H1 | {"judging": 1, "test": 1}, 200, {"reply": "until"}),
+    ("POST", "/judgehosts/renew", H1 | {"judging": 1, "test": 2}, 409, {"reply": "no-lease"}),
+    ("POST", "/judgehosts/fetch-work", H1 | {"max": 16}, 200, {"reply": "batch", "judging": 1, "tests": [2]}),
+    ("POST", "/judgehosts/fetch-work", H1 | {"max": 17}, 400, {"reply": "bad-body", "why": "bad max"}),
+    ("POST", "/judgehosts/add-judging-run", H1 | {"judging": 1, "test": 1, "result": "correct"}, 200, {"reply": "counted"}),
+    ("POST", "/judgehosts/add-judging-run", H1 | {"judging": 1, "test": 1, "result": "correct"}, 200, {"reply": "repeat"}),
+    ("POST", "/judgehosts/add-judging-run", H1 | {"judging": 9, "test": 1, "result": "correct"}, 404, {"reply": "no-judging"}),
+    ("POST", "/judgehosts/add-judging-run", H1 | {"judging": 1, "test": 3, "result": "correct"}, 404, {"reply": "no-test"}),
+    ("POST", "/judgehosts/add-judging-run", H1 | {"judging": 1, "test": 2, "result": "right"}, 400, {"why": "bad result"}),
+    ("POST", "/judgehosts/add-judging-run", H1 | {"judging": 1}, 400, {"why": "missing test"}),
+    ("GET", "/judgements/1", None, 200, {"reply": "pending"}),
+    ("POST", "/judgehosts/add-judging-run", H1 | {"judging": 1, "test": 2, "result": "wrong-answer"}, 200, {"reply": "counted"}),
+    ("GET", "/judgements/1", None, 200, {"reply": "final", "verdict": "wrong-answer"}),
+    ("GET", "/judgements/1?strict=true", None, 200, {"reply": "final"}),
+    ("GET", "/judgements/9", None, 404, {"reply": "no-judging"}),
+    ("GET", "/judgements/one", None, 404, {"reply": "no-route"}),
+    ("GET", "/judgements/%31", None, 404, {"reply": "no-route"}),
+    ("GET", "/judgements/1/submission", None, 200, {"reply": "owner", "submission": 1}),
+    ("POST", "/judgements/2/ask", {}, 409, {"reply": "already"}),
+    ("POST", "/judgements/1/verify", {"who": "ann"}, 200, {"reply": "verified"}),
+    ("POST", "/judgements/1/verify", {"who": "ann"}, 409, {"reply": "already"}),
+    ("POST", "/judgements/2/verify", {}, 409, {"reply": "not-final"}),
+    ("POST", "/rejudgings", {"submissions": [1]}, 200, {"reply": "rejudging", "number": 1, "first": 3, "last": 3}),
+    ("POST", "/rejudgings", {"submissions": []}, 409, {"reply": "empty-set"}),
+    ("POST", "/rejudgings", {"submissions": [3]}, 404, {"reply": "no-submission"}),
+    ("POST", "/rejudgings", {"submissions": [1, "2"]}, 400, {"why": "bad submissions"}),
+    ("GET", "/rejudgings/1", None, 200, {"reply": "matrix"}),
+    ("GET", "/rejudgings/2", None, 404, {"reply": "no-rejudging"}),
+    ("POST", "/rejudgings/1/apply", {}, 409, {"reply": "unfinished"}),
+    ("POST", "/rejudgings/1/cancel", {"who": "bob"}, 200, {"reply": "cancelled"}),
+    ("POST", "/rejudgings/1/cancel", {"who": "bob"}, 409, {"reply": "closed"}),
+    ("GET", "/audit", None, 200, {"reply": "audit"}),
+    ("GET", "/board", None, 200, {"reply": "board"}),
+    ("DELETE", "/board", None, 405, {"reply": "no-method"}),
+    ("GET", "/boards", None, 404, {"reply": "no-route"}),
+    # a result that differs from one that was counted puts its host down
+    ("POST", "/judgehosts/add-judging-run", H1 | {"judging": 1, "test": 1, "result": "timelimit"}, 409, {"reply": "differs"}),
+    ("POST", "/judgehosts/fetch-work", H1, 404, {"reply": "no-host"}),
+    ("POST", "/judgehosts", H1, 200, {"reply": "host"}),
+    ("POST", "/judgehosts/down", H1, 200, {"reply": "ended"}),
+    ("POST", "/judgehosts/down", H1, 404, {"reply": "no-host"}),
+]
+
+BOARD = request("GET", "/board")
+# The name, the bytes of a whole connection, and how often each status comes.
+BYTES = [
+    ("one request", BOARD, {200: 1}),
+    ("three requests at once", BOARD * 3, {200: 3}),
+    ("empty lines before a request", b"\r\n\r\n" + BOARD, {200: 1}),
+    ("close, in any case", request("GET", "/board", fields="Connection: CLOSE\r\n") + BOARD, {200: 1}),
+    ("version 1.0", b"GET /board HTTP/1.0\r\n\r\n" + BOARD, {200: 1}),
+    ("no head", b"no head at all\r\n\r\n" + BOARD, {400: 1}),
+    ("two lengths", request("POST", "/judgehosts", "{}", "Content-Length: 2\r\n"), {400: 1}),
+    ("a length that is none", b"POST /judgehosts HTTP/1.1\r\ncontent-length: +2\r\n\r\n{}", {400: 1}),
+    ("no length", b"POST /judgehosts HTTP/1.1\r\nhost: x\r\n\r\n", {411: 1}),
+    ("a transfer coding", request("POST", "/judgehosts", "{}", "Transfer-Encoding: chunked\r\n"), {411: 1}),
+    ("64 fields", b"GET /board HTTP/1.1\r\n" + b"a: b\r\n" * 64 + b"\r\n", {200: 1}),
+    ("65 fields", b"GET /board HTTP/1.1\r\n" + b"a: b\r\n" * 65 + b"\r\n", {400: 1}),
+    ("a head of 16,384 bytes", b"GET /board HTTP/1.1\r\na: " + b"b" * (16_384 - 28) + b"\r\n\r\n", {200: 1}),
+    ("a head of 16,385 bytes", b"GET /board HTTP/1.1\r\na: " + b"b" * (16_385 - 28) + b"\r\n\r\n", {431: 1}),
+    ("a body of 32 MiB", request("POST", "/judgehosts", " " * (1 << 25)), {400: 1}),
+    ("a body of a byte more", b"POST /judgehosts HTTP/1.1\r\ncontent-length: 33554433\r\n\r\n", {413: 1}),
+    ("a body that is no JSON", request("POST", "/judgehosts", "{"), {400: 1}),
+    ("an empty body", request("POST", "/judgehosts", ""), {400: 1}),
+    ("a request that is cut", BOARD + BOARD[:-2], {200: 1}),
+]
+
+
+def statuses_in(got):
+    found = {}
+    for status in re.findall(rb"HTTP/1\.1 (\d+) ", got):
+        found[int(status)] = found.get(int(status), 0) + 1
+    return found
+
+
+def talks(program, folder):
+    """Every route, by a client that keeps its connection, and every reply that they have."""
+    with Server(program, folder, connections=1) as server:
+        client = server.client()
+        for method, path, body, status, reply in TALK:
+            got = ask(client, method, path, body)
+            good = got[0] == status and all(got[1].get(key) == value for key, value in reply.items())
+            yield f"{method} {path} {json.dumps(body) if body else ''}: {status} {reply.get('reply', reply.get('why'))}", good, got
+        client.close()
+        got = server.ended()
+        yield "the line of the connection, and the board", got == (0, f"conn 1 requests {len(TALK)} end\n1 wrong-answer\n2 pending\nboard 2\n"), got
+
+
+def whole_connections(program, folder):
+    with Server(program, folder, lanes=1, connections=len(BYTES)) as server:
+        for name, text, statuses in BYTES:
+            got = sent(server, text)
+            yield name, statuses_in(got) == statuses, got[:300]
+        got = server.ended()
+        ends = [line.split(" ")[-1] for line in got[1].splitlines()[:len(BYTES)]]
+        wanted = ["end"] * 3 + ["closed"] * 2 + ["bad-request"] * 5 + ["end", "bad-request"] * 3 + ["end"] * 2 + ["cut"]
+        yield "how each connection ended", got[0] == 0 and ends == wanted, ends
+
+
+def exact_bytes(program, folder):
+    with Server(program, folder, connections=1) as server:
+        got = sent(server, request("GET", "/judgements/2") + request("GET", "/x"))
+        wanted = response(200, "OK", '{"reply":"pending"}') + response(404, "Not Found", '{"reply":"no-route"}')
+        yield "the bytes of two responses", got == wanted, got
+
+
+def page(program):
+    """The requests of the page for those who write a judgehost, with what stands behind each there."""
+    with open(os.path.join(TOP, "examples", "server.md")) as file:
+        lines = [line.strip() for line in file]
+    with Server(program, os.path.join(TOP, "examples", "contest")) as server:
+        for line, wanted in zip(lines, lines[1:]):
+            found = re.fullmatch(r"\$ curl (?:-X (\w+) )?(?:-d '(.*)' )?http://localhost:8080(\S+)", line)
+            if found:
+                client = server.client()
+                method, body, path = found.groups()
+                client.request(method or ("POST" if body else "GET"), path, body)
+                response = client.getresponse()
+                got = f"{response.read().decode()} {response.status}"
+                client.close()
+                same = [re.sub(r'"until":\d+', '"until":0', text) for text in (got, wanted)]
+                yield f"the page: {line[7:]}", same[0] == same[1], got
+
+
+def is_answered(client):
+    begin = time.monotonic()
+    return ask(client, "GET", "/judgements/1") == (200, {"reply": "pending"}) and time.monotonic() - begin < 2
+
+
+def hostile(program, folder):
+    """Clients that hold up their lanes, while the other lane goes on."""
+    with Server(program, folder, lanes=4, connections=1000) as server:
+        other = server.client()
+        yield "a client that keeps its connection", is_answered(other), None
+        slow = server.connect()
+        for byte in BOARD[:-1]:
+            slow.sendall(bytes([byte]))
+        yield "a byte at a time", is_answered(other), None
+        endless = server.connect()
+        endless.sendall(b"GET /board HTTP/1.1\r\n" + b"a: b\r\n" * 50)
+        yield "a head that does not end", is_answered(other), None
+        waiting = server.connect()
+        waiting.sendall(b"POST /judgehosts HTTP/1.1\r\ncontent-length: 33554432\r\n\r\n")
+        yield "a body that does not come", is_answered(other), None
+        for conn, last in [(slow, BOARD[-1:]), (endless, b"\r\n")]:
+            conn.sendall(last)
+            yield "the slow one is answered in the end", statuses_in(conn.recv(4096)) == {200: 1}, None
+            conn.close()
+        waiting.close()
+        other.close()
+        for _ in range(50):
+            with server.connect() as conn:
+                conn.setsockopt(socket.SOL_SOCKET, socket.SO_LINGER, b"\1\0\0\0\0\0\0\0")
+                conn.sendall(BOARD + BOARD[:10])
+        yield "and so is the next behind 50 that are torn off", is_answered(server.client()), None
+    with Server(program, folder, lanes=4, connections=100) as server:
+        silent = [server.connect() for _ in range(100)]
+        with open(f"/proc/{server.process.pid}/status") as file:
+            kib = int(re.search(r"VmRSS:\s+(\d+)", file.read())[1])
+        yield f"100 that say nothing: {kib} KiB", kib < 20_000 and server.process.poll() is None, kib
+        for conn in silent:
+            conn.close()
+        got = server.ended()
+        lines = got[1].splitlines()
+        wanted = [f"conn {n} requests 0 end" for n in range(1, 101)] + ["1 pending", "2 pending", "board 2"]
+        yield "and each has its line", got[0] == 0 and lines == wanted, lines[:3]
+
+
+def lanes(program, folder):
+    """Where all lanes are taken, the next connection waits for the first."""
+    with Server(program, folder, lanes=2, connections=3) as server:
+        first, second, third = server.connect(), server.connect(), server.connect()
+        third.sendall(BOARD)
+        third.settimeout(0.5)
+        try:
+            early = third.recv(4096)
+        except TimeoutError:
+            early = b""
+        second.sendall(BOARD)
+        yield "the second is answered while the first says nothing", statuses_in(second.recv(4096)) == {200: 1}, None
+        yield "the third waits", early == b"", early
+        first.close()
+        third.settimeout(10)
+        yield "until the first has gone", statuses_in(third.recv(4096)) == {200: 1}, None
+        for conn in (second, third):
+            conn.close()
+        yield "three lines and the board", server.ended()[1].count("\n") == 6, None
+
+
+def ends(program, folder):
+    """The ends of the program."""
+    with socket.socket() as taken:
+        taken.bind(("", 0))
+        taken.listen()
+        port = taken.getsockname()[1]
+        with Server(program, folder, port=port) as server:
+            got = server.ended()
+            yield "8: a port that is taken", got == (8, "") and str(port) in server.said, (got, server.said)
+    with Server(program, os.path.join(folder, "none")) as server:
+        got = server.ended()
+        yield "3: no contest", got == (3, "bad contest: no submissions.txt\n"), got
+    with open("/dev/full", "wb") as full, Server(program, folder, lanes=1, connections=2, stdout=full) as server:
+        sent(server, BOARD)
+        got = server.process.wait(timeout=20)
+        yield "5: a full device", got == 5, got
+    with Server(program, folder, connections=3) as server:
+        client = server.client()
+        for _ in range(2000):
+            ask(client, "GET", "/judgements/1")
+        server.process.send_signal(signal.SIGTERM)
+        yield "an end from outside", server.process.wait(timeout=10) == -signal.SIGTERM, None
+
+
+def main():
+    program, _ = program_and_numbers(sys.argv[1:])
+    sound = True
+    with tempfile.TemporaryDirectory() as folder:
+        write(folder, FILES)
+        looks = [look(program, folder) for look in (talks, whole_connections, exact_bytes, hostile, lanes, ends)]
+        for some in [*looks, page(program)]:
+            for name, good, got in some:
+                print(f"{'ok  ' if good else 'NOT '} {name}{'' if good else f': {got!r}'}")
+                sound = sound and good
+    return 0 if sound else 1
+
+
+if __name__ == "__main__":
+    sys.exit(main())
