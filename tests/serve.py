@@ -211,6 +211,66 @@ def exact_bytes(program, folder):
         yield "the bytes of two responses", got == wanted, got
 
 
+HOST, OTHER = '{"hostname":"h1"}', '{"hostname":"h2"}'
+RUN = '{"hostname":"%s","judging":1,"test":1,"result":"%s"}'
+# What two connections say, request by request, and what each is answered, where the time is left out.
+ANSWERED = [
+    ("one host that says its result twice", [
+        (request("POST", "/judgehosts", HOST), response(200, "OK", '{"host":"h1","reply":"host"}')),
+        (request("POST", "/judgehosts/fetch-work", HOST), response(200, "OK", '{"judging":1,"reply":"task","test":1,"until":0}')),
+        (request("POST", "/judgehosts/add-judging-run", RUN % ("h1", "correct")), response(200, "OK", '{"reply":"counted"}')),
+        (request("POST", "/judgehosts/add-judging-run", RUN % ("h1", "correct")),
+         response(200, "OK", '{"kept":"correct","reply":"repeat"}')),
+    ]),
+    ("two hosts that disagree", [
+        (request("POST", "/judgehosts", HOST), response(200, "OK", '{"host":"h1","reply":"host"}')),
+        (request("POST", "/judgehosts", OTHER), response(200, "OK", '{"host":"h2","reply":"host"}')),
+        (request("POST", "/judgehosts/fetch-work", HOST), response(200, "OK", '{"judging":1,"reply":"task","test":1,"until":0}')),
+        (request("POST", "/judgehosts/add-judging-run", RUN % ("h1", "correct")), response(200, "OK", '{"reply":"counted"}')),
+        (request("POST", "/judgehosts/add-judging-run", RUN % ("h2", "wrong-answer")),
+         response(409, "Conflict", '{"given":"wrong-answer","kept":"correct","reply":"differs"}')),
+        (request("POST", "/judgehosts/fetch-work", OTHER), response(404, "Not Found", '{"name":"h2","reply":"no-host"}')),
+        (request("POST", "/judgehosts", OTHER), response(200, "OK", '{"host":"h2","reply":"host"}')),
+    ]),
+]
+ONE_TEST = {
+    "problems/echo/problem.yaml": "",
+    "problems/echo/data/secret/01.in": "7\n",
+    "problems/echo/data/secret/01.ans": "7\n",
+    "submissions/a.rv32": "\x13\0\0\0",
+    "submissions.txt": "1 alpha echo a.rv32\n",
+}
+
+
+def without_time(got):
+    """The same bytes with 0 in place of the end of a lease, and the length of the body as it then is."""
+    got = re.sub(rb'"until":\d+', b'"until":0', got)
+    return re.sub(rb"content-length: \d+(\r\n[^{]*)(\{[^}]*until[^}]*\})",
+                  lambda found: b"content-length: %d" % len(found[2]) + found[1] + found[2], got)
+
+
+def cut_anywhere(program, _):
+    """Conversations of which the client sends the first bytes alone, up to each place: whole requests are answered, and
+    one that is cut makes no event."""
+    with tempfile.TemporaryDirectory() as folder:
+        write(folder, ONE_TEST)
+        for name, talk in ANSWERED:
+            whole = b"".join(asked for asked, _ in talk)
+            ends = [sum(len(asked) for asked, _ in talk[:count]) for count in range(len(talk) + 1)]
+            wrong = []
+            for place in range(len(whole) + 1):
+                count = sum(end <= place for end in ends) - 1
+                with Server(program, folder, lanes=1, connections=1) as server:
+                    got = without_time(sent(server, whole[:place]))
+                    end = server.ended()
+                wanted = b"".join(answer for _, answer in talk[:count])
+                verdict = "correct" if b'"counted"' in wanted else "pending"
+                line = f"conn 1 requests {count} {'end' if place in ends else 'cut'}"
+                if got != wanted or end != (0, f"{line}\n1 {verdict}\nboard 1\n"):
+                    wrong.append((place, got, end))
+            yield f"{name}, cut at each of {len(whole) + 1} places", not wrong, wrong[:2]
+
+
 def page(program):
     """The requests of the page for those who write a judgehost, with what stands behind each there."""
     with open(os.path.join(TOP, "examples", "server.md")) as file:
@@ -323,7 +383,7 @@ def main():
     sound = True
     with tempfile.TemporaryDirectory() as folder:
         write(folder, FILES)
-        looks = [look(program, folder) for look in (talks, whole_connections, exact_bytes, hostile, lanes, ends)]
+        looks = [look(program, folder) for look in (talks, whole_connections, exact_bytes, cut_anywhere, hostile, lanes, ends)]
         for some in [*looks, page(program)]:
             for name, good, got in some:
                 print(f"{'ok  ' if good else 'NOT '} {name}{'' if good else f': {got!r}'}")

@@ -10,6 +10,8 @@ mod ends;
 mod lanes;
 mod lines;
 #[cfg(test)]
+mod loopback_tests;
+#[cfg(test)]
 mod meeting_tests;
 mod serving;
 #[cfg(test)]
