@@ -5,8 +5,6 @@
 mod chain;
 mod checking;
 mod log;
-#[cfg(test)]
-mod tests;
 
 pub use checking::check;
 pub use log::{Audit, Entry};

@@ -6,8 +6,6 @@ mod case;
 mod image;
 mod laws;
 mod running;
-#[cfg(test)]
-mod tests;
 
 pub use case::{Case, Cases, Check};
 pub use image::image_ok;

@@ -8,8 +8,6 @@ mod made_size;
 mod parsing;
 mod reading;
 mod serving;
-#[cfg(test)]
-mod tests;
 mod words;
 mod worked;
 

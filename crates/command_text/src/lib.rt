@@ -12,8 +12,6 @@ mod numbers;
 mod replies;
 mod rows;
 mod tables;
-#[cfg(test)]
-mod tests;
 mod texts;
 mod words;
 

@@ -10,8 +10,6 @@ mod lines;
 mod problems;
 mod reading;
 mod roster;
-#[cfg(test)]
-mod tests;
 mod texts;
 mod worked;
 

@@ -9,13 +9,7 @@ mod contest;
 mod ends;
 mod lanes;
 mod lines;
-#[cfg(test)]
-mod loopback_tests;
-#[cfg(test)]
-mod meeting_tests;
 mod serving;
-#[cfg(test)]
-mod tests;
 
 pub use contest::serve_contest;
 pub use ends::ServeEnd;

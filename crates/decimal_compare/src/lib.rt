@@ -7,8 +7,6 @@ mod amount;
 mod numeral;
 mod parts;
 mod size;
-#[cfg(test)]
-mod tests;
 mod token;
 mod tolerance;
 

@@ -9,8 +9,6 @@
 mod agreement;
 mod cuts;
 mod flags;
-#[cfg(test)]
-mod tests;
 mod walk;
 
 pub use flags::{FlagFault, Flags};

@@ -7,8 +7,6 @@ mod fault;
 mod fields;
 mod laws;
 mod segment;
-#[cfg(test)]
-mod tests;
 mod worked;
 
 pub use elf::{Elf, read_elf};

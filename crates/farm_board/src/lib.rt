@@ -9,8 +9,6 @@ mod copies;
 mod entries;
 mod local_bench;
 mod rule;
-#[cfg(test)]
-mod tests;
 mod trust;
 mod turn;
 mod view;

@@ -5,19 +5,9 @@ mod config;
 mod exit;
 mod journal;
 mod judging;
-#[cfg(test)]
-mod judging_tests;
 mod making;
-#[cfg(test)]
-mod rejudging_rows;
-#[cfg(test)]
-mod script_rows;
 mod serving;
-#[cfg(test)]
-mod serving_tests;
 mod summary;
-#[cfg(test)]
-mod tests;
 mod top;
 
 pub use exit::Exit;

@@ -10,8 +10,6 @@ mod modes;
 mod names;
 mod places;
 mod replies;
-#[cfg(test)]
-mod tests;
 
 pub use farm::Farm;
 pub use modes::is_asked_for;

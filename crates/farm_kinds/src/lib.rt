@@ -10,8 +10,6 @@ mod lists;
 mod names;
 mod outcomes;
 mod rules;
-#[cfg(test)]
-mod tests;
 mod worked;
 
 pub use events::{Event, LineFault, Reply};

@@ -7,8 +7,6 @@ mod modes;
 mod reading;
 mod rules;
 mod settings;
-#[cfg(test)]
-mod tests;
 mod values;
 mod worked;
 

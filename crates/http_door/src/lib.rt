@@ -16,8 +16,6 @@ mod laws;
 mod reader;
 mod refusals;
 mod responses;
-#[cfg(test)]
-mod tests;
 mod window;
 mod worked;
 

@@ -6,18 +6,12 @@
 
 mod answering;
 mod asking;
-#[cfg(test)]
-mod board_tests;
 mod calling;
 mod ends;
 mod paths;
 mod replier;
 mod routes;
 mod serving;
-#[cfg(test)]
-mod serving_tests;
-#[cfg(test)]
-mod tests;
 mod worked;
 
 pub use answering::{answer_fault, answer_reply, status_of};

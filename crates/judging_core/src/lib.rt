@@ -13,7 +13,5 @@ mod listing;
 mod marks;
 mod open;
 mod prepared;
-#[cfg(test)]
-mod tests;
 
 pub use judge::Judge;

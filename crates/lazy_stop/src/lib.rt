@@ -13,8 +13,6 @@ mod cells;
 mod extremes;
 mod laws;
 mod row;
-#[cfg(test)]
-mod tests;
 
 pub use laws::{
     completions_are_all, filling_keeps_final, filling_keeps_settled, final_iff_settled,

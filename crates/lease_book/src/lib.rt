@@ -3,8 +3,6 @@
 
 mod book;
 mod change;
-#[cfg(test)]
-mod tests;
 
 pub use book::LeaseBook;
 pub use farm_model::Lease;

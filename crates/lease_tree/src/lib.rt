@@ -7,8 +7,6 @@ mod change;
 mod keys;
 mod lookup;
 mod node;
-#[cfg(test)]
-mod tests;
 mod tree;
 
 pub use keys::{Key, Order};

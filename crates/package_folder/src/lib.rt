@@ -8,8 +8,6 @@ mod order;
 mod package;
 mod reading;
 mod stems;
-#[cfg(test)]
-mod tests;
 mod walk;
 mod worked;
 

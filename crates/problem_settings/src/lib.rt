@@ -13,8 +13,6 @@ mod run_limits;
 mod said;
 mod scalars;
 mod sizes;
-#[cfg(test)]
-mod tests;
 mod values;
 mod words;
 mod worked;

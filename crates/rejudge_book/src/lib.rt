@@ -6,8 +6,6 @@ mod book;
 mod faults;
 mod lists;
 mod matrices;
-#[cfg(test)]
-mod tests;
 
 pub use book::RejudgeBook;
 pub use faults::{BookFault, CloseFault};

@@ -8,8 +8,6 @@ mod laws;
 mod machine;
 mod processor;
 mod running;
-#[cfg(test)]
-mod tests;
 
 pub use ending::{Ending, Trap};
 pub use files::{Extra, Files};

@@ -6,7 +6,5 @@ mod index;
 mod memory;
 mod page;
 mod recent;
-#[cfg(test)]
-mod tests;
 
 pub use memory::{MemFault, Memory};

@@ -6,8 +6,6 @@ mod bits;
 mod classes;
 mod numbers;
 mod steps;
-#[cfg(test)]
-mod tests;
 mod tree;
 mod words;
 

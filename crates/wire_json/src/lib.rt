@@ -9,8 +9,6 @@ mod reading;
 mod replies;
 mod routes;
 mod rows;
-#[cfg(test)]
-mod tests;
 mod worked;
 
 pub use bodies::Body;

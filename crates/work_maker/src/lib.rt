@@ -9,8 +9,6 @@ mod files;
 mod making;
 mod programs;
 mod submission;
-#[cfg(test)]
-mod tests;
 mod worked;
 
 pub use making::{FOLDER, make_contest, make_files};

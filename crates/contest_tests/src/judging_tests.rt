@@ -1,0 +1,487 @@
+ghost use Rattle.std.specs.Prelude.{true};
+
+use crate::farm_cli_tests::{end_of, words};
+use farm_cli::Exit;
+use farm_io::{ReliableSink, ReliableSource, Sink};
+use farm_kinds::Text;
+use farm_tree::{MemoryTree, ReliableTree, Tree, TreeFile, TreeFiles};
+use judgehost::{AlwaysOn, Gate, Go, Point};
+use std::alloc::{AllocError, Global};
+use std::sync::{Mutex, Wait};
+use std::test::Fail;
+use std::thread::Threads;
+use std::{str, thread};
+
+/// How many bytes a sink of these tests holds.
+const ROOM: usize = 8192;
+
+/// The files of a contest, a line each: the path, and behind `|` what the file holds, in which `~` is a line feed, or
+/// behind `#` its bytes in hexadecimal digits. Its programs copy their input (1, 5), write nothing (2), run for ever
+/// (3), are no image (4), and write `9` (6) and `3` (7).
+const CONTEST: &str = concat!(
+    "c/problems/echo/problem.yaml|name: Echo~validator_flags: float_tolerance 1e-6~\n",
+    "c/problems/echo/domjudge-problem.ini|timelimit='0.01'~\n",
+    "c/problems/echo/data/sample/1.in|3.14~\n",
+    "c/problems/echo/data/sample/1.ans|3.14~\n",
+    "c/problems/echo/data/secret/01.in|7~\n",
+    "c/problems/echo/data/secret/01.ans|7~\n",
+    "c/problems/guess/problem.yaml|validation: custom~\n",
+    "c/problems/guess/domjudge-problem.ini|timelimit='0.01'~\n",
+    "c/problems/guess/output_validators/guess.rv32|#b705020013050000130610009308f0037300000083c6050013051000130740036394e6001305a002130730036394e6001305b0029308d00573000000\n",
+    "c/problems/guess/data/sample/1.in|4~\n",
+    "c/problems/guess/data/sample/1.ans|4~\n",
+    "c/problems/guess/data/secret/01.in|4~\n",
+    "c/problems/guess/data/secret/01.ans|4~\n",
+    "c/submissions.txt|1 alpha echo 1.rv32~2 beta echo 2.rv32~3 gamma echo 3.rv32~4 delta echo 4.rv32~5 alpha guess 5.rv32~6 beta guess 6.rv32~7 gamma guess 7.rv32~\n",
+    "c/submissions/1.rv32|#b705020013050000130600049308f0037300000013060500130510009308000473000000130500009308d00573000000\n",
+    "c/submissions/2.rv32|#130500009308d00573000000\n",
+    "c/submissions/3.rv32|#6f000000\n",
+    "c/submissions/4.rv32|#000000\n",
+    "c/submissions/5.rv32|#b705020013050000130600049308f0037300000013060500130510009308000473000000130500009308d00573000000\n",
+    "c/submissions/6.rv32|#b7050200130690032380c50013051000130610009308000473000000130500009308d00573000000\n",
+    "c/submissions/7.rv32|#b7050200130630032380c50013051000130610009308000473000000130500009308d00573000000\n",
+);
+
+/// What is written for it.
+const TABLE: &str = concat!(
+    "1 alpha echo correct\n",
+    "2 beta echo no-output\n",
+    "3 gamma echo timelimit\n",
+    "4 delta echo compiler-error\n",
+    "5 alpha guess correct\n",
+    "6 beta guess judging-error\n",
+    "7 gamma guess wrong-answer\n",
+);
+
+/// A contest of one test, whose program copies its input.
+const ONE_TEST: &str = concat!(
+    "c/problems/echo/problem.yaml|\n",
+    "c/problems/echo/data/secret/01.in|7~\n",
+    "c/problems/echo/data/secret/01.ans|7~\n",
+    "c/submissions.txt|1 alpha echo 1.rv32~\n",
+    "c/submissions/1.rv32|#b705020013050000130600049308f0037300000013060500130510009308000473000000130500009308d00573000000\n",
+);
+
+/// What is written for it, with its journal.
+const ONE_TEST_JOURNAL: &str = concat!(
+    "1 alpha echo correct\n",
+    "journal 0 problem echo 1 => problem echo version 1\n",
+    "journal 0 submit echo => submission 1 judging 1\n",
+    "journal 0 host h0 => host h0\n",
+    "journal 0 claim h0 => task 1 1 until 60\n",
+    "journal 0 result h0 1 1 correct => counted\n",
+    "journal 0 claim h0 => nothing\n",
+    "journal 0 show 1 => final correct\n",
+);
+
+/// A contest of three tests, whose program exits with 1.
+const FAILING: &str = concat!(
+    "c/problems/echo/problem.yaml|\n",
+    "c/problems/echo/data/secret/01.in|1~\n",
+    "c/problems/echo/data/secret/01.ans|1~\n",
+    "c/problems/echo/data/secret/02.in|2~\n",
+    "c/problems/echo/data/secret/02.ans|2~\n",
+    "c/problems/echo/data/secret/03.in|3~\n",
+    "c/problems/echo/data/secret/03.ans|3~\n",
+    "c/submissions.txt|1 alpha echo 1.rv32~\n",
+    "c/submissions/1.rv32|#130510009308d00573000000\n",
+);
+
+/// What to change in the first contest's files, and what is then written: `PATH=CONTENT` for a file that holds this, and `PATH` alone
+/// for one that is left out.
+const ROWS: &str = concat!(
+    " => 1 alpha echo correct~2 beta echo no-output~3 gamma echo timelimit~4 delta echo compiler-error~5 alpha guess correct~6 beta guess judging-error~7 gamma guess wrong-answer~\n",
+    "c/problems/echo/problem.yaml => bad contest: problem echo: no problem.yaml~\n",
+    "c/submissions/4.rv32=#7f454c460101010000000000000000000200f300010000005400010034000000000000000000000034002000010028000000000001000000540000005400010000000000080000001000000005000000040000009308d00573000000 => 1 alpha echo correct~2 beta echo no-output~3 gamma echo timelimit~4 delta echo no-output~5 alpha guess correct~6 beta guess judging-error~7 gamma guess wrong-answer~\n",
+    "c/submissions/4.rv32=#7f454c460101010000000000000000000200f300010000005600010034000000000000000000000034002000010028000000000001000000540000005400010000000000080000001000000005000000040000009308d00573000000 => 1 alpha echo correct~2 beta echo no-output~3 gamma echo timelimit~4 delta echo compiler-error~5 alpha guess correct~6 beta guess judging-error~7 gamma guess wrong-answer~\n",
+    "c/submissions/4.rv32=#7f454c460101010000000000000000000200f300010000005400010034000000000000000000000034002000000028000000000001000000540000005400010000000000080000001000000005000000040000009308d00573000000 => 1 alpha echo correct~2 beta echo no-output~3 gamma echo timelimit~4 delta echo compiler-error~5 alpha guess correct~6 beta guess judging-error~7 gamma guess wrong-answer~\n",
+    "c/submissions/4.rv32=#7f454c460101010000000000000000000200f30001000000540001003400000000000000000000003400200001002800000000000100000054000000 => 1 alpha echo correct~2 beta echo no-output~3 gamma echo timelimit~4 delta echo compiler-error~5 alpha guess correct~6 beta guess judging-error~7 gamma guess wrong-answer~\n",
+    "c/submissions/4.rv32=#7f454c460101010000000000000000000200f300010000005400010034000000000000000000000034002000010028000000000001000000540000005400010000000000080000001000000005000000040000009308d0057300 => 1 alpha echo correct~2 beta echo no-output~3 gamma echo timelimit~4 delta echo compiler-error~5 alpha guess correct~6 beta guess judging-error~7 gamma guess wrong-answer~\n",
+    "c/submissions/7.rv32 => bad contest: line 7: no image~\n",
+    "c/submissions.txt => bad contest: no submissions.txt~\n",
+    "c/submissions.txt= => \n",
+    "c/farm.json={\"lease\":0} => bad contest: farm.json: bad value lease~\n",
+    "c/farm.json={\"lazy_eval_results\":false} => 1 alpha echo correct~2 beta echo no-output~3 gamma echo timelimit~4 delta echo compiler-error~5 alpha guess correct~6 beta guess judging-error~7 gamma guess wrong-answer~\n",
+    "c/farm.json={\"results_remap\":{\"timelimit\":\"run-error\"}} => 1 alpha echo correct~2 beta echo no-output~3 gamma echo run-error~4 delta echo compiler-error~5 alpha guess correct~6 beta guess judging-error~7 gamma guess wrong-answer~\n",
+);
+
+/// The bytes of a file's content.
+fn bytes_of(alloc: Global, content: &str) -> Result<Vec<u8>, AllocError> {
+    match content.strip_prefix("#") {
+        Some(digits) => bytes_of_digits(alloc, digits.as_bytes()),
+        None => Ok(content.replace(alloc, '~', "\n")?.into_bytes()),
+    }
+}
+
+fn bytes_of_digits(alloc: Global, digits: &[u8]) -> Result<Vec<u8>, AllocError> {
+    let mut bytes = Vec::new(alloc);
+    for pair in digits.chunks(2) {
+        let byte = pair.iter().fold(
+            0u8,
+            |value, digit| value.wrapping_mul(16).wrapping_add(value_of(*digit)),
+        );
+        bytes.push(byte)?;
+    }
+    Ok(bytes)
+}
+
+fn value_of(digit: u8) -> u8 {
+    if digit < b'a' {
+        digit.wrapping_sub(b'0')
+    } else {
+        digit.wrapping_sub(b'a' - 10)
+    }
+}
+
+/// The path of a change.
+fn path_of(change: &str) -> &str {
+    match change.split_once('=') {
+        Some((path, _)) => path,
+        None => change,
+    }
+}
+
+/// A contest's files with these changes.
+fn files_of(alloc: Global, contest: &str, change: &str) -> Result<TreeFiles, Fail> {
+    let mut files = TreeFiles::new(alloc);
+    for line in contest.lines() {
+        if let Some((path, content)) = line.split_once('|') {
+            if path != path_of(change) {
+                put(alloc, &mut files, path, content)?;
+            }
+        }
+    }
+    if let Some((path, content)) = change.split_once('=') {
+        put(alloc, &mut files, path, content)?;
+    }
+    Ok(files)
+}
+
+fn put(alloc: Global, files: &mut TreeFiles, path: &str, content: &str) -> Result<(), Fail> {
+    if path.len() <= 4096 {
+        let bytes = Text::from_vec(bytes_of(alloc, content)?);
+        files.push(TreeFile::new(String::from_str(alloc, path)?, bytes))?;
+    }
+    Ok(())
+}
+
+/// A point of a turn of a host.
+type Moment = (u32, Point, u64);
+
+/// Lets a host die at one moment, or none.
+#[derive(Clone, Copy)]
+struct DeathGate {
+    death: Option<Moment>,
+}
+
+impl Gate for DeathGate {
+    ghost may_answer = { λ gate host point turn go. true };
+
+    fn pass(&self, host: u32, point: Point, turn: u64) -> Go {
+        if self.death == Some((host, point, turn)) {
+            Go::Die
+        } else {
+            Go::On
+        }
+    }
+}
+
+/// Lets every host go on, and writes down when it is asked.
+#[derive(Drop)]
+struct RecordingGate<'a, R: Wait> {
+    rt: &'a R,
+    moments: Mutex<Vec<Moment>>,
+}
+
+impl<'a, R: Wait> Gate for RecordingGate<'a, R> {
+    ghost may_answer = { λ gate host point turn go. true };
+
+    fn pass(&self, host: u32, point: Point, turn: u64) -> Go {
+        // A test whose list has no room fails, since a moment is missing.
+        let _room = self.moments.lock(self.rt).push((host, point, turn));
+        Go::On
+    }
+}
+
+/// How often a gate looks whether another host has come.
+const LOOKS: u64 = 10_000_000;
+
+/// What is known of two hosts that wait for each other.
+#[derive(Drop)]
+struct Meeting {
+    one_came: bool,
+    two_came: bool,
+    gave_up: bool,
+}
+
+/// Holds hosts 1 and 2, each before its first post, until the other has claimed a task.
+#[derive(Drop)]
+struct MeetingGate<'a, R: Wait> {
+    rt: &'a R,
+    meeting: Mutex<Meeting>,
+}
+
+impl<'a, R: Wait> MeetingGate<'a, R> {
+    fn come(&self, host: u32) {
+        let mut meeting = self.meeting.lock(self.rt);
+        meeting.one_came |= host == 1;
+        meeting.two_came |= host == 2;
+    }
+
+    fn has_met(&self, host: u32) -> bool {
+        let meeting = self.meeting.lock(self.rt);
+        if host == 1 {
+            meeting.two_came
+        } else {
+            meeting.one_came
+        }
+    }
+
+    fn wait_for_other(&self, host: u32) {
+        for _ in 0..LOOKS {
+            if self.has_met(host) {
+                return;
+            }
+            thread::yield_now();
+        }
+        self.meeting.lock(self.rt).gave_up = true;
+    }
+}
+
+impl<'a, R: Wait> Gate for MeetingGate<'a, R> {
+    ghost may_answer = { λ gate host point turn go. true };
+
+    fn pass(&self, host: u32, point: Point, turn: u64) -> Go {
+        if turn == 1 {
+            match point {
+                Point::AfterClaim => self.come(host),
+                Point::BeforePost => self.wait_for_other(host),
+                Point::AfterPost => (),
+            }
+        }
+        Go::On
+    }
+}
+
+/// Lets hosts die, each at the first of its moments that the seed picks out.
+#[derive(Clone, Copy)]
+struct SeededGate {
+    seed: u64,
+}
+
+impl Gate for SeededGate {
+    ghost may_answer = { λ gate host point turn go. true };
+
+    fn pass(&self, host: u32, point: Point, turn: u64) -> Go {
+        let point = match point {
+            Point::AfterClaim => 0,
+            Point::BeforePost => 1,
+            Point::AfterPost => 2,
+        };
+        let moment = self
+            .seed
+            .wrapping_mul(1_000_003)
+            .wrapping_add(host as u64 * 101 + point)
+            .wrapping_add(turn.wrapping_mul(7));
+        let drawn = moment.wrapping_mul(6_364_136_223_846_793_005) >> 60;
+        if drawn < 2 { Go::Die } else { Go::On }
+    }
+}
+
+/// How `farm judge c` ends with these options, which writes to `out`.
+fn judge<T: Tree, K: Sink, G: Gate + Sync>(
+    rt: &(impl Threads + Wait + Sync),
+    alloc: Global,
+    options: &[&str],
+    tree: &mut T,
+    out: &mut K,
+    gate: &G,
+) -> Result<Exit, AllocError> {
+    let mut words = words(alloc, &["farm", "judge", "c"])?;
+    for option in options {
+        words.push(String::from_str(alloc, option)?)?;
+    }
+    let mut input = ReliableSource::new(Vec::new(alloc));
+    end_of(rt, alloc, words.as_slice(), tree, &mut input, out, gate)
+}
+
+/// What `farm judge c` writes with these options over a contest's files, and how it ends.
+fn judged<G: Gate + Sync>(
+    rt: &(impl Threads + Wait + Sync),
+    alloc: Global,
+    options: &[&str],
+    files: TreeFiles,
+    gate: &G,
+) -> Result<(Exit, ReliableSink), AllocError> {
+    let mut tree = ReliableTree::new(alloc, files);
+    let mut out = ReliableSink::new(Vec::with_capacity(alloc, ROOM)?);
+    let exit = judge(rt, alloc, options, &mut tree, &mut out, gate)?;
+    Ok((exit, out))
+}
+
+#[test]
+fn a_realistic_contest_and_what_may_be_wrong_with_it(rt: HostRuntime) -> Result<(), Fail> {
+    let alloc = rt.alloc();
+    for row in ROWS.lines() {
+        if let Some((change, text)) = row.split_once(" => ") {
+            let files = files_of(alloc, CONTEST, change)?;
+            let (exit, out) = judged(&rt, alloc, &["--hosts", "1"], files, &AlwaysOn)?;
+            let expected = text.replace(alloc, '~', "\n")?;
+            assert_eq!(rt; out.bytes(), expected.as_bytes(), "{change}");
+            assert_eq!(rt;
+                exit == Exit::BadContest,
+                text.starts_with("bad contest"),
+                "{change}"
+            );
+            assert!(rt; exit == Exit::BadContest || exit == Exit::Done, "{change}");
+        }
+    }
+    Ok(())
+}
+
+/// The realistic contest is judged the same whatever the number of its hosts, and where host 1 dies after its first
+/// claim. Where none dies, the caller finds nothing to do.
+#[test]
+fn hosts_at_work(rt: HostRuntime) -> Result<(), Fail> {
+    let alloc = rt.alloc();
+    let first_claim = Some((1, Point::AfterClaim, 1));
+    for hosts in ["0", "1", "4"] {
+        for death in [None, first_claim] {
+            let gate = DeathGate { death };
+            let (exit, out) = judged(
+                &rt,
+                alloc,
+                &["--hosts", hosts],
+                files_of(alloc, CONTEST, "")?,
+                &gate,
+            )?;
+            assert_eq!(rt; exit, Exit::Done, "{hosts}");
+            assert_eq!(rt; out.bytes(), TABLE.as_bytes(), "{hosts}");
+            let (_, out) = judged(
+                &rt,
+                alloc,
+                &["--journal", "--hosts", hosts],
+                files_of(alloc, CONTEST, "")?,
+                &gate,
+            )?;
+            assert!(rt; out.bytes().starts_with(TABLE.as_bytes()), "{hosts}");
+            if death.is_none() && hosts != "0" {
+                let journal = str::from_utf8(out.bytes()).map_err(|_| "no text")?;
+                assert_eq!(rt; journal.matches("claim h0").count(), 1, "{hosts}");
+                assert!(rt;
+                    journal.contains("\njournal 0 claim h0 => nothing\n"),
+                    "{hosts}"
+                );
+            }
+        }
+    }
+    Ok(())
+}
+
+#[test]
+fn deaths_at_each_moment(rt: HostRuntime) -> Result<(), Fail> {
+    let alloc = rt.alloc();
+    for host in 1..=3u32 {
+        for point in [Point::AfterClaim, Point::BeforePost, Point::AfterPost] {
+            for turn in 1..=4u64 {
+                let gate = DeathGate {
+                    death: Some((host, point, turn)),
+                };
+                let files = files_of(alloc, CONTEST, "")?;
+                let (exit, out) = judged(&rt, alloc, &["--hosts", "3"], files, &gate)?;
+                assert_eq!(rt; exit, Exit::Done, "{host} {point:?} {turn}");
+                assert_eq!(rt; out.bytes(), TABLE.as_bytes(), "{host} {point:?} {turn}");
+            }
+        }
+    }
+    Ok(())
+}
+
+#[test]
+fn a_journal_of_one_test(rt: HostRuntime) -> Result<(), Fail> {
+    let alloc = rt.alloc();
+    let files = files_of(alloc, ONE_TEST, "")?;
+    let (exit, out) = judged(&rt, alloc, &["--hosts", "0", "--journal"], files, &AlwaysOn)?;
+    assert_eq!(rt; exit, Exit::Done);
+    assert_eq!(rt; out.bytes(), ONE_TEST_JOURNAL.as_bytes());
+    Ok(())
+}
+
+/// After a run error on the first test no other test can matter.
+#[test]
+fn a_host_runs_one_of_three_tests(rt: HostRuntime) -> Result<(), Fail> {
+    let alloc = rt.alloc();
+    let files = files_of(alloc, FAILING, "")?;
+    let gate = RecordingGate {
+        rt: &rt,
+        moments: Mutex::new(Vec::new(alloc)),
+    };
+    let (exit, out) = judged(&rt, alloc, &["--hosts", "1"], files, &gate)?;
+    assert_eq!(rt; exit, Exit::Done);
+    assert_eq!(rt; out.bytes(), b"1 alpha echo run-error\n".as_slice());
+    let expected = [
+        (1, Point::AfterClaim, 1),
+        (1, Point::BeforePost, 1),
+        (1, Point::AfterPost, 1),
+    ];
+    assert_eq!(rt; gate.moments.into_inner().as_slice(), expected.as_slice());
+    Ok(())
+}
+
+/// Two hosts work at the same time: neither posts its first result before the other has claimed a task.
+#[test]
+fn two_hosts_at_once(rt: HostRuntime) -> Result<(), Fail> {
+    let alloc = rt.alloc();
+    let gate = MeetingGate {
+        rt: &rt,
+        meeting: Mutex::new(Meeting {
+            one_came: false,
+            two_came: false,
+            gave_up: false,
+        }),
+    };
+    let files = files_of(alloc, CONTEST, "")?;
+    let (exit, out) = judged(&rt, alloc, &["--hosts", "2"], files, &gate)?;
+    assert_eq!(rt; exit, Exit::Done);
+    assert_eq!(rt; out.bytes(), TABLE.as_bytes());
+    let meeting = gate.meeting.into_inner();
+    assert!(rt; meeting.one_came);
+    assert!(rt; meeting.two_came);
+    assert!(rt; !meeting.gave_up);
+    Ok(())
+}
+
+/// Contests of 1 to 16 hosts, which die at moments that are drawn.
+#[test]
+fn deaths_at_random(rt: HostRuntime) -> Result<(), Fail> {
+    let alloc = rt.alloc();
+    for seed in 0..64u64 {
+        let hosts = seed % 16 + 1;
+        let count = format!(in alloc; "{hosts}")?;
+        let files = files_of(alloc, CONTEST, "")?;
+        let gate = SeededGate { seed };
+        let (exit, out) = judged(&rt, alloc, &["--hosts", count.as_str()], files, &gate)?;
+        assert_eq!(rt; exit, Exit::Done, "{seed}");
+        assert_eq!(rt; out.bytes(), TABLE.as_bytes(), "{seed}");
+    }
+    Ok(())
+}
+
+#[test]
+fn a_tree_whose_first_read_fails(rt: HostRuntime) -> Result<(), Fail> {
+    let alloc = rt.alloc();
+    let files = files_of(alloc, CONTEST, "")?;
+    let mut tree = MemoryTree::new(alloc, files, [0].to_vec(alloc)?);
+    let mut out = ReliableSink::new(Vec::with_capacity(alloc, ROOM)?);
+    let exit = judge(
+        &rt,
+        alloc,
+        &["--hosts", "0"],
+        &mut tree,
+        &mut out,
+        &AlwaysOn,
+    )?;
+    assert_eq!(rt; exit, Exit::TreeFault);
+    assert!(rt; out.bytes().is_empty());
+    Ok(())
+}

@@ -1,0 +1,96 @@
+ghost use Rattle.std.specs.Prelude.{◌≡◌, ◌≤◌, [], IfOk};
+ghost use Rattle.farm_io.specs.MemoryDoors.{IsReliableNew};
+
+use crate::farm_cli_tests::{tree_of, words};
+use farm_cli::{Exit, farm_main};
+use farm_io::{
+    Connection, Door, FixedClock, MemoryDoor, ReliableConn, ReliableDoor, ReliableSink,
+    ReliableSource,
+};
+use judgehost::AlwaysOn;
+use parallel_judge::Silent;
+use std::alloc::{AllocError, Global};
+use std::sync::Wait;
+use std::test::Fail;
+use std::thread::Threads;
+
+/// How many bytes a sink of these tests holds.
+const ROOM: usize = 2000;
+
+const SERVE: [&str; 9] = [
+    "farm",
+    "serve",
+    "c",
+    "--port",
+    "0",
+    "--lanes",
+    "2",
+    "--connections",
+    "1",
+];
+
+/// A connection that asks for the board and has room for the response.
+fn conn(alloc: Global) -> Result<ReliableConn, AllocError>
+    ensures { IfOk result IsReliableNew }
+{
+    let bytes = b"GET /board HTTP/1.1\r\nhost: x\r\n\r\n".to_vec(alloc)?;
+    let sink = ReliableSink::new(Vec::with_capacity(alloc, ROOM)?);
+    Ok(Connection::new(ReliableSource::new(bytes), sink))
+}
+
+/// A door to which one such connection comes.
+fn door(alloc: Global) -> Result<ReliableDoor, AllocError>
+    ensures { IfOk result (λ door. (door.accepted ≡ 0) × (door.back ≡ [])) }
+{
+    let mut coming = Vec::new(alloc);
+    coming.push(conn(alloc)?)?;
+    ReliableDoor::new(alloc, coming)
+}
+
+/// How a contest without problems is served at the door, and what is written.
+fn served<D: Door>(
+    rt: &(impl Threads + Wait + Sync),
+    alloc: Global,
+    door: &mut D,
+) -> Result<(Exit, ReliableSink), Fail>
+where
+    D::Conn: Drop,
+    requires { (D.state door.old).returned ≤ (D.state door.old).accepted }
+{
+    let mut tree = tree_of(alloc, "c/submissions.txt", b"")?;
+    let mut input = ReliableSource::new(Vec::new(alloc));
+    let mut out = ReliableSink::new(Vec::with_capacity(alloc, ROOM)?);
+    let words = words(alloc, &SERVE)?;
+    let exit = farm_main(
+        rt,
+        alloc,
+        words.as_slice(),
+        &mut tree,
+        &mut input,
+        &mut out,
+        &FixedClock::new(0),
+        door,
+        &AlwaysOn,
+        &mut Silent,
+    );
+    Ok((exit, out))
+}
+
+#[test]
+fn one_connection_asks_for_the_board(rt: HostRuntime) -> Result<(), Fail> {
+    let mut door = door(rt.alloc())?;
+    let (exit, out) = served(&rt, rt.alloc(), &mut door)?;
+    assert_eq!(rt; exit, Exit::Done);
+    assert_eq!(rt; out.bytes(), b"conn 1 requests 1 end\nboard 0\n".as_slice());
+    Ok(())
+}
+
+#[test]
+fn a_port_that_is_taken(rt: HostRuntime) -> Result<(), Fail> {
+    let failing = [0].to_vec(rt.alloc())?;
+    let mut door = MemoryDoor::new(rt.alloc(), Vec::new(rt.alloc()), failing)?;
+    let (exit, out) = served(&rt, rt.alloc(), &mut door)?;
+    assert_eq!(rt; exit.status(), 8);
+    assert_eq!(rt; out.bytes(), b"".as_slice());
+    Ok(())
+}

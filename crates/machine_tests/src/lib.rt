@@ -1,0 +1,17 @@
+//! Tests of the crates that run a program and compare its output, over what these offer to others.
+#![tactic(auto)]
+
+#[cfg(test)]
+mod case_run_tests;
+#[cfg(test)]
+mod decimal_compare_tests;
+#[cfg(test)]
+mod default_validator_tests;
+#[cfg(test)]
+mod elf_image_tests;
+#[cfg(test)]
+mod rv_machine_tests;
+#[cfg(test)]
+mod rv_memory_tests;
+#[cfg(test)]
+mod rv_word_tests;

@@ -1,0 +1,238 @@
+ghost use Rattle.std.specs.Prelude.{◌≡◌, List, [], ◌∷◌, Some, codes};
+ghost use Rattle.farm_io.specs.Lines.{Whole, Long, lines_of, through_last_feed};
+ghost use Rattle.farm_io.specs.Beside.{one_sided};
+
+use farm_io::{
+    Line, LineReader, MemorySink, MemorySource, PutEnd, ReadSource, ReliableSink, ReliableSource,
+    Sink, Source, Taken, WriteSink,
+};
+use std::alloc::{AllocError, Global};
+use std::process::Abort;
+use std::test::Fail;
+
+/// The lines of some bytes, as the checker computes them.
+fn computed_lines()
+    ensures ends { lines_of (codes "a\r\n\nb") ≡ Whole (codes "a") ∷ (Whole [] ∷ (Whole (codes "b") ∷ [])) }
+    ensures one_return { lines_of (codes "a\r\r\n\r") ≡ Whole (codes "a\r") ∷ (Whole [] ∷ []) }
+    ensures none { lines_of [] ≡ [] }
+    ensures whole { through_last_feed (codes "a\n\nb") ≡ codes "a\n\n" }
+    ensures unfed { through_last_feed (codes "ab") ≡ [] }
+{}
+
+#[test]
+fn computes_lines() {
+    computed_lines();
+}
+
+/// A source that gives a byte at a time.
+#[derive(Drop)]
+struct Slow {
+    inner: ReliableSource,
+}
+
+impl Source for Slow {
+    ghost left = { λ s. Some s.inner };
+
+    ghost faults = { λ _. 0 };
+
+    ghost beside = { λ _. one_sided };
+
+    fn take(&mut self, room: &mut [u8]) -> Taken {
+        self.inner.take(&mut room[..1])
+    }
+}
+
+/// The lines of the source, each with a bar behind it, of a long one its length, and why no more came.
+fn read_all<S: Source>(alloc: Global, source: &mut S) -> Result<(Vec<u8>, Line), AllocError> {
+    let mut shown = Vec::new(alloc);
+    let mut reader = LineReader::new();
+    for _ in 0..100u64 {
+        match reader.next_line(source) {
+            Line::Text => shown.extend_from_slice(reader.text())?,
+            Line::TooLong { len } => shown.extend_from_slice(len.to_string(alloc)?.as_bytes())?,
+            stop => return Ok((shown, stop)),
+        }
+        shown.push(b'|')?;
+    }
+    Ok((shown, Line::Text))
+}
+
+/// Compares the lines of the source, as `read_all` shows them, and why no more came.
+fn check_lines<S: Source>(
+    rt: &impl Abort,
+    alloc: Global,
+    source: &mut S,
+    want: &[u8],
+    end: Line,
+) -> Result<(), AllocError> {
+    let (shown, stop) = read_all(alloc, source)?;
+    assert_eq!(rt; shown.as_slice(), want);
+    assert_eq!(rt; stop, end);
+    Ok(())
+}
+
+const TEXTS: [(&[u8], &[u8]); 12] = [
+    (b"", b""),
+    (b"a", b"a|"),
+    (b"a\n", b"a|"),
+    (b"a\nbc\n\nd", b"a|bc||d|"),
+    (b"\n\n", b"||"),
+    (b"a\r\nb\r\n", b"a|b|"),
+    (b"a\r\r\n", b"a\r|"),
+    (b"a\rb\n", b"a\rb|"),
+    (b"\r\n", b"|"),
+    (b"a\n\r", b"a||"),
+    (b"a\r", b"a|"),
+    (b"\xff\x00\xfe\n\x80", b"\xff\x00\xfe|\x80|"),
+];
+
+#[test]
+fn cuts_lines(rt: HostRuntime) -> Result<(), Fail> {
+    let alloc = rt.alloc();
+    for (text, want) in TEXTS {
+        let mut source = ReliableSource::new(text.to_vec(alloc)?);
+        check_lines(&rt, alloc, &mut source, want, Line::End)?;
+        let inner = ReliableSource::new(text.to_vec(alloc)?);
+        check_lines(&rt, alloc, &mut Slow { inner }, want, Line::End)?;
+    }
+    Ok(())
+}
+
+/// `count` letters, an end of the line, and one more line.
+fn letters(alloc: Global, count: usize, end: &[u8]) -> Result<Vec<u8>, AllocError> {
+    let mut text = vec![in alloc; b'a'; count]?;
+    text.extend_from_slice(end)?;
+    text.extend_from_slice(b"b\n")?;
+    Ok(text)
+}
+
+const LONG: [(usize, &[u8], &[u8]); 6] = [
+    (4097, b"\n", b"4097|b|"),
+    (4096, b"\r\n", b"4097|b|"),
+    (65_535, b"\n", b"65535|b|"),
+    (65_536, b"\n", b"65536|b|"),
+    (200_000, b"\r\n", b"200001|b|"),
+    (200_000, b"", b"200001|"),
+];
+
+#[test]
+fn skips_long_lines(rt: HostRuntime) -> Result<(), Fail> {
+    let alloc = rt.alloc();
+    for (count, end, want) in LONG {
+        let mut source = ReliableSource::new(letters(alloc, count, end)?);
+        check_lines(&rt, alloc, &mut source, want, Line::End)?;
+    }
+    Ok(())
+}
+
+#[test]
+fn keeps_lines_within_the_limit(rt: HostRuntime) -> Result<(), Fail> {
+    let alloc = rt.alloc();
+    for (count, end) in [(4096, b"\n".as_slice()), (4095, b"\r\n".as_slice())] {
+        let mut want = vec![in alloc; b'a'; count]?;
+        want.extend_from_slice(b"|b|")?;
+        let mut source = ReliableSource::new(letters(alloc, count, end)?);
+        check_lines(&rt, alloc, &mut source, want.as_slice(), Line::End)?;
+    }
+    Ok(())
+}
+
+/// A source whose calls with these numbers fail.
+fn failing(alloc: Global, text: &[u8], calls: &[u64]) -> Result<MemorySource, AllocError> {
+    Ok(MemorySource::new(text.to_vec(alloc)?, calls.to_vec(alloc)?))
+}
+
+/// Whether a line needed no read, the next one, and how long its text is.
+fn next<S: Source>(reader: &mut LineReader, source: &mut S) -> (bool, Line, usize) {
+    let held = reader.has_line();
+    let line = reader.next_line(source);
+    (held, line, reader.text().len())
+}
+
+#[test]
+fn a_read_that_fails_within_a_line_is_answered_again(rt: HostRuntime) -> Result<(), Fail> {
+    let mut reader = LineReader::new();
+    let mut source = failing(rt.alloc(), b"a\nb", &[1])?;
+    assert_eq!(rt; next(&mut reader, &mut source), (false, Line::Text, 1));
+    for _ in 0..3 {
+        assert_eq!(rt; next(&mut reader, &mut source), (false, Line::ReadFault, 0));
+    }
+    Ok(())
+}
+
+#[test]
+fn each_failing_read_ends_the_lines(rt: HostRuntime) -> Result<(), Fail> {
+    let alloc = rt.alloc();
+    let mut text = letters(alloc, 65_530, b"\n")?;
+    text.extend_from_slice(letters(alloc, 70_000, b"\n")?.as_slice())?;
+    let whole = b"65530|b|70000|b|".as_slice();
+    for (call, want) in [
+        (0, b"".as_slice()),
+        (1, b"65530|b|"),
+        (2, b"65530|b|"),
+        (3, whole),
+    ] {
+        let mut source = failing(alloc, text.as_slice(), &[call])?;
+        check_lines(&rt, alloc, &mut source, want, Line::ReadFault)?;
+    }
+    Ok(())
+}
+
+#[test]
+fn a_held_line_needs_no_read(rt: HostRuntime) -> Result<(), Fail> {
+    let mut reader = LineReader::new();
+    let mut source = failing(rt.alloc(), b"a\nb\nc", &[1])?;
+    assert_eq!(rt; next(&mut reader, &mut source), (false, Line::Text, 1));
+    assert_eq!(rt; next(&mut reader, &mut source), (true, Line::Text, 1));
+    Ok(())
+}
+
+/// What the sink answers to each of these.
+fn put_each<K: Sink>(sink: &mut K, pieces: [&[u8]; 4]) -> [PutEnd; 4] {
+    let [a, b, c, d] = pieces;
+    [sink.put(a), sink.put(b), sink.put(c), sink.put(d)]
+}
+
+#[test]
+fn a_sink_holds_what_was_put(rt: HostRuntime) -> Result<(), Fail> {
+    let alloc = rt.alloc();
+    let mut sink = MemorySink::new(Vec::with_capacity(alloc, 4)?, [1].to_vec(alloc)?);
+    let ends = put_each(&mut sink, [b"ab", b"c", b"de", b"f"]);
+    assert_eq!(rt;
+        ends,
+        [PutEnd::Done, PutEnd::Failed, PutEnd::Done, PutEnd::Failed]
+    );
+    assert_eq!(rt; sink.bytes(), b"abde".as_slice());
+    Ok(())
+}
+
+#[test]
+fn a_sink_without_faults_holds_what_has_room(rt: HostRuntime) -> Result<(), Fail> {
+    let mut sink = ReliableSink::new(Vec::with_capacity(rt.alloc(), 4)?);
+    let ends = put_each(&mut sink, [b"ab", b"cde", b"fg", b""]);
+    assert_eq!(rt;
+        ends,
+        [PutEnd::Done, PutEnd::Failed, PutEnd::Done, PutEnd::Done]
+    );
+    assert_eq!(rt; sink.bytes(), b"abfg".as_slice());
+    Ok(())
+}
+
+#[test]
+fn a_reader_is_a_source(rt: HostRuntime) -> Result<(), Fail> {
+    let mut source = ReadSource::new(b"a\nb".as_slice());
+    check_lines(&rt, rt.alloc(), &mut source, b"a|b|", Line::End)?;
+    assert_eq!(rt; source.faults, 0);
+    Ok(())
+}
+
+#[test]
+fn a_writer_is_a_sink(rt: HostRuntime) {
+    let mut sink = WriteSink::new(Vec::new(rt.alloc()));
+    assert_eq!(rt;
+        put_each(&mut sink, [b"ab", b"", b"c", b""]),
+        [PutEnd::Done; 4]
+    );
+    assert_eq!(rt; sink.writer.as_slice(), b"abc".as_slice());
+    assert_eq!(rt; sink.faults, 0);
+}

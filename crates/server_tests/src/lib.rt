@@ -1,0 +1,21 @@
+//! Tests of streams, of doors and of the server: the crates that take and answer connections.
+#![tactic(auto)]
+
+#[cfg(test)]
+mod board_tests;
+#[cfg(test)]
+mod contest_server_tests;
+#[cfg(test)]
+mod door_tests;
+#[cfg(test)]
+mod farm_io_tests;
+#[cfg(test)]
+mod http_door_tests;
+#[cfg(test)]
+mod judge_server_tests;
+#[cfg(test)]
+mod loopback_tests;
+#[cfg(test)]
+mod meeting_tests;
+#[cfg(test)]
+mod serving_tests;

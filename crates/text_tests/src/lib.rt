@@ -1,0 +1,13 @@
+//! Tests of the crates that read and write texts: lines, the words of the command line, settings and JSON.
+#![tactic(auto)]
+
+#[cfg(test)]
+mod command_line_tests;
+#[cfg(test)]
+mod command_text_tests;
+#[cfg(test)]
+mod farm_settings_tests;
+#[cfg(test)]
+mod problem_settings_tests;
+#[cfg(test)]
+mod wire_json_tests;
