@@ -294,6 +294,12 @@ def is_answered(client):
     return ask(client, "GET", "/judgements/1") == (200, {"reply": "pending"}) and time.monotonic() - begin < 2
 
 
+def memory_of(server):
+    """The memory that the server holds, in KiB."""
+    with open(f"/proc/{server.process.pid}/status") as file:
+        return int(re.search(r"VmRSS:\s+(\d+)", file.read())[1])
+
+
 def hostile(program, folder):
     """Clients that hold up their lanes, while the other lane goes on."""
     with Server(program, folder, lanes=4, connections=1000) as server:
@@ -320,10 +326,23 @@ def hostile(program, folder):
                 conn.setsockopt(socket.SOL_SOCKET, socket.SO_LINGER, b"\1\0\0\0\0\0\0\0")
                 conn.sendall(BOARD + BOARD[:10])
         yield "and so is the next behind 50 that are torn off", is_answered(server.client()), None
+    with Server(program, folder, lanes=4, connections=5000) as server:
+        other = server.client()
+        yield "a client that was there before", is_answered(other), None
+        # the system holds some of them for the server, and the others go on asking it
+        silent = [socket.socket() for _ in range(1000)]
+        for conn in silent:
+            conn.setblocking(False)
+            conn.connect_ex(("127.0.0.1", server.port))
+        yield "and is answered while 1,000 come that say nothing", is_answered(other), None
+        kib = memory_of(server)
+        yield f"which take no memory: {kib} KiB", kib < 20_000, kib
+        for conn in [other, *silent]:
+            conn.close()
+        yield "a client that comes once they have gone", is_answered(server.client()), None
     with Server(program, folder, lanes=4, connections=100) as server:
         silent = [server.connect() for _ in range(100)]
-        with open(f"/proc/{server.process.pid}/status") as file:
-            kib = int(re.search(r"VmRSS:\s+(\d+)", file.read())[1])
+        kib = memory_of(server)
         yield f"100 that say nothing: {kib} KiB", kib < 20_000 and server.process.poll() is None, kib
         for conn in silent:
             conn.close()
