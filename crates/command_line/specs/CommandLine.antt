@@ -6,7 +6,7 @@ use Rattle.clap.specs.Words.{Row, Text, fault_of, first_of, subcommand_of}
 use Rattle.farm_model.specs.Numbers.{number_of, at_most}
 use Rattle.command_line.specs.Commands.{farm}
 use Rattle.command_line.specs.Checks.{are_plain}
-use Rattle.command_line.specs.Ranges.{Size, counted, size_with, host_limit, made_problem_limit, made_submission_limit}
+use Rattle.command_line.specs.Ranges.{Size, from_1_to, size_with, host_limit, made_problem_limit, made_submission_limit}
 use Rattle.command_line.specs.Ranges.{port_limit, lane_limit, connection_limit}
 use Rattle.command_line.specs.declared.made_size.MadeSize.{MadeSize}
 use Rattle.command_line.specs.declared.words.Command.{Command}
@@ -59,8 +59,8 @@ make_with number size = None
 
 abbrev pub size_of : List Row → Option Size
 size_of rows =
-    size_with (number_at (counted made_problem_limit) (codes "problems") rows)
-    (number_at (counted made_submission_limit) (codes "submissions") rows)
+    size_with (number_at (from_1_to made_problem_limit) (codes "problems") rows)
+    (number_at (from_1_to made_submission_limit) (codes "submissions") rows)
 
 abbrev pub make_of : List Row → Option CommandValue
 make_of rows = make_with (option_and_then number_of (first_of (codes "number") rows)) (size_of rows)
@@ -72,8 +72,8 @@ serve_with folder port lanes connections = None
 abbrev pub serve_of : List Row → Option CommandValue
 serve_of rows =
     serve_with (first_of (codes "folder") rows) (number_at (at_most port_limit) (codes "port") rows)
-    (number_at (counted lane_limit) (codes "lanes") rows)
-    (number_at (counted connection_limit) (codes "connections") rows)
+    (number_at (from_1_to lane_limit) (codes "lanes") rows)
+    (number_at (from_1_to connection_limit) (codes "connections") rows)
 
 abbrev pub said_of : Text → List Row → Option CommandValue
 said_of name rows =

@@ -2,8 +2,8 @@
 use Rattle.std.specs.Prelude.{ℕ, Option, Some, None, nat_le, ◌&&◌, if◌then◌else◌}
 
 -- a number from 1 to this limit
-abbrev pub counted : ℕ → ℕ → Option ℕ
-counted limit n = if nat_le 1 n && nat_le n limit then Some n else None
+abbrev pub from_1_to : ℕ → ℕ → Option ℕ
+from_1_to limit n = if nat_le 1 n && nat_le n limit then Some n else None
 
 -- a contest is judged by at most 16 hosts
 abbrev pub host_limit : ℕ

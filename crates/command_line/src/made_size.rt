@@ -1,6 +1,6 @@
 ghost use Rattle.std.specs.Prelude.{◌≡◌, ◌≤◌};
 ghost use Rattle.std.specs.Option.{option_map};
-ghost use Rattle.command_line.specs.Ranges.{counted, size_with};
+ghost use Rattle.command_line.specs.Ranges.{from_1_to, size_with};
 
 /// How many problems and submissions a made contest has: from 1 to 50, and from 1 to 2,000.
 #[derive(Clone, Copy, Debug, PartialEq, Eq)]
@@ -17,7 +17,7 @@ impl MadeSize {
     /// So many problems and submissions. None where they are too few or too many.
     pub fn new(problems: u32, submissions: u32) -> Option<MadeSize>
         ensures { option_map (λ size. record { problems = size.problems; submissions = size.submissions }) result
-            ≡ size_with (counted 50 problems) (counted 2000 submissions) }
+            ≡ size_with (from_1_to 50 problems) (from_1_to 2000 submissions) }
     {
         if problems < 1 || problems > 50 {
             return None;

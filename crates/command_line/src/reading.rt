@@ -3,7 +3,7 @@ ghost use Rattle.std.specs.Prelude.{◌≡◌, IfOk, map, option_map, string_byt
 ghost use Rattle.std.specs.Option.{option_and_then};
 ghost use Rattle.clap.specs.Words.{first_of, found_of, rows_of, subcommand_rows_of};
 ghost use Rattle.farm_model.specs.Numbers.{at_most, number_of};
-ghost use Rattle.command_line.specs.Ranges.{counted};
+ghost use Rattle.command_line.specs.Ranges.{from_1_to};
 ghost use Rattle.command_line.specs.CommandLine.{command_of, command_value, is_said, judge_of, make_of, said_of, script_of, serve_of, size_of, size_value};
 
 use crate::checks::are_plain;

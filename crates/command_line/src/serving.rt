@@ -1,6 +1,6 @@
 ghost use Rattle.std.specs.Prelude.{◌≡◌, ◌≤◌};
 ghost use Rattle.std.specs.Option.{option_map};
-ghost use Rattle.command_line.specs.Ranges.{counted};
+ghost use Rattle.command_line.specs.Ranges.{from_1_to};
 
 /// How many requests a server answers at the same time: from 1 to 16.
 #[derive(Clone, Copy, Debug, PartialEq, Eq)]
@@ -13,7 +13,7 @@ pub struct Lanes {
 impl Lanes {
     /// So many lanes. None where they are too few or too many.
     pub fn new(count: u32) -> Option<Lanes>
-        ensures { option_map (λ lanes. lanes.count) result ≡ counted 16 count }
+        ensures { option_map (λ lanes. lanes.count) result ≡ from_1_to 16 count }
     {
         if count < 1 || count > 16 {
             return None;
@@ -44,7 +44,7 @@ pub struct Connections {
 impl Connections {
     /// So many connections. None where they are too few or too many.
     pub fn new(count: u32) -> Option<Connections>
-        ensures { option_map (λ connections. connections.count) result ≡ counted 100000 count }
+        ensures { option_map (λ connections. connections.count) result ≡ from_1_to 100000 count }
     {
         if count < 1 || count > 100_000 {
             return None;

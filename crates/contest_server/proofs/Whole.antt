@@ -7,7 +7,7 @@ use Rattle.farm_kinds.specs.declared.events.Event.{Event}
 use Rattle.farm_kinds.specs.declared.events.Event.TheVariants as event
 use Rattle.farm_kinds.specs.declared.events.Reply.{Reply}
 use Rattle.farm_board.specs.BoardState.{BoardState}
-use Rattle.farm_board.specs.Histories.{is_in, is_no_memory, number_of, IsOut, IsOpening, IsLegal, IsNext, next_board, board_after, entries_by}
+use Rattle.farm_board.specs.Histories.{is_in, is_no_memory, pass_number, IsOut, IsOpening, IsLegal, IsNext, next_board, board_after, entries_by}
 use Rattle.farm_board.specs.Passes.{PassValue, Calls, call_of}
 use Rattle.farm_board.specs.declared.entries.Call.{Call}
 use Rattle.farm_board.specs.declared.entries.Entry.{Entry}
@@ -64,13 +64,13 @@ each_here Q false e es is h = absurd (cc is)
 
 -- where none but these numbers are out at first, and their passes give none but these, all entries are by them
 among : (ns : List ℕ) (s : BoardState) (es : List Entry) → IsLegal s es → OutAmong ns s
-    → ((n : ℕ) → is_in n ns ≡ true → All (GivesAmong ns) (entries_by n es)) → All (λ e. is_in (number_of e) ns ≡ true) es
-among ns s [] legal out each = All-nil (λ (e : Entry). is_in (number_of e) ns ≡ true)
+    → ((n : ℕ) → is_in n ns ≡ true → All (GivesAmong ns) (entries_by n es)) → All (λ e. is_in (pass_number e) ns ≡ true) es
+among ns s [] legal out each = All-nil (λ (e : Entry). is_in (pass_number e) ns ≡ true)
 among ns s (e ∷ es) legal out each =
-    let n = number_of e in
+    let n = pass_number e in
     let is = out n (next_out s e legal.0) in
     let here : GivesAmong ns e = each_here (GivesAmong ns) (eqb n n) e (entries_by n es) (eq-eqb n n refl) (each n is) in
-    All-cons (λ (x : Entry). is_in (number_of x) ns ≡ true) e es is
+    All-cons (λ (x : Entry). is_in (pass_number x) ns ≡ true) e es is
     (among ns (next_board s e) es legal.1 (among_next ns s e out here) (λ m m_is. each_later (GivesAmong ns) (eqb n m) e (entries_by m es) (each m m_is)))
 
 none_cond : (b : Bool) (e : Entry) (xs : List Entry) → b ≡ false → (if b then e ∷ xs else xs) ≡ xs
@@ -78,12 +78,12 @@ none_cond true e xs is = absurd (cc is)
 none_cond false e xs is = refl
 
 -- a number that is none of these has no entries
-none_by : (ns : List ℕ) (n : ℕ) (es : List Entry) → is_in n ns ≡ false → All (λ e. is_in (number_of e) ns ≡ true) es → entries_by n es ≡ []
+none_by : (ns : List ℕ) (n : ℕ) (es : List Entry) → is_in n ns ≡ false → All (λ e. is_in (pass_number e) ns ≡ true) es → entries_by n es ≡ []
 none_by ns n [] off h = refl
 none_by ns n (e ∷ es) off h =
-    let P : Entry → Type 0 = λ x. is_in (number_of x) ns ≡ true in
-    let other : number_of e ≢ n = λ same. not_both (is_in n ns) (subst (λ (m : ℕ). is_in m ns ≡ true) same (All-head P e es h)) off in
-    none_cond (eqb (number_of e) n) e (entries_by n es) (ne_eqb (number_of e) n other) ∙ none_by ns n es off (All-tail P e es h)
+    let P : Entry → Type 0 = λ x. is_in (pass_number x) ns ≡ true in
+    let other : pass_number e ≢ n = λ same. not_both (is_in n ns) (subst (λ (m : ℕ). is_in m ns ≡ true) same (All-head P e es h)) off in
+    none_cond (eqb (pass_number e) n) e (entries_by n es) (ne_eqb (pass_number e) n other) ∙ none_by ns n es off (All-tail P e es h)
 
 -- What the passes enter
 

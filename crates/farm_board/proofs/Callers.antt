@@ -4,7 +4,7 @@ use Rattle.std.proofs.Common.{◌≡◌, ◌≢◌, ℕ, ◌≤◌, ◌||◌, Bo
 use Rattle.std.specs.Prelude.{if◌then◌else◌, All}
 use Rattle.std.proofs.lemmas.List.Elements.{All-nil, All-cons, All-head, All-tail}
 use Rattle.farm_board.specs.BoardState.{BoardState}
-use Rattle.farm_board.specs.Histories.{is_no_memory, is_in, number_of, without, IsOut, IsNext, IsLegal, IsOpening, next_board, board_after, entries_by, call_unless, effective_calls, OutWereGiven, IsOutWithin, GivesAtMost, IsGone}
+use Rattle.farm_board.specs.Histories.{is_no_memory, is_in, pass_number, without, IsOut, IsNext, IsLegal, IsOpening, next_board, board_after, entries_by, call_unless, effective_calls, OutWereGiven, IsOutWithin, GivesAtMost, IsGone}
 use Rattle.farm_board.specs.Passes.{PassValue, GrowsBy, TakesIn, IsJoined}
 use Rattle.farm_board.specs.declared.entries.Call.{Call}
 use Rattle.farm_board.specs.declared.entries.Entry.{Entry}
@@ -73,7 +73,7 @@ proper_after s (e ∷ es) legal p = proper_after (next_board s e) es legal.1 (pr
 
 -- Numbers that are gone
 
-gone_other : (n : ℕ) (s : BoardState) (e : Entry) → IsNext s e → IsGone n s → number_of e ≢ n
+gone_other : (n : ℕ) (s : BoardState) (e : Entry) → IsNext s e → IsGone n s → pass_number e ≢ n
 gone_other n s e next gone same = in_both n s.out gone.out (subst (λ (m : ℕ). IsOut m s) same (next_out s e next))
 
 gone_next : (n : ℕ) (s : BoardState) (e : Entry) → IsNext s e → IsGone n s → IsGone n (next_board s e)
@@ -101,7 +101,7 @@ none_cond false e xs is = refl
 gone_entries : (n : ℕ) (s : BoardState) (es : List Entry) → IsLegal s es → IsGone n s → entries_by n es ≡ []
 gone_entries n s [] legal gone = refl
 gone_entries n s (e ∷ es) legal gone =
-    none_cond (eqb (number_of e) n) e (entries_by n es) (ne_eqb (number_of e) n (gone_other n s e legal.0 gone)) ∙ gone_entries n (next_board s e) es legal.1 (gone_next n s e legal.0 gone)
+    none_cond (eqb (pass_number e) n) e (entries_by n es) (ne_eqb (pass_number e) n (gone_other n s e legal.0 gone)) ∙ gone_entries n (next_board s e) es legal.1 (gone_next n s e legal.0 gone)
 
 -- What a pass knows of the passes that were joined
 
@@ -168,7 +168,7 @@ pub each_entry : (P : Entry → Type 0) (k : ℕ) (s : BoardState) (es : List En
 each_entry P k s [] legal within each = All-nil P
 each_entry P k s (e ∷ es) legal within each =
     let Q : Entry → Type 0 = λ x. P x × GivesAtMost k x in
-    let n = number_of e in
+    let n = pass_number e in
     let here : Q e = each_here Q (eqb n n) e (entries_by n es) (eq-eqb n n (λ _. n)) (each n (within n (next_out s e legal.0))) in
     All-cons P e es here.0 (each_entry P k (next_board s e) es legal.1 (within_next k s e within here.1) (λ m few. each_later Q (eqb n m) e (entries_by m es) (each m few)))
 

@@ -3,7 +3,7 @@ use Rattle.std.proofs.Common.{◌≡◌, ◌≢◌, ℕ, ◌+◌, ◌<◌, ◌�
 use Rattle.std.specs.Prelude.{if◌then◌else◌}
 use mathlib.Core.List.{IsPrefix}
 use Rattle.farm_board.specs.BoardState.{BoardState}
-use Rattle.farm_board.specs.Histories.{is_no_memory, number_of, is_in, IsOut, journal_with_call, board_after_call, next_board, IsNext, board_after, IsLegal, entries_by, call_unless, effective_calls, journal_with_calls, IsAlone, OutWereGiven, IsOpening}
+use Rattle.farm_board.specs.Histories.{is_no_memory, pass_number, is_in, IsOut, journal_with_call, board_after_call, next_board, IsNext, board_after, IsLegal, entries_by, call_unless, effective_calls, journal_with_calls, IsAlone, OutWereGiven, IsOpening}
 use Rattle.farm_board.specs.Views.{Suits, spare_after}
 use Rattle.farm_board.specs.declared.entries.Call.{Call}
 use Rattle.farm_board.specs.declared.entries.Entry.{Entry}
@@ -44,17 +44,17 @@ kept false x xs ys = refl
 
 pub entries_append : (n : ℕ) (es fs : List Entry) → entries_by n (es ++ fs) ≡ entries_by n es ++ entries_by n fs
 entries_append n [] fs = refl
-entries_append n (x ∷ es) fs = ap (λ (xs : List Entry). if eqb (number_of x) n then x ∷ xs else xs) (entries_append n es fs) ∙ kept (eqb (number_of x) n) x (entries_by n es) (entries_by n fs)
+entries_append n (x ∷ es) fs = ap (λ (xs : List Entry). if eqb (pass_number x) n then x ∷ xs else xs) (entries_append n es fs) ∙ kept (eqb (pass_number x) n) x (entries_by n es) (entries_by n fs)
 
-pub entries_mine : (n : ℕ) (es : List Entry) (e : Entry) → number_of e ≡ n → entries_by n (es ++ e ∷ []) ≡ entries_by n es ++ e ∷ []
-entries_mine n es e same = entries_append n es (e ∷ []) ∙ ap (λ (b : Bool). entries_by n es ++ (if b then e ∷ [] else [])) (eq-eqb (number_of e) n same)
+pub entries_mine : (n : ℕ) (es : List Entry) (e : Entry) → pass_number e ≡ n → entries_by n (es ++ e ∷ []) ≡ entries_by n es ++ e ∷ []
+entries_mine n es e same = entries_append n es (e ∷ []) ∙ ap (λ (b : Bool). entries_by n es ++ (if b then e ∷ [] else [])) (eq-eqb (pass_number e) n same)
 
 nothing_more : (xs : List Entry) → xs ++ [] ≡ xs
 nothing_more [] = refl
 nothing_more (x ∷ xs) = ap (λ (ys : List Entry). x ∷ ys) (nothing_more xs)
 
-pub entries_other : (n : ℕ) (es : List Entry) (e : Entry) → number_of e ≢ n → entries_by n (es ++ e ∷ []) ≡ entries_by n es
-entries_other n es e other = entries_append n es (e ∷ []) ∙ (ap (λ (b : Bool). entries_by n es ++ (if b then e ∷ [] else [])) (ne_eqb (number_of e) n other) ∙ nothing_more (entries_by n es))
+pub entries_other : (n : ℕ) (es : List Entry) (e : Entry) → pass_number e ≢ n → entries_by n (es ++ e ∷ []) ≡ entries_by n es
+entries_other n es e other = entries_append n es (e ∷ []) ∙ (ap (λ (b : Bool). entries_by n es ++ (if b then e ∷ [] else [])) (ne_eqb (pass_number e) n other) ∙ nothing_more (entries_by n es))
 
 -- What an entry leaves as it was
 
@@ -80,7 +80,7 @@ board_after_seats s [] = refl
 board_after_seats s (e ∷ es) = board_after_seats (next_board s e) es ∙ next_board_seats s e
 
 -- whoever makes the entry is out
-pub next_out : (s : BoardState) (e : Entry) → IsNext s e → IsOut (number_of e) s
+pub next_out : (s : BoardState) (e : Entry) → IsNext s e → IsOut (pass_number e) s
 next_out s (entry.Call call) h = h.0
 next_out s (entry.Split number new) h = h.0
 next_out s (entry.Join number old) h = h.0
@@ -134,8 +134,8 @@ none_new s [] n h below more = refl
 none_new s (e ∷ es) n h below more =
     let a = next_board_more s e in
     let b = board_after_more (next_board s e) es in
-    let c = below (number_of e) (next_out s e h.0) in
-    none_cond (eqb (number_of e) n) e (entries_by n es) (ne_eqb (number_of e) n (omega arith)) ∙ none_new (next_board s e) es n h.1 (given_next_board s e h.0 below) more
+    let c = below (pass_number e) (next_out s e h.0) in
+    none_cond (eqb (pass_number e) n) e (entries_by n es) (ne_eqb (pass_number e) n (omega arith)) ∙ none_new (next_board s e) es n h.1 (given_next_board s e h.0 below) more
 
 -- at the start pass 0 alone is out, and no number was given
 pub given_opening : (s : BoardState) → IsOpening s → OutWereGiven s
@@ -176,9 +176,9 @@ journal_after s (entry.Join number old ∷ es) = journal_after (next_board s (en
 
 -- The end
 
-longer_entries : (n : ℕ) (es more : List Entry) (e : Entry) → number_of e ≡ n → entries_by n (es ++ e ∷ more) ≡ entries_by n es → ⊥
+longer_entries : (n : ℕ) (es more : List Entry) (e : Entry) → pass_number e ≡ n → entries_by n (es ++ e ∷ more) ≡ entries_by n es → ⊥
 longer_entries n es more e same is =
-    let there : entries_by n (e ∷ more) ≡ e ∷ entries_by n more = ap (λ (b : Bool). if b then e ∷ entries_by n more else entries_by n more) (eq-eqb (number_of e) n same) in
+    let there : entries_by n (e ∷ more) ≡ e ∷ entries_by n more = ap (λ (b : Bool). if b then e ∷ entries_by n more else entries_by n more) (eq-eqb (pass_number e) n same) in
     let whole : entries_by n es ≡ entries_by n es ++ e ∷ entries_by n more = sym is ∙ (entries_append n es (e ∷ more) ∙ ap (λ (xs : List Entry). entries_by n es ++ xs) there) in
     let lengths : length (entries_by n es) ≡ length (entries_by n es ++ e ∷ entries_by n more) = ap (λ (xs : List Entry). length xs) whole in
     absurd (omega (arith, length-append (entries_by n es) (e ∷ entries_by n more)))
@@ -187,7 +187,7 @@ longer_entries n es more e same is =
 pub nothing_since : (s : BoardState) (n : ℕ) (seen rest : List Entry) → IsLegal s (seen ++ rest) → IsAlone n (board_after s seen) → entries_by n (seen ++ rest) ≡ entries_by n seen → rest ≡ []
 nothing_since s n seen [] h alone same = refl
 nothing_since s n seen (e ∷ more) h alone same =
-    absurd (longer_entries n seen more e (alone (number_of e) (next_out (board_after s seen) e (legal_at s seen e more h))) same)
+    absurd (longer_entries n seen more e (alone (pass_number e) (next_out (board_after s seen) e (legal_at s seen e more h))) same)
 
 pub whole_if_alone : (s : BoardState) (n : ℕ) (seen history : List Entry) → IsPrefix seen history → IsLegal s history → IsAlone n (board_after s seen) → entries_by n history ≡ entries_by n seen → history ≡ seen
 whole_if_alone s n seen history p h alone same =

@@ -2,7 +2,7 @@
 use Rattle.std.proofs.Common.{◌≡◌, ℕ, ◌+◌, ◌-◌, ◌<◌, ◌≤◌, false, List, [], ◌∷◌, ◌++◌, length, refl, ap, sym, ◌∙◌, subst, inl, inr, arith}
 use Rattle.std.specs.Prelude.{Option, Some, None}
 use Rattle.farm_board.specs.BoardState.{BoardState}
-use Rattle.farm_board.specs.Histories.{board_after, next_board, IsNext, IsOut, IsReply, entries_by, number_of}
+use Rattle.farm_board.specs.Histories.{board_after, next_board, IsNext, IsOut, IsReply, entries_by, pass_number}
 use Rattle.farm_board.specs.Views.{with_ticket, with_turn, with_coming, with_entry, to_give_after, split_left, split_right, joined_view, Suits, IsFree}
 use Rattle.farm_board.specs.Steps.{KnowsHistory, GetsTurn, InTurn, view_after_turn, EndsTurn}
 use Rattle.atomic_table.specs.Table.{Me}
@@ -44,7 +44,7 @@ then_is v w x now then e t is x_is =
 pub view_after_turn_is : (v w x y : View) (now : BoardState) (e : Entry) → (t : InTurn v w now) → x ≡ with_coming w e → y ≡ with_entry x e → y ≡ view_after_turn v t.ticket t.history e
 view_after_turn_is v w x y now e t x_is y_is = y_is ∙ (ap (λ (z : View). with_entry z e) x_is ∙ ap (λ (z : View). with_entry (with_coming z e) e) t.view)
 
-pub grows : {board board' : BoardId} → board' ≡ board → (v : View) (k : ℕ) (history : List Entry) (e : Entry) → KnowsHistory v history → IsNext (board_after v.start.value history) e → number_of e ≡ v.number → GrowsBy (pass_of board v) (pass_of board' (view_after_turn v k history e)) e
+pub grows : {board board' : BoardId} → board' ≡ board → (v : View) (k : ℕ) (history : List Entry) (e : Entry) → KnowsHistory v history → IsNext (board_after v.start.value history) e → pass_number e ≡ v.number → GrowsBy (pass_of board v) (pass_of board' (view_after_turn v k history e)) e
 grows {board} {board'} same_board v k history e t next own = record {
   between = t.longer.0;
   seen = ap (λ (z : List Entry). z ++ e ∷ []) (sym t.longer.1);
@@ -56,7 +56,7 @@ grows {board} {board'} same_board v k history e t next own = record {
   start = refl;
 }
 
-pub keeps : (v : View) (k : ℕ) (history : List Entry) (e : Entry) → KnowsHistory v history → IsNext (board_after v.start.value history) e → number_of e ≡ v.number → Suits e v → v.left - 1 ≤ 4611686018427387904 → IsSoundView (view_after_turn v k history e)
+pub keeps : (v : View) (k : ℕ) (history : List Entry) (e : Entry) → KnowsHistory v history → IsNext (board_after v.start.value history) e → pass_number e ≡ v.number → Suits e v → v.left - 1 ≤ 4611686018427387904 → IsSoundView (view_after_turn v k history e)
 keeps v k history e t next own suits few =
     let now = board_after v.start.value history in
     let is : board_after v.start.value (history ++ e ∷ []) ≡ next_board now e = board_after_snoc v.start.value history e in
@@ -93,7 +93,7 @@ free_after v y k history e y_is live no_gift = subst (λ (z : View). IsFree z) (
   taken_in = refl;
 }
 
-pub keeps_after : (v y : View) (k : ℕ) (history : List Entry) (e : Entry) → y ≡ view_after_turn v k history e → KnowsHistory v history → IsNext (board_after v.start.value history) e → number_of e ≡ v.number → Suits e v → y.left < 4611686018427387904 → IsSoundView y
+pub keeps_after : (v y : View) (k : ℕ) (history : List Entry) (e : Entry) → y ≡ view_after_turn v k history e → KnowsHistory v history → IsNext (board_after v.start.value history) e → pass_number e ≡ v.number → Suits e v → y.left < 4611686018427387904 → IsSoundView y
 keeps_after v y k history e y_is t next own suits bound =
     let few : v.left - 1 < 4611686018427387904 = subst (λ (z : View). z.left < 4611686018427387904) y_is bound in
     subst (λ (z : View). IsSoundView z) (sym y_is) (keeps v k history e t next own suits (omega arith))
@@ -222,7 +222,7 @@ empty_after_turn {S} v e m m' marked end = ap (λ (z : Me (Option S) View). z.1)
 pub free_after_turn : {v y : View} {e : Entry} → EndsTurn v y e → v.ended ≡ false → to_give_after e ≡ None → IsFree y
 free_after_turn {v} {y} {e} z live no_gift = free_after v y z.ticket z.history e z.view live no_gift
 
-pub keeps_after_turn : {v y : View} {e : Entry} → EndsTurn v y e → number_of e ≡ v.number → Suits e v → IsSoundView y
+pub keeps_after_turn : {v y : View} {e : Entry} → EndsTurn v y e → pass_number e ≡ v.number → Suits e v → IsSoundView y
 keeps_after_turn {v} {y} {e} z own suits = keeps_after v y z.ticket z.history e z.view z.knows z.next own suits z.bound
 
 pub calls_after_turn : {board board' : BoardId} → board' ≡ board → {v y : View} {n : ℕ} {event : Event} {reply : Reply} → EndsTurn v y (entry.Call (call_of n event reply)) → n ≡ v.number → 0 < v.left → Calls (pass_of board v) (pass_of board' y) event reply

@@ -10,7 +10,7 @@ use Rattle.atomic_table.specs.Table.{State, Me, Act, step, keeps, takes, gives, 
 use Rattle.atomic_table.proofs.Lists.{set_again}
 use Rattle.farm_board.specs.Homes.{Home}
 use Rattle.farm_board.specs.BoardState.{BoardState}
-use Rattle.farm_board.specs.Histories.{board_after, next_board, IsLegal, IsNext, IsOut, entries_by, number_of, OutWereGiven, IsOpening}
+use Rattle.farm_board.specs.Histories.{board_after, next_board, IsLegal, IsNext, IsOut, entries_by, pass_number, OutWereGiven, IsOpening}
 use Rattle.farm_board.specs.Views.{with_ticket, with_turn, with_coming, with_entry, to_give_after, Suits, IsResting}
 use Rattle.farm_board.specs.Rules.{IsComing, HasNumber, Fits, IsOver, SameTicket, Owns, SameNumber, IsIdle, IsConsistent}
 use Rattle.farm_board.specs.Steps.{KnowsHistory, DrawsTicket, LooksForTurn, MarksEntry, FinishesTurn}
@@ -203,7 +203,7 @@ suits_coming (entry.Split number new) v h = h
 suits_coming (entry.Join number old) v h = h
 
 pub marks : {S : Type 0} (state_of : S → BoardState) (start : BoardState) (slots id : ℕ) (me : Me (Option S) View) (e : Entry) → me.0.turn ≡ true → me.0.ended ≡ false
-    → number_of e ≡ me.0.number → IsNext (board_after me.0.start.value me.0.seen) e → Suits e me.0
+    → pass_number e ≡ me.0.number → IsNext (board_after me.0.start.value me.0.seen) e → Suits e me.0
     → Allows (IsConsistent state_of start) slots id me 1 (λ n. n) (MarksEntry e (step slots 1 0 0 none) me)
 marks {S} state_of start slots id me e on live own next suits s r _ at small =
     let P : List ℕ → Type 0 = λ ws. (x : View) × (a : Act (Option S)) × Valid s.homes me.1 a
@@ -307,7 +307,7 @@ beside_turn : (start : BoardState) (history : List Entry) (drawn : ℕ) (v u : V
     → Fits start (history ++ e ∷ []) drawn u
 beside_turn start history drawn v u e g c live off waits apart =
     let len : length (history ++ e ∷ []) ≡ length history + 1 = length-append history (e ∷ []) in
-    let other : (n : ℕ) → HasNumber n u → number_of e ≢ n = λ n names same. apart n names (inl (sym same ∙ c.own)) in record {
+    let other : (n : ℕ) → HasNumber n u → pass_number e ≢ n = λ n names same. apart n names (inl (sym same ∙ c.own)) in record {
       start = g.start;
       seen = prefix_more u.seen history e g.seen;
       mine = entries_other u.number history e (other u.number (inl refl)) ∙ g.mine;

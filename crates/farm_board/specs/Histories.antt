@@ -35,10 +35,10 @@ pub record IsOpening (s : BoardState) : Type 0 where
 -- One entry
 
 -- the number of the pass that makes the entry
-abbrev pub number_of : Entry → ℕ
-number_of (entry.Call call) = call.number
-number_of (entry.Split number new) = number
-number_of (entry.Join number old) = number
+abbrev pub pass_number : Entry → ℕ
+pass_number (entry.Call call) = call.number
+pass_number (entry.Split number new) = number
+pass_number (entry.Join number old) = number
 
 abbrev pub is_in : ℕ → List ℕ → Bool
 is_in n [] = false
@@ -98,7 +98,7 @@ IsLegal s (e ∷ es) = IsNext s e × IsLegal (next_board s e) es
 -- the entries of one number
 abbrev pub entries_by : ℕ → List Entry → List Entry
 entries_by n [] = []
-entries_by n (e ∷ es) = if number_of e == n then e ∷ entries_by n es else entries_by n es
+entries_by n (e ∷ es) = if pass_number e == n then e ∷ entries_by n es else entries_by n es
 
 abbrev pub call_unless : Bool → Call → List Call → List Call
 call_unless true call calls = calls

@@ -7,7 +7,7 @@ use lib.ListN.{get_elem?}
 use Rattle.atomic_table.specs.Table.{State}
 use Rattle.farm_board.specs.Homes.{Home}
 use Rattle.farm_board.specs.BoardState.{BoardState}
-use Rattle.farm_board.specs.Histories.{board_after, IsLegal, IsNext, IsOut, entries_by, number_of, IsOpening}
+use Rattle.farm_board.specs.Histories.{board_after, IsLegal, IsNext, IsOut, entries_by, pass_number, IsOpening}
 use Rattle.farm_board.specs.Views.{Suits}
 use Rattle.farm_board.specs.declared.entries.Entry.{Entry}
 use Rattle.farm_board.specs.declared.view.View.{View}
@@ -17,7 +17,7 @@ use Rattle.farm_board.specs.declared.view.View.{View}
 -- the view has the turn, and the entry may come next
 pub record IsComing (s : BoardState) (v : View) (e : Entry) : Type 0 where
   pub turn : v.turn ≡ true
-  pub own : number_of e ≡ v.number
+  pub own : pass_number e ≡ v.number
   pub next : IsNext s e
   pub suits : Suits e v
 

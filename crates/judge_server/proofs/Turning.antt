@@ -23,7 +23,7 @@ use Rattle.judge_server.specs.declared.ends.ConnHow.{ConnHow}
 use Rattle.judge_server.specs.declared.ends.ConnHow.TheVariants as how
 use Rattle.judge_server.specs.Entering.{Entered, AreEntered}
 use Rattle.judge_server.specs.Exchanges.{Exchange, IsWhole, entered_in, text_of, requests_of, all_entered, all_text}
-use Rattle.judge_server.specs.Serving.{OneAnswered, end_response, PutsEnd, Standing, untaken, IsUnderWay, EndsOf, IsServed, counted, Turned, HasCauseServed}
+use Rattle.judge_server.specs.Serving.{OneAnswered, end_response, PutsEnd, Standing, untaken, IsUnderWay, EndsOf, IsServed, answered_count, Turned, HasCauseServed}
 use Rattle.judge_server.proofs.Enterings.{entered_then}
 
 -- one more exchange
@@ -201,7 +201,7 @@ ends_of shows xs rest bytes left held held' e how.NoMemory z x y l = (refl, inl 
 ends_of shows xs rest bytes left held held' e how.WriteFault z x y l =
     inr (record { why = e; n = z.1.0; refusal = z.0; ends = x; front = refl }, refl)
 
-same_count : (n : ℕ) (held held' : Option (List ℕ)) (e : Ending) (h : ConnHow) → PutsEnd held held' e h → counted n h ≡ n
+same_count : (n : ℕ) (held held' : Option (List ℕ)) (e : Ending) (h : ConnHow) → PutsEnd held held' e h → answered_count n h ≡ n
 same_count n held held' e how.End z = refl
 same_count n held held' e how.Closed z = absurd z
 same_count n held held' e how.Cut z = refl

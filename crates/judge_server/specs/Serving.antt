@@ -223,15 +223,15 @@ pub record IsServed {A : Type 0} (enters : A → List Entered → A → Type 0) 
   pub ends : EndsOf shows answered rest (b.taken + length all) p.left tail made h
 
 -- the request that closes counts as answered
-abbrev pub counted : ℕ → ConnHow → ℕ
-counted n how.Closed = n + 1
-counted n how.End = n
-counted n how.Cut = n
-counted n how.BadRequest = n
-counted n how.ReadFault = n
-counted n how.WriteFault = n
-counted n how.InputLimit = n
-counted n how.NoMemory = n
+abbrev pub answered_count : ℕ → ConnHow → ℕ
+answered_count n how.Closed = n + 1
+answered_count n how.End = n
+answered_count n how.Cut = n
+answered_count n how.BadRequest = n
+answered_count n how.ReadFault = n
+answered_count n how.WriteFault = n
+answered_count n how.InputLimit = n
+answered_count n how.NoMemory = n
 
 -- what one request, or the end of the requests, does, wherever the connection began
 abbrev pub Turned : {A : Type 0} → (A → Event → Reply → A → Type 0) → (ℕ → Bool) → Standing A → Standing A
@@ -239,7 +239,7 @@ abbrev pub Turned : {A : Type 0} → (A → Event → Reply → A → Type 0) �
 Turned {A} step shows old new None =
     (b : Standing A) (n : ℕ) → IsUnderWay step shows b old n → IsUnderWay step shows b new (n + 1)
 Turned {A} step shows old new (Some h) =
-    (b : Standing A) (n : ℕ) → IsUnderWay step shows b old n → IsServed (AreEntered step) shows b new (counted n h) h
+    (b : Standing A) (n : ℕ) → IsUnderWay step shows b old n → IsServed (AreEntered step) shows b new (answered_count n h) h
 
 -- the counts of both sides never fall, and that of the side rises whose fault ended the connection
 pub record HasCauseServed (read read' write write' : ℕ) (result : Option ConnHow) : Type 0 where

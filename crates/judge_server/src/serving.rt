@@ -6,7 +6,7 @@ ghost use Rattle.http_door.specs.Responses.{Writes, HasCauseWritten};
 ghost use Rattle.http_door.specs.Reading.{request_with};
 ghost use Rattle.http_door.specs.ReaderValue.{budget};
 ghost use Rattle.judge_server.specs.Entering.{AreEntered};
-ghost use Rattle.judge_server.specs.Serving.{PutsAnswer, how_after, OneAnswered, refusal_response, given_as, Refuses, PutsEnd, untaken, Turned, IsServed, counted, HasCauseServed};
+ghost use Rattle.judge_server.specs.Serving.{PutsAnswer, how_after, OneAnswered, refusal_response, given_as, Refuses, PutsEnd, untaken, Turned, IsServed, answered_count, HasCauseServed};
 
 use crate::answering::{answer_fault, answer_reply};
 use crate::asking::{Asked, RequestFault, read_request};
@@ -198,7 +198,7 @@ fn turn<A: Replier, C: Clock, N: Source + Sink>(
 /// The end of a connection behind so many answered requests, of which the last may have asked to close.
 fn end_after(requests: u64, how: ConnHow) -> ConnEnd
     requires { requests < 2 ^ 63 }
-    ensures { result ≡ record { requests = counted requests how; how = how } }
+    ensures { result ≡ record { requests = answered_count requests how; how = how } }
 {
     match how {
         ConnHow::Closed => ConnEnd {

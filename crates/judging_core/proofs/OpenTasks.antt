@@ -226,9 +226,9 @@ of_class rule leases class n (judging ∷ judgings) (tasks ∷ all) test b h =
 
 -- ---- all of them
 
-tests_of : (rule : RuleValue) (judgings : List Judging) (leases : List Lease) (tasks : List JudgingTasks) → IsListed rule judgings leases tasks
+tests_there : (rule : RuleValue) (judgings : List Judging) (leases : List Lease) (tasks : List JudgingTasks) → IsListed rule judgings leases tasks
     → (i : ℕ) (x : JudgingTasks) → slice_get tasks i ≡ Some x → IsTestOf rule leases (1 + i) (slice_get judgings i) x (is_open rule judgings leases)
-tests_of rule judgings leases tasks h i x e = record {
+tests_there rule judgings leases tasks h i x e = record {
   opens = λ t. ap (λ o. is_open_in rule t o && is_free leases (task_of (1 + i) t)) (item_next judgings i);
   shown = λ t o. shown_there t (h.shown (task_of (1 + i) t) o);
 } where
@@ -239,7 +239,7 @@ pub all_open : (rule : RuleValue) (judgings : List Judging) (leases : List Lease
     → open_tasks rule judgings leases ≡ filter (is_open rule judgings leases) (shown_tasks tasks)
 all_open rule judgings leases tasks h =
     let test = is_open rule judgings leases in
-    let class : (c : Class) → open_in_class rule judgings leases c ≡ filter test (shown_in_class tasks c) = λ c. of_class rule leases c 1 judgings tasks test h.classes (tests_of rule judgings leases tasks h) in
+    let class : (c : Class) → open_in_class rule judgings leases c ≡ filter test (shown_in_class tasks c) = λ c. of_class rule leases c 1 judgings tasks test h.classes (tests_there rule judgings leases tasks h) in
     rw (class High, class Normal, class Low)
     (sym (filter-append test (shown_in_class tasks High ++ shown_in_class tasks Normal) (shown_in_class tasks Low) ∙ ap (λ xs. xs ++ filter test (shown_in_class tasks Low)) (filter-append test (shown_in_class tasks High) (shown_in_class tasks Normal))))
 

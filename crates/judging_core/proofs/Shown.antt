@@ -11,7 +11,7 @@ use Rattle.farm_kinds.specs.declared.outcomes.Class.{Class}
 use Rattle.farm_kinds.specs.declared.outcomes.Task.{Task}
 use Rattle.farm_model.specs.Numbered.{item_of, with_item}
 use Rattle.farm_model.specs.Leases.{same_task}
-use Rattle.task_tree.specs.Shown.{JudgingTasks, hidden, tests_of, is_shown, with_shown, with_class, HasTask}
+use Rattle.task_tree.specs.Shown.{JudgingTasks, hidden, tests_listed, is_shown, with_shown, with_class, HasTask}
 use Rattle.judging_core.specs.Listed.{listed_classes, widths, IsWide, AreWide}
 use Rattle.judging_core.proofs.Items.{item_at, item_by, with_same, with_other, change_same, change_other, kept_seen, pushed_other, pushed_last, none_past}
 
@@ -43,8 +43,8 @@ some_bit (x ∷ xs) zero l = (x, refl)
 some_bit (x ∷ xs) (suc i) l = some_bit xs i (omega arith)
 
 there : (tasks : List JudgingTasks) (task : Task) → HasTask tasks task → (o : Option JudgingTasks) → item_of tasks task.judging ≡ o → (j : JudgingTasks) × (o ≡ Some j) × (task.test ≤ length j.shown)
-there tasks task h None e = let z : tests_of tasks task.judging ≡ 0 = rw e refl in absurd (omega (arith, z, h.low, h.high))
-there tasks task h (Some j) e = let z : tests_of tasks task.judging ≡ length j.shown = rw e refl in (j, refl, omega (arith, z, h.high))
+there tasks task h None e = let z : tests_listed tasks task.judging ≡ 0 = rw e refl in absurd (omega (arith, z, h.low, h.high))
+there tasks task h (Some j) e = let z : tests_listed tasks task.judging ≡ length j.shown = rw e refl in (j, refl, omega (arith, z, h.high))
 
 pub shown_here : (tasks : List JudgingTasks) (task : Task) (b : Bool) → HasTask tasks task → is_shown (with_shown tasks task b) task ≡ b
 shown_here tasks task b h =
@@ -75,7 +75,7 @@ wide_at [] i h l = absurd (omega arith)
 wide_at (j ∷ tasks) zero h l = All-head IsWide (length j.shown) (widths tasks) h
 wide_at (j ∷ tasks) (suc i) h l = wide_at tasks i (All-tail IsWide (length j.shown) (widths tasks) h) (omega arith)
 
-pub tests_wide : (tasks : List JudgingTasks) (n : ℕ) → AreWide tasks → 1 ≤ n → n ≤ length tasks → tests_of tasks n ≡ 1000
+pub tests_wide : (tasks : List JudgingTasks) (n : ℕ) → AreWide tasks → 1 ≤ n → n ≤ length tasks → tests_listed tasks n ≡ 1000
 tests_wide tasks zero h low high = absurd (omega arith)
 tests_wide tasks (suc n) h low high =
     let yes : ltb 0 (suc n) ≡ true = grind (arith, nat_tests) in

@@ -52,14 +52,14 @@ lacks_answer paths stem = not (list_any (bytes_eq (answer_path stem)) paths)
 abbrev pub test_limit : ℕ
 test_limit = 1000
 
-abbrev pub counted : List (List ℕ) → Result (List (List ℕ)) PackageFault
-counted [] = Err NoTests
-counted (stem ∷ stems) =
+abbrev pub few_enough : List (List ℕ) → Result (List (List ℕ)) PackageFault
+few_enough [] = Err NoTests
+few_enough (stem ∷ stems) =
     if nat_le (length (stem ∷ stems)) test_limit then Ok (stem ∷ stems) else Err (TooManyTests (length (stem ∷ stems)))
 
 abbrev pub answered : List ℕ → Option (List ℕ) → List (List ℕ) → Result (List (List ℕ)) PackageFault
 answered folder (Some stem) stems = Err (MissingAnswer (name_below folder stem))
-answered folder None stems = counted stems
+answered folder None stems = few_enough stems
 
 abbrev pub ungrouped : List ℕ → Option (List ℕ) → List (List ℕ) → List (List ℕ) → Result (List (List ℕ)) PackageFault
 ungrouped folder (Some path) paths stems = Err (Groups (name_below folder path))

@@ -3,7 +3,7 @@ ghost use Rattle.farm_tree.specs.Listing.{in_folder};
 ghost use Rattle.package_folder.specs.Told.{Answers};
 ghost use Rattle.package_folder.specs.Order.{IsRising};
 ghost use Rattle.package_folder.specs.Paths.{texts};
-ghost use Rattle.package_folder.specs.Names.{name_below, is_below, is_groups, stem_of, stems_among, stems_of, lacks_answer, counted, without_in, test_limit};
+ghost use Rattle.package_folder.specs.Names.{name_below, is_below, is_groups, stem_of, stems_among, stems_of, lacks_answer, few_enough, without_in, test_limit};
 
 use crate::files::{copy, in_folder, with_ending};
 use crate::order::Paths;
@@ -33,12 +33,12 @@ pub(crate) fn stems_of(alloc: Global, folder: &str, paths: &Paths) -> Result<Pat
             name: name_below(alloc, folder, stem)?,
         });
     }
-    counted(stems)
+    few_enough(stems)
 }
 
 /// The tests, where they are from 1 to 1,000.
-fn counted(stems: Paths) -> Result<Paths, PackageFault>
-    ensures stems { result ≡ counted stems }
+fn few_enough(stems: Paths) -> Result<Paths, PackageFault>
+    ensures stems { result ≡ few_enough stems }
     ensures some { IfOk result (λ stems. 1 ≤ length stems) }
     ensures few { IfOk result (λ stems. length stems ≤ test_limit) }
     ensures not_tree { result ≢ Err PackageFault.Tree }

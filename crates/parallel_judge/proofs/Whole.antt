@@ -8,7 +8,7 @@ use Rattle.farm_kinds.specs.declared.events.Event.TheVariants as event
 use Rattle.farm_model.specs.State.{SettingsValue, start}
 use Rattle.case_run.specs.Cases.{TestCase}
 use Rattle.farm_board.specs.BoardState.{BoardState}
-use Rattle.farm_board.specs.Histories.{is_no_memory, is_in, IsOut, number_of, board_after_call, next_board, board_after, IsLegal, entries_by, call_unless, effective_calls}
+use Rattle.farm_board.specs.Histories.{is_no_memory, is_in, IsOut, pass_number, board_after_call, next_board, board_after, IsLegal, entries_by, call_unless, effective_calls}
 use Rattle.farm_board.specs.Passes.{PassValue}
 use Rattle.farm_board.specs.declared.entries.Call.{Call}
 use Rattle.farm_board.specs.declared.entries.Entry.{Entry}
@@ -51,7 +51,7 @@ each_entry : (P : Entry → Type 0) (Q : ℕ → Type 0) (s : BoardState) (es : 
 each_entry P Q s [] legal within known = tt
 each_entry P Q s (e ∷ es) legal within known =
     let R : Entry → Type 0 = λ x. P x × GivesIn Q x in
-    let n = number_of e in
+    let n = pass_number e in
     let here : R e = each_here R (eqb n n) e (entries_by n es) (eq-eqb n n refl) (known n (within n (next_out s e legal.0))) in
     (here.0, each_entry P Q (next_board s e) es legal.1 (out_in Q s e within here.1) (λ m is. each_later R (eqb n m) e (entries_by m es) (known m is)))
 

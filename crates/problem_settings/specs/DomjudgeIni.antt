@@ -8,7 +8,7 @@ use Rattle.problem_settings.specs.declared.ini.IniFault.TheVariants.{BadLimit}
 use Rattle.problem_settings.specs.Lines.{LineValue, numbered, parts, without_mark}
 use Rattle.problem_settings.specs.Fields.{Field, place_from, after_spaces, trimmed}
 use Rattle.problem_settings.specs.Entries.{and_then}
-use Rattle.problem_settings.specs.Scalars.{is_digit, number_of, within}
+use Rattle.problem_settings.specs.Scalars.{is_digit, number_of_digits, within}
 
 abbrev pub stripped : List ℕ → List ℕ
 stripped text = trimmed (after_spaces text)
@@ -37,7 +37,7 @@ unquoted text = if is_quoted text then take (length text - 2) (drop 1 text) else
 abbrev pub fraction_of : List ℕ → Option ℕ
 fraction_of [] = Some 0
 fraction_of (b ∷ digits) =
-    if b == 46 && nat_le (length digits) 3 then option_map (λ n. n * 10 ^ (3 - length digits)) (number_of digits)
+    if b == 46 && nat_le (length digits) 3 then option_map (λ n. n * 10 ^ (3 - length digits)) (number_of_digits digits)
     else None
 
 abbrev pub whole_digits : List ℕ → List ℕ
@@ -53,7 +53,7 @@ seconds_with (Some whole) None = None
 seconds_with (Some whole) (Some fraction) = within 1 1000000 (whole * 1000 + fraction)
 
 abbrev pub milliseconds_of : List ℕ → Option ℕ
-milliseconds_of text = seconds_with (number_of (whole_digits text)) (fraction_of (after_digits text))
+milliseconds_of text = seconds_with (number_of_digits (whole_digits text)) (fraction_of (after_digits text))
 
 -- ---- the whole text
 

@@ -45,13 +45,13 @@ abbrev pub stray_in : List LineValue → Option BadLine
 stray_in [] = None
 stray_in (line ∷ lines) = Some (fault_at line (stray line.text))
 
-abbrev pub unless : {A : Type 0} → Option BadLine → A → Result A BadLine
-unless None said = Ok said
-unless (Some fault) said = Err fault
+abbrev pub said_unless : {A : Type 0} → Option BadLine → A → Result A BadLine
+said_unless None said = Ok said
+said_unless (Some fault) said = Err fault
 
 -- what is said, where no line stands below it
 abbrev pub alone : {A : Type 0} → List LineValue → A → Result A BadLine
-alone lines said = unless (stray_in lines) said
+alone lines said = said_unless (stray_in lines) said
 
 abbrev pub and_then : {A B E : Type 0} → (A → Result B E) → Result A E → Result B E
 and_then next (Ok said) = next said

@@ -15,7 +15,7 @@ use Rattle.problem_settings.specs.declared.yaml.YamlWhy.TheVariants.{Tab, Indent
 use Rattle.problem_settings.specs.Lines.{LineValue, is_blank, lines_of}
 use Rattle.problem_settings.specs.Fields.{Field, is_empty, is_indented, indent_of, has_tab, content_of, is_item, ends_word, after_spaces, field_of}
 use Rattle.problem_settings.specs.Scalars.{scalar_of}
-use Rattle.problem_settings.specs.Entries.{Entry, entries, fault_at, bad, at_line, stray, unless, alone, and_then}
+use Rattle.problem_settings.specs.Entries.{Entry, entries, fault_at, bad, at_line, stray, said_unless, alone, and_then}
 use Rattle.problem_settings.specs.Sizes.{no_sizes, block_sizes, line_sizes}
 
 abbrev pub key_named : List ℕ → Option Key
@@ -45,7 +45,7 @@ shallow_in depth (line ∷ lines) =
 abbrev pub name_below : List LineValue → Result (List ℕ) BadLine
 name_below [] = Ok []
 name_below (line ∷ lines) =
-    and_then (unless (shallow_in (indent_of line.text) lines)) (at_line line (name_in line.text))
+    and_then (said_unless (shallow_in (indent_of line.text) lines)) (at_line line (name_in line.text))
 
 abbrev pub name_said : Entry → List ℕ → Result (List ℕ) BadLine
 name_said entry value =

@@ -88,9 +88,9 @@ number_from n [] = Some n
 number_from n (b ∷ bs) = if is_digit b then number_from (n * 10 + (b - 48)) bs else None
 
 -- decimal digits, perhaps with zeros in front
-abbrev pub number_of : List ℕ → Option ℕ
-number_of [] = None
-number_of (b ∷ bs) = number_from 0 (b ∷ bs)
+abbrev pub number_of_digits : List ℕ → Option ℕ
+number_of_digits [] = None
+number_of_digits (b ∷ bs) = number_from 0 (b ∷ bs)
 
 -- the number, where it is one from the least to the most
 abbrev pub within : ℕ → ℕ → ℕ → Option ℕ

@@ -10,7 +10,7 @@ use Rattle.problem_settings.specs.declared.yaml.YamlWhy.{YamlWhy}
 use Rattle.problem_settings.specs.declared.yaml.YamlWhy.TheVariants.{Tab, Indent, NoColon, Repeated, Form, BadValue}
 use Rattle.problem_settings.specs.Lines.{LineValue, parts}
 use Rattle.problem_settings.specs.Fields.{Field, is_empty, place_from, indent_of, has_tab, content_of, field_of, after_spaces, trimmed}
-use Rattle.problem_settings.specs.Scalars.{begins_form, plain_text, scalar_of, number_of, within}
+use Rattle.problem_settings.specs.Scalars.{begins_form, plain_text, scalar_of, number_of_digits, within}
 use Rattle.problem_settings.specs.Entries.{Entry, entries, at_line, and_then}
 
 abbrev pub size_named : List ℕ → Option Size
@@ -31,7 +31,7 @@ with_number Output n sizes = record { memory = sizes.memory; output = Some n }
 
 -- a whole number of MiB from 1 to 1000000
 abbrev pub mebibytes_of : List ℕ → Option ℕ
-mebibytes_of text = option_and_then (within 1 1000000) (number_of text)
+mebibytes_of text = option_and_then (within 1 1000000) (number_of_digits text)
 
 abbrev pub with_said : Size → Sizes → Option ℕ → Result Sizes YamlWhy
 with_said size sizes None = Err BadValue

@@ -1,7 +1,7 @@
 ghost use Rattle.std.specs.Prelude.{◌≡◌, ◌≤◌, [], length, min, IfOk, OnErr, IfSome, vec_capacity};
 ghost use Rattle.std.specs.Option.{option_map};
 ghost use Rattle.problem_settings.specs.Fields.{is_empty, ends_word, after_spaces};
-ghost use Rattle.problem_settings.specs.Scalars.{number_of};
+ghost use Rattle.problem_settings.specs.Scalars.{number_of_digits};
 ghost use Rattle.problem_settings.specs.ProblemYaml.{after_word};
 ghost use Rattle.problem_settings.specs.Views.{scalar_text, scalar_size};
 
@@ -64,7 +64,7 @@ impl<'a> Scalar<'a> {
     /// The number that the text is, or 1,000,001 where that is less. None where the text is no number.
     #[tactic(auto, using(crate::proofs::NumberLemmas::held_more))]
     pub(crate) fn number(&self) -> Option<u32>
-        ensures value { result ≡ option_map (λ n. min n 1000001) (number_of (scalar_text self.now)) }
+        ensures value { result ≡ option_map (λ n. min n 1000001) (number_of_digits (scalar_text self.now)) }
         ensures small { IfSome result (λ n. n ≤ 1000001) }
     {
         if self.is_empty() {

@@ -9,7 +9,7 @@ use Rattle.farm_kinds.specs.declared.outcomes.Task.{Task}
 use Rattle.task_tree.specs.Bits.{bit, IsInserted, IsRemoved, IsEmpty}
 use Rattle.farm_model.specs.Numbered.{item_of}
 use Rattle.farm_model.specs.Judgings.{task_of}
-use Rattle.task_tree.specs.Shown.{JudgingTasks, tests_of, is_shown, HasTask}
+use Rattle.task_tree.specs.Shown.{JudgingTasks, tests_listed, is_shown, HasTask}
 use Rattle.task_tree.specs.TreeLayout.{shown_from, tasks_value, tasks_values, kept_at, IsSized}
 use Rattle.task_tree.specs.declared.tree.KeptTasks.{KeptTasks}
 
@@ -57,7 +57,7 @@ read_tests [] m t l h = absurd (omega arith)
 read_tests (k ∷ ks) zero t l h = (omega arith, omega (arith, length_shown k.shown 0 k.tests, h))
 read_tests (k ∷ ks) (suc m) t l h = let r = read_tests ks m t l h in (omega (arith, r.0), r.1)
 
-tests_at : (ks : List KeptTasks) (n t : ℕ) → 1 ≤ t → t ≤ tests_of (tasks_values ks) n → (1 ≤ n) × (n ≤ length ks) × (t ≤ (kept_at ks (n - 1)).tests)
+tests_at : (ks : List KeptTasks) (n t : ℕ) → 1 ≤ t → t ≤ tests_listed (tasks_values ks) n → (1 ≤ n) × (n ≤ length ks) × (t ≤ (kept_at ks (n - 1)).tests)
 tests_at ks zero t l h = absurd (omega arith)
 tests_at ks (suc m) t l h =
     let yes : nat_lt 0 (suc m) ≡ true = grind (arith, nat_tests) in

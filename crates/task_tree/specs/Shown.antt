@@ -19,13 +19,13 @@ abbrev pub hidden : Class → ℕ → JudgingTasks
 hidden class tests = record { class = class; shown = replicate tests false }
 
 -- how many tests the judging of this number has
-abbrev pub tests_of : List JudgingTasks → ℕ → ℕ
-tests_of judgings n = option_map_or (λ j. length j.shown) (item_of judgings n) 0
+abbrev pub tests_listed : List JudgingTasks → ℕ → ℕ
+tests_listed judgings n = option_map_or (λ j. length j.shown) (item_of judgings n) 0
 
 -- there is such a task
 pub record HasTask (judgings : List JudgingTasks) (task : Task) : Type 0 where
   pub low : 1 ≤ task.test
-  pub high : task.test ≤ tests_of judgings task.judging
+  pub high : task.test ≤ tests_listed judgings task.judging
 
 -- the task is shown, or hidden
 abbrev pub with_shown : List JudgingTasks → Task → Bool → List JudgingTasks
