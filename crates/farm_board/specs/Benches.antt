@@ -36,8 +36,8 @@ abbrev pub pending_case : (Task → Option TestCase) → Option Task → Option 
 pending_case case_at None = None
 pending_case case_at (Some task) = option_map (λ c. (task, c)) (case_at task)
 
--- what no call of a bench changes: its host, its board with the cases that it trusts, and of its pass the number and how
--- many it may split off
+-- what no call of a bench changes: its host, its board with the cases that it trusts, and of its pass the number and
+-- how many it may split off
 pub record BenchIdentity : Type 0 where
   pub host : List ℕ
   pub board : BoardId

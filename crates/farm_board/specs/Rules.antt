@@ -96,7 +96,8 @@ IsAtHome {S} state_of now homes = (h : S) × (homes ≡ some (Some h) ∷ []) ×
 
 -- The rule
 
-pub record IsConsistent {S : Type 0} (state_of : S → BoardState) (start : BoardState) (s : State (Option S) View) : Type 0 where
+pub record IsConsistent {S : Type 0} (state_of : S → BoardState) (start : BoardState) (s : State (Option S) View)
+    : Type 0 where
   pub history : List Entry
   pub drawn : ℕ
   pub words : s.words ≡ drawn ∷ length history ∷ []

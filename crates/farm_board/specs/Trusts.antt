@@ -54,4 +54,5 @@ AdmitsOne admits = (task : Task) (a b : Kind) → admits task a ≡ true → adm
 
 -- a result in the event is not answered that another kind is kept
 abbrev pub NeverDiffers : Event → Reply → Type 0
-NeverDiffers e r = (task : Task) (kind kept given : Kind) → given_by e ≡ Some (task, kind) → r ≢ reply.Differs kept given
+NeverDiffers e r =
+    (task : Task) (kind kept given : Kind) → given_by e ≡ Some (task, kind) → r ≢ reply.Differs kept given

@@ -21,8 +21,8 @@ pub record DoorUse (N : Type 0) : Type 0 where
   pub old : DoorState N
   pub new : DoorState N
 
--- The folder is a contest, and it was served over the connections that came: one legal history stands behind all that was
--- answered and written.
+-- The folder is a contest, and it was served over the connections that came: one legal history stands behind all that
+-- was answered and written.
 pub record IsServed {N : Type 0} (files : Option (List TreeFile)) (folder : List ℕ) (lanes connections : ℕ)
     (door : DoorUse N) (held held' : Option (List ℕ)) (e : ServeEnd) : Type 0 where
   pub roster : RosterValue

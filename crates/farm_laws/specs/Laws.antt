@@ -121,8 +121,8 @@ abbrev pub FetchesWanted : SettingsValue → List Event → (Reply → Type 0) �
 FetchesWanted settings es told = (judging : ℕ) (tests : List ℕ) (until : ℕ) → told (reply.Batch judging tests until) →
     HandsOutBatch settings (reached settings es) told
 
--- Only what is answered `counted` fills a cell. Claims, fetches, renewals, ticks, hosts' deaths and returns, and results
--- that are answered otherwise, leave the row of each judging that is there as it was.
+-- Only what is answered `counted` fills a cell. Claims, fetches, renewals, ticks, hosts' deaths and returns, and
+-- results that are answered otherwise, leave the row of each judging that is there as it was.
 abbrev pub OnlyCountedFills : SettingsValue → List Event → State → (Reply → Type 0) → Type 0
 OnlyCountedFills settings es new told = ¬ told reply.Counted →
     (j : ℕ) → IsJudging (reached settings es) j → row_in new j ≡ row_in (reached settings es) j

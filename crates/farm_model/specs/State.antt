@@ -31,7 +31,8 @@ pub record SettingsValue : Type 0 where
   pub modes : List NamedMode
 
 abbrev pub standard_settings : SettingsValue
-standard_settings = record { rule = standard; mode = Lazy; lease = 60; verification = false; ips = 10000000; modes = [] }
+standard_settings =
+    record { rule = standard; mode = Lazy; lease = 60; verification = false; ips = 10000000; modes = [] }
 
 -- problems, hosts, submissions, judgings and rejudgings are numbered from 1
 pub record State : Type 0 where

@@ -12,7 +12,8 @@ abbrev pub entry_of : ℕ → Entered → Entry
 entry_of number x = entry.Call (call_of number x.event x.reply)
 
 -- The pass makes a call for each of these, one after the other, and nothing else. What it has seen then begins with
--- what it had seen, and once there is a call it is a legal history, in which the entries of the pass's number are its own.
+-- what it had seen, and once there is a call it is a legal history, in which the entries of the pass's number are its
+-- own.
 pub record MakesCalls (old : PassValue) (made : List Entered) (new : PassValue) : Type 0 where
   pub mine : new.mine ≡ old.mine ++ map (entry_of old.number) made
   pub seen : IsPrefix old.seen new.seen

@@ -239,7 +239,8 @@ abbrev pub Turned : {A : Type 0} → (A → Event → Reply → A → Type 0) �
 Turned {A} step shows old new None =
     (b : Standing A) (n : ℕ) → IsUnderWay step shows b old n → IsUnderWay step shows b new (n + 1)
 Turned {A} step shows old new (Some h) =
-    (b : Standing A) (n : ℕ) → IsUnderWay step shows b old n → IsServed (AreEntered step) shows b new (answered_count n h) h
+    (b : Standing A) (n : ℕ) → IsUnderWay step shows b old n
+    → IsServed (AreEntered step) shows b new (answered_count n h) h
 
 -- the counts of both sides never fall, and that of the side rises whose fault ended the connection
 pub record HasCauseServed (read read' write write' : ℕ) (result : Option ConnHow) : Type 0 where

@@ -66,7 +66,8 @@ pub record IsKept (settings : SettingsValue) (case_at : Task → Option TestCase
 
 -- the same of the journal that goes with a farm, where one is kept
 abbrev pub KeepsJournal : SettingsValue → (Task → Option TestCase) → ℕ → State → Option (List Call) → Type 0
-KeepsJournal settings case_at hosts s journal = (calls : List Call) → journal ≡ Some calls → IsKept settings case_at hosts s calls
+KeepsJournal settings case_at hosts s journal =
+    (calls : List Call) → journal ≡ Some calls → IsKept settings case_at hosts s calls
 
 -- The journal of a contest that was judged: in the end no task is open, and each submission has its verdict
 pub record IsJournal (roster : RosterValue) (hosts : ℕ) (calls : List Call) : Type 0 where

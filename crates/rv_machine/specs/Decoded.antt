@@ -57,8 +57,8 @@ pub record IsFresh (word : ℕ) (s : Instr) : Type 0 where
   pub small : IsStep s
   pub same : is_decoded s.op ≡ true → instruction_of word ≡ Some (instr_of s)
 
--- the decoded pages stand in the order of their numbers; each is a touched page, at no place behind the last, and each of
--- its steps is fresh
+-- the decoded pages stand in the order of their numbers; each is a touched page, at no place behind the last, and each
+-- of its steps is fresh
 pub record IsCode (m : memory.State) (c : Code) : Type 0 where
   pub count : length c.steps.items ≡ length c.numbers.items
   pub whole : (k : ℕ) → k < length c.numbers.items → length (get_or (pages c.steps.items) k []) ≡ 1024
