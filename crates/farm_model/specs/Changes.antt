@@ -126,7 +126,7 @@ with_submission s problem broken = record s {
 abbrev pub judging_of_new : State → ℕ → Class → Bool → Judging
 judging_of_new s problem class broken =
     empty_judging class (cells_for s.problems problem broken) (mode_for s.problems problem)
-        (asked_for s.problems problem)
+    (asked_for s.problems problem)
 
 -- a submission and its current judging
 abbrev pub submitted : State → ℕ → Class → Bool → State

@@ -17,7 +17,7 @@ key_of VerificationRequired = codes "verification_required"
 abbrev pub every_setting : List Setting
 every_setting =
     InstructionsPerSecond ∷ LazyEvalResults ∷ Lease ∷ ProblemModes
-        ∷ ResultsPrio ∷ ResultsRemap ∷ VerificationRequired ∷ []
+    ∷ ResultsPrio ∷ ResultsRemap ∷ VerificationRequired ∷ []
 
 -- the setting that has this key
 abbrev pub setting_named : List ℕ → Option Setting
