@@ -24,6 +24,7 @@ use judgehost::Gate;
 use parallel_judge::Progress;
 use script_session::{ScriptEnd, run_script};
 use std::alloc::Global;
+use std::mem;
 use std::sync::Wait;
 use std::thread::Threads;
 
@@ -190,7 +191,10 @@ fn run<S: Source, K: Sink>(alloc: Global, settings: Settings, input: &mut S, out
         → (result ≡ Exit.Done) ⊎ (result ≡ Exit.Memory) }
 {
     let mut farm = Farm::new(alloc, settings);
-    answer(alloc, &mut farm, input, out)
+    let exit = answer(alloc, &mut farm, input, out);
+    // The process ends behind this, and gives everything back at once.
+    mem::forget(farm);
+    exit
 }
 
 /// Answers the lines of the input by this farm.

@@ -245,10 +245,13 @@ impl LeaseBook {
         ensures unheld { lease_on self.new.leases task ≡ None }
         ensures unchanged { IfNone result (self.new ≡ self.old) }
     {
-        let Some(lease) = self.find(task) else {
+        let Some(lease) = self.by_judging.remove(Key {
+            rank: task.judging as u64,
+            task,
+        })
+        else {
             return None;
         };
-        self.by_judging.remove(Order::Judging.key(lease));
         self.by_host.remove(Order::Host.key(lease));
         self.by_end.remove(Order::End.key(lease));
         self.spare += 1;
