@@ -242,11 +242,35 @@ ONE_TEST = {
 }
 
 
+# What one connection asks of a contest with three tests and one submission, and what it is answered.
+BATCHES = [
+    (request("POST", "/judgehosts", HOST), response(200, "OK", '{"host":"h1","reply":"host"}')),
+    (request("POST", "/judgehosts/fetch-work", '{"hostname":"h1","max":2}'),
+     response(200, "OK", '{"judging":1,"reply":"batch","tests":[1,2],"until":0}')),
+    (request("POST", "/judgehosts/fetch-work", '{"hostname":"h1","max":17}'),
+     response(400, "Bad Request", '{"reply":"bad-body","why":"bad max"}')),
+    (request("GET", "/judgements/1/submission"), response(200, "OK", '{"reply":"owner","submission":1}')),
+    (request("POST", "/judgements/1/ask", ""), response(409, "Conflict", '{"judging":1,"reply":"already"}')),
+]
+
+
 def without_time(got):
     """The same bytes with 0 in place of the end of a lease, and the length of the body as it then is."""
     got = re.sub(rb'"until":\d+', b'"until":0', got)
     return re.sub(rb"content-length: \d+(\r\n[^{]*)(\{[^}]*until[^}]*\})",
                   lambda found: b"content-length: %d" % len(found[2]) + found[1] + found[2], got)
+
+
+def batches(program, _):
+    """A host fetches two of three tests, and no more than 16."""
+    files = dict(ONE_TEST)
+    for test in ("02", "03"):
+        files |= {f"problems/echo/data/secret/{test}.{ending}": "7\n" for ending in ("in", "ans")}
+    with tempfile.TemporaryDirectory() as folder:
+        write(folder, files)
+        with Server(program, folder, lanes=1, connections=1) as server:
+            got = without_time(sent(server, b"".join(asked for asked, _ in BATCHES)))
+            yield "batches and what a judging is of", got == b"".join(answer for _, answer in BATCHES), got
 
 
 def cut_anywhere(program, _):
@@ -402,7 +426,7 @@ def main():
     sound = True
     with tempfile.TemporaryDirectory() as folder:
         write(folder, FILES)
-        looks = [look(program, folder) for look in (talks, whole_connections, exact_bytes, cut_anywhere, hostile, lanes, ends)]
+        looks = [look(program, folder) for look in (talks, whole_connections, exact_bytes, batches, cut_anywhere, hostile, lanes, ends)]
         for some in [*looks, page(program)]:
             for name, good, got in some:
                 print(f"{'ok  ' if good else 'NOT '} {name}{'' if good else f': {got!r}'}")
