@@ -1,4 +1,4 @@
-ghost use Rattle.std.specs.Prelude.{◌≡◌, ◌×◌, IfOk};
+ghost use Rattle.std.specs.Prelude.{◌≡◌, IfOk};
 
 use crate::contest_server_tests::{HOST, one_roster};
 use contest_server::{ServeEnd, serve_contest};
