@@ -350,25 +350,29 @@ def hostile(program, folder):
                 conn.setsockopt(socket.SOL_SOCKET, socket.SO_LINGER, b"\1\0\0\0\0\0\0\0")
                 conn.sendall(BOARD + BOARD[:10])
         yield "and so is the next behind 50 that are torn off", is_answered(server.client()), None
+
+
+def silent(program, folder):
+    """Clients that say nothing: more than the lanes, and more than the system holds for the server."""
     with Server(program, folder, lanes=4, connections=5000) as server:
         other = server.client()
         yield "a client that was there before", is_answered(other), None
         # the system holds some of them for the server, and the others go on asking it
-        silent = [socket.socket() for _ in range(1000)]
-        for conn in silent:
+        clients = [socket.socket() for _ in range(1000)]
+        for conn in clients:
             conn.setblocking(False)
             conn.connect_ex(("127.0.0.1", server.port))
         yield "and is answered while 1,000 come that say nothing", is_answered(other), None
         kib = memory_of(server)
         yield f"which take no memory: {kib} KiB", kib < 20_000, kib
-        for conn in [other, *silent]:
+        for conn in [other, *clients]:
             conn.close()
         yield "a client that comes once they have gone", is_answered(server.client()), None
     with Server(program, folder, lanes=4, connections=100) as server:
-        silent = [server.connect() for _ in range(100)]
+        clients = [server.connect() for _ in range(100)]
         kib = memory_of(server)
         yield f"100 that say nothing: {kib} KiB", kib < 20_000 and server.process.poll() is None, kib
-        for conn in silent:
+        for conn in clients:
             conn.close()
         got = server.ended()
         lines = got[1].splitlines()
@@ -426,7 +430,7 @@ def main():
     sound = True
     with tempfile.TemporaryDirectory() as folder:
         write(folder, FILES)
-        looks = [look(program, folder) for look in (talks, whole_connections, exact_bytes, batches, cut_anywhere, hostile, lanes, ends)]
+        looks = [look(program, folder) for look in (talks, whole_connections, exact_bytes, batches, cut_anywhere, hostile, silent, lanes, ends)]
         for some in [*looks, page(program)]:
             for name, good, got in some:
                 print(f"{'ok  ' if good else 'NOT '} {name}{'' if good else f': {got!r}'}")
