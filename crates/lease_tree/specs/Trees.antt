@@ -1,5 +1,5 @@
 -- The leases of a tree, in order, its sizes and its balance.
-use Rattle.std.specs.Prelude.{◌≡◌, ℕ, ◌+◌, ◌-◌, ◌*◌, ◌^◌, ◌<◌, ◌≤◌, List, [], ◌∷◌, ◌++◌, length, min, max}
+use Rattle.std.specs.Prelude.{◌≡◌, ℕ, ◌+◌, ◌-◌, ◌*◌, ◌^◌, ◌<◌, ◌≤◌, List, [], ◌∷◌, ◌++◌, length, min, max, Option, Some, None}
 use Rattle.farm_model.specs.declared.records.Lease.{Lease}
 use Rattle.lease_tree.specs.declared.node.Tree.{Tree, Leaf, Fork'}
 
@@ -33,6 +33,17 @@ abbrev pub IsBalanced : Tree → Type 0
 IsBalanced Leaf = Unit {0}
 IsBalanced (Fork' p lease size left right) =
     IsEven (length (leases_of left)) (length (leases_of right)) × IsBalanced left × IsBalanced right
+
+-- the same, but for one lease more or less on one side of the root
+abbrev pub IsNearlyBalanced : Tree → Type 0
+IsNearlyBalanced Leaf = Unit {0}
+IsNearlyBalanced (Fork' p lease size left right) =
+    IsNearlyEven (length (leases_of left)) (length (leases_of right)) × IsBalanced left × IsBalanced right
+
+-- the lease at the root
+abbrev pub root_lease : Tree → Option Lease
+root_lease Leaf = None
+root_lease (Fork' p lease size left right) = Some lease
 
 -- how many leases stand on the longest way from the root
 abbrev pub depth : Tree → ℕ

@@ -1,5 +1,5 @@
-ghost use Rattle.std.specs.Prelude.{◌≡◌, ◌+◌, ◌-◌, ◌^◌, ◌<◌, ◌≤◌, ◌++◌, ◌∷◌, [], length, min, IfSome, IfNone};
-ghost use Rattle.lease_tree.specs.Trees.{leases_of, IsSized, IsEven, IsNearlyEven, IsHeavier, IsBalanced};
+ghost use Rattle.std.specs.Prelude.{◌≡◌, ◌+◌, ◌-◌, ◌^◌, ◌*◌, ◌<◌, ◌≤◌, ◌++◌, ◌∷◌, [], length, min, nat_lt, IfSome, IfNone, Some, None};
+ghost use Rattle.lease_tree.specs.Trees.{leases_of, IsSized, IsEven, IsNearlyEven, IsHeavier, IsBalanced, IsNearlyBalanced, root_lease};
 
 use crate::node::{Node, Tree, join, size};
 use std::mem;
@@ -74,35 +74,76 @@ pub fn balance(left: Tree, node: Box<Node>, right: Tree) -> Tree
     join(left, node, right)
 }
 
-/// Takes out the first lease, and gives its node.
-pub fn take_first(tree: Tree) -> (Tree, Option<Box<Node>>)
-    ensures none { IfNone result.1 (leases_of tree ≡ []) }
-    ensures empty { IfNone result.1 (leases_of result.0 ≡ []) }
-    ensures first { IfSome result.1 (λ node. leases_of tree ≡ node.value.lease ∷ leases_of result.0) }
-    ensures sized { IsSized tree → IsSized result.0 }
-    ensures balanced { IsSized tree → length (leases_of tree) < 2 ^ 32 → IsBalanced tree → IsBalanced result.0 }
+/// Whether this side is more than three times as heavy as the other one, where the tree has so many leases.
+pub fn is_heavy(side: &Tree, size: u32) -> bool
+    ensures { IsSized side.now → result ≡ nat_lt (3 * (size + 1)) (4 * (min (length (leases_of side.now)) (2 ^ 32 - 1) + 1)) }
 {
-    let Tree::Fork(mut root) = tree else {
-        return (Tree::Leaf, None);
+    3 * (size as u64 + 1) < 4 * weight(side)
+}
+
+/// Whether the other side is more than three times as heavy as this one, where the tree has so many leases.
+pub fn is_light(side: &Tree, size: u32) -> bool
+    ensures { IsSized side.now → result ≡ nat_lt (4 * (min (length (leases_of side.now)) (2 ^ 32 - 1) + 1)) (size + 1) }
+{
+    4 * weight(side) < size as u64 + 1
+}
+
+/// Balances the root of a tree of which one side was changed by one lease.
+pub fn rebalance(tree: &mut Tree)
+    ensures leases { leases_of tree.new ≡ leases_of tree.old }
+    ensures sized { IsSized tree.old → IsSized tree.new }
+    ensures balanced { IsSized tree.old → length (leases_of tree.old) < 2 ^ 32 → IsNearlyBalanced tree.old → IsBalanced tree.new }
+{
+    let Tree::Fork(mut root) = mem::replace(tree, Tree::Leaf) else {
+        return;
     };
     let left = mem::replace(&mut root.left, Tree::Leaf);
     let right = mem::replace(&mut root.right, Tree::Leaf);
-    let (rest, first) = take_first(left);
-    match first {
-        None => (right, Some(root)),
-        Some(first) => (balance(rest, root, right), Some(first)),
+    *tree = balance(left, root, right);
+}
+
+/// Puts another tree in the place of this one, and gives the node of its root.
+pub fn replace_root(tree: &mut Tree, other: Tree) -> Option<Box<Node>>
+    ensures tree { tree.new ≡ other }
+    ensures none { IfNone result (root_lease tree.old ≡ None) }
+    ensures root { IfSome result (λ node. root_lease tree.old ≡ Some node.value.lease) }
+{
+    match mem::replace(tree, other) {
+        Tree::Leaf => None,
+        Tree::Fork(root) => Some(root),
     }
 }
 
+/// Takes out the first lease, and gives its node.
+pub fn take_first(tree: &mut Tree) -> Option<Box<Node>>
+    ensures none { IfNone result (leases_of tree.old ≡ []) }
+    ensures empty { IfNone result (leases_of tree.new ≡ []) }
+    ensures first { IfSome result (λ node. leases_of tree.old ≡ node.value.lease ∷ leases_of tree.new) }
+    ensures sized { IsSized tree.old → length (leases_of tree.old) < 2 ^ 32 → IsSized tree.new }
+    ensures balanced { IsSized tree.old → length (leases_of tree.old) < 2 ^ 32 → IsBalanced tree.old → IsBalanced tree.new }
+{
+    let Tree::Fork(root) = tree else {
+        return None;
+    };
+    let Some(first) = take_first(&mut root.left) else {
+        let right = mem::replace(&mut root.right, Tree::Leaf);
+        return replace_root(tree, right);
+    };
+    root.size = root.size.saturating_sub(1);
+    if is_light(&root.left, root.size) {
+        rebalance(tree);
+    }
+    Some(first)
+}
+
 /// One tree of two, of which the second is behind the first.
-pub fn append(left: Tree, right: Tree) -> Tree
+pub fn append(left: Tree, mut right: Tree) -> Tree
     ensures leases { leases_of result ≡ leases_of left ++ leases_of right }
-    ensures sized { IsSized left → IsSized right → IsSized result }
+    ensures sized { IsSized left → IsSized right → length (leases_of right) < 2 ^ 32 → IsSized result }
     ensures balanced { IsSized left → IsSized right → length (leases_of left) + length (leases_of right) < 2 ^ 32 → IsEven (length (leases_of left)) (length (leases_of right)) → IsBalanced left → IsBalanced right → IsBalanced result }
 {
-    let (rest, first) = take_first(right);
-    match first {
+    match take_first(&mut right) {
         None => left,
-        Some(node) => balance(left, node, rest),
+        Some(node) => balance(left, node, right),
     }
 }

@@ -9,7 +9,6 @@ use farm_kinds::{NoMemory, Task};
 use farm_model::Lease;
 use std::alloc::Global;
 use std::marker::Model;
-use std::mem;
 
 /// Leases in one of their orders. Only `reserve` takes memory.
 ///
@@ -159,8 +158,7 @@ impl LeaseTree {
             return;
         };
         node.lease = lease;
-        let root = mem::replace(&mut self.root, Tree::Leaf);
-        self.root = change::insert(root, self.order, node);
+        change::insert(&mut self.root, self.order, node);
     }
 
     /// Takes out the lease that stands there, if one does.
@@ -172,10 +170,7 @@ impl LeaseTree {
         ensures unchanged { IfNone result (self.new ≡ self.old) }
         ensures spare { self.new.spare ≡ self.old.spare + (if is_some result then 1 else 0) }
     {
-        let root = mem::replace(&mut self.root, Tree::Leaf);
-        let (rest, taken) = change::remove(root, self.order, key);
-        self.root = rest;
-        match taken {
+        match change::remove(&mut self.root, self.order, key) {
             None => None,
             Some(node) => {
                 let lease = node.lease;

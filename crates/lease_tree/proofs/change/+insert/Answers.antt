@@ -1,30 +1,56 @@
-use Rattle.std.proofs.Common.{◌≡◌, List, ◌∷◌, ◌++◌, true, false, None, find, rules, sym, subst}
+use Rattle.std.proofs.Common.{◌≡◌, List, ◌∷◌, ◌++◌, true, false, rules, sym, subst}
 use Rattle.farm_model.specs.declared.records.Lease.{Lease}
-use Rattle.lease_tree.specs.Keys.{key_of, has_key, is_key_before, Rising}
+use Rattle.lease_tree.specs.declared.keys.Order.{Order}
+use Rattle.lease_tree.specs.Keys.{key_of, is_key_before, Rising, IsAdded}
 use Rattle.lease_tree.specs.Trees.{leases_of}
-use Rattle.lease_tree.proofs.Changes.{grown_left, grown_right}
+use Rattle.lease_tree.proofs.Changes.{IsFree, grown_left, grown_right}
 use Rattle.lease_tree.proofs.change.+insert.Goals as goal
 
-pub returns-then-is_before-clause-rising : goal.returns-then-is_before-clause-rising
-returns-then-is_before-clause-rising t c = λ up none.
-    let by = c.args.order in
-    let x = c.args.node.value.lease in
-    let r = c.deref_mut.result.now.lease in
-    let left = leases_of c.replace-left.result in
-    let right = leases_of c.replace-right.result in
-    let all : leases_of c.args.tree ≡ left ++ r ∷ right = search rules in
-    let lt : is_key_before (key_of by x) (key_of by r) ≡ true = search rules in
-    let new : leases_of c.balance.result ≡ leases_of c.insert.result ++ r ∷ right = search rules in
-    subst (Rising by) (sym new) (grown_left by left (leases_of c.insert.result) r right x lt c.insert.ensures.added c.insert.ensures.rising (subst (Rising by) all up) (subst (λ (xs : List Lease). find (has_key by (key_of by x)) xs ≡ None) all none))
+-- the lease went to the left of r, or to its right
+went_left : (by : Order) (all old new : List Lease) (r : Lease) (right : List Lease) (x : Lease) → all ≡ old ++ r ∷ right → is_key_before (key_of by x) (key_of by r) ≡ true → IsAdded old new x → (Rising by old → IsFree by (key_of by x) old → Rising by new)
+    → Rising by all → IsFree by (key_of by x) all → Rising by (new ++ r ∷ right)
+went_left by all old new r right x e lt added inner up none =
+    grown_left by old new r right x lt added inner (subst (Rising by) e up) (subst (IsFree by (key_of by x)) e none)
 
-pub returns-else-is_before-clause-rising : goal.returns-else-is_before-clause-rising
-returns-else-is_before-clause-rising t c = λ up none.
+went_right : (by : Order) (all left : List Lease) (r : Lease) (old new : List Lease) (x : Lease) → all ≡ left ++ r ∷ old → is_key_before (key_of by x) (key_of by r) ≡ false → IsAdded old new x → (Rising by old → IsFree by (key_of by x) old → Rising by new)
+    → Rising by all → IsFree by (key_of by x) all → Rising by (left ++ r ∷ new)
+went_right by all left r old new x e ge added inner up none =
+    grown_right by left r old new x ge added inner (subst (Rising by) e up) (subst (IsFree by (key_of by x)) e none)
+
+pub returns-then-is_heavy-clause-rising : goal.returns-then-is_heavy-clause-rising
+returns-then-is_heavy-clause-rising t c = λ up none.
     let by = c.args.order in
     let x = c.args.node.value.lease in
-    let r = c.deref_mut.result.now.lease in
-    let left = leases_of c.replace-left.result in
-    let right = leases_of c.replace-right.result in
-    let all : leases_of c.args.tree ≡ left ++ r ∷ right = search rules in
-    let ge : is_key_before (key_of by x) (key_of by r) ≡ false = search rules in
-    let new : leases_of c.balance-else-is_before.result ≡ left ++ r ∷ leases_of c.insert-else-is_before.result = search rules in
-    subst (Rising by) (sym new) (grown_right by left r right (leases_of c.insert-else-is_before.result) x ge c.insert-else-is_before.ensures.added c.insert-else-is_before.ensures.rising (subst (Rising by) all up) (subst (λ (xs : List Lease). find (has_key by (key_of by x)) xs ≡ None) all none))
+    let root = c.deref_mut-then-is_before.result.now in
+    let all : leases_of c.args.tree.now ≡ leases_of root.left ++ root.lease ∷ leases_of root.right = search rules in
+    let lt : is_key_before (key_of by x) (key_of by root.lease) ≡ true = search rules in
+    let new : leases_of c.rebalance.new.tree ≡ leases_of c.insert.new.tree ++ root.lease ∷ leases_of root.right = search rules in
+    subst (Rising by) (sym new) (went_left by (leases_of c.args.tree.now) (leases_of root.left) (leases_of c.insert.new.tree) root.lease (leases_of root.right) x all lt c.insert.ensures.added c.insert.ensures.rising up none)
+
+pub returns-else-is_heavy-clause-rising : goal.returns-else-is_heavy-clause-rising
+returns-else-is_heavy-clause-rising t c = λ up none.
+    let by = c.args.order in
+    let x = c.args.node.value.lease in
+    let root = c.deref_mut-then-is_before.result.now in
+    let all : leases_of c.args.tree.now ≡ leases_of root.left ++ root.lease ∷ leases_of root.right = search rules in
+    let lt : is_key_before (key_of by x) (key_of by root.lease) ≡ true = search rules in
+    went_left by (leases_of c.args.tree.now) (leases_of root.left) (leases_of c.insert.new.tree) root.lease (leases_of root.right) x all lt c.insert.ensures.added c.insert.ensures.rising up none
+
+pub returns-then-is_heavy-2-clause-rising : goal.returns-then-is_heavy-2-clause-rising
+returns-then-is_heavy-2-clause-rising t c = λ up none.
+    let by = c.args.order in
+    let x = c.args.node.value.lease in
+    let root = c.deref_mut-else-is_before.result.now in
+    let all : leases_of c.args.tree.now ≡ leases_of root.left ++ root.lease ∷ leases_of root.right = search rules in
+    let ge : is_key_before (key_of by x) (key_of by root.lease) ≡ false = search rules in
+    let new : leases_of c.rebalance-then-is_heavy-2.new.tree ≡ leases_of root.left ++ root.lease ∷ leases_of c.insert-else-is_before.new.tree = search rules in
+    subst (Rising by) (sym new) (went_right by (leases_of c.args.tree.now) (leases_of root.left) root.lease (leases_of root.right) (leases_of c.insert-else-is_before.new.tree) x all ge c.insert-else-is_before.ensures.added c.insert-else-is_before.ensures.rising up none)
+
+pub returns-else-is_heavy-2-clause-rising : goal.returns-else-is_heavy-2-clause-rising
+returns-else-is_heavy-2-clause-rising t c = λ up none.
+    let by = c.args.order in
+    let x = c.args.node.value.lease in
+    let root = c.deref_mut-else-is_before.result.now in
+    let all : leases_of c.args.tree.now ≡ leases_of root.left ++ root.lease ∷ leases_of root.right = search rules in
+    let ge : is_key_before (key_of by x) (key_of by root.lease) ≡ false = search rules in
+    went_right by (leases_of c.args.tree.now) (leases_of root.left) root.lease (leases_of root.right) (leases_of c.insert-else-is_before.new.tree) x all ge c.insert-else-is_before.ensures.added c.insert-else-is_before.ensures.rising up none
