@@ -103,14 +103,10 @@ fn what_stands_at_a_rank(rt: HostRuntime) -> Result<(), Fail> {
     assert_eq!(rt; tree.first_of(2).map(parts_of), Some((2, 1, 10, 61)));
     assert_eq!(rt; tree.first_of(4).map(parts_of), None);
     assert_eq!(rt;
-        (
-            tree.count_below(0),
-            tree.count_below(1),
-            tree.count_below(2)
-        ),
-        (0, 0, 2)
+        (tree.count_of(0), tree.count_of(1), tree.count_of(2)),
+        (0, 2, 2)
     );
-    assert_eq!(rt; (tree.count_below(3), tree.count_below(4)), (4, 6));
+    assert_eq!(rt; (tree.count_of(3), tree.count_of(4)), (2, 0));
     let task = Task {
         judging: 3,
         test: 2,

@@ -1,6 +1,6 @@
 -- Trees that have the leases of a book.
 use Rattle.std.proofs.Common.{ℕ, ◌≡◌, ◌+◌, ◌≤◌, List, [], ◌∷◌, ◌++◌, Option, Some, None, Bool, true, false, cond, refl, sym, ap, ◌∙◌, subst, arith, length, filter, find, count_by, is_some, eqb}
-use Rattle.std.specs.Prelude.{IfSome, nat_lt, ◌==◌, ◌&&◌}
+use Rattle.std.specs.Prelude.{IfSome, ◌&&◌}
 use Rattle.std.proofs.lemmas.Bool.Decides.{nat_tests}
 use Rattle.std.proofs.lemmas.Bool.{and_parts}
 use Rattle.std.proofs.lemmas.List.Sums.{sum_by-append, sum_by-cons}
@@ -9,7 +9,7 @@ use Rattle.farm_model.specs.declared.records.Lease.{Lease}
 use Rattle.farm_model.specs.Leases.{same_task, lease_on, holds, held_count, without_task}
 use Rattle.lease_tree.specs.declared.keys.Order.{Order}
 use Rattle.lease_tree.specs.declared.keys.Order.TheVariants as order
-use Rattle.lease_tree.specs.Keys.{rank_of, key_of, has_key, has_rank, count_below, IsAdded, IsTaken}
+use Rattle.lease_tree.specs.Keys.{rank_of, key_of, has_key, has_rank, IsAdded, IsTaken}
 use Rattle.lease_tree.specs.TreeValue.{OrderedLeases, no_leases}
 use Rattle.lease_book.specs.Book.{IsSinglyLeased}
 use Rattle.lease_book.specs.BookLayout.{AreSame, IsIndex}
@@ -115,14 +115,8 @@ found_on_task xs n task tree h single =
       find_agree p q same [] = refl
       find_agree p q same (x ∷ xs) = rw (same x) (ap (λ o. cond (q x) (Some x) o) (find_agree p q same xs))
 
-one_host : (host : ℕ) (xs : List Lease) → count_below order.Host (host + 1) xs ≡ count_below order.Host host xs + held_count xs host
-one_host host [] = refl
-one_host host (x ∷ xs) =
-    let here : one_if (nat_lt x.host (host + 1)) ≡ one_if (nat_lt x.host host) + one_if (x.host == host) = grind (arith, nat_tests) in
-    omega (arith, here, one_host host xs, count_cons (λ (y : Lease). nat_lt y.host (host + 1)) x xs, count_cons (λ (y : Lease). nat_lt y.host host) x xs, count_cons (holds host) x xs)
-
-pub held_below : (xs : List Lease) (n host : ℕ) (tree : OrderedLeases) → IsIndex order.Host xs n tree → count_below tree.order (host + 1) tree.leases ≡ count_below tree.order host tree.leases + held_count xs host
-held_below xs n host tree h = rw h.order (one_host host tree.leases ∙ ap (λ k. count_below order.Host host tree.leases + k) (sym (h.same.count (holds host))))
+pub held_of : (xs : List Lease) (n host : ℕ) (tree : OrderedLeases) → IsIndex order.Host xs n tree → count_by (has_rank tree.order host) tree.leases ≡ held_count xs host
+held_of xs n host tree h = rw h.order (sym (h.same.count (holds host)))
 
 -- what a tree by hosts or by judgings finds of a host or a judging ends one of its leases, and where it finds nothing there are none
 pub rank_ends_one : (p : Lease → Bool) (by : Order) (xs : List Lease) (n rank : ℕ) (tree : OrderedLeases) (x : Lease) → ((y : Lease) → has_rank by rank y ≡ p y) → IsIndex by xs n tree → IsSinglyLeased xs → find (has_rank tree.order rank) tree.leases ≡ Some x → EndsOne p xs x.task

@@ -131,8 +131,7 @@ impl LeaseBook {
     pub fn held(&self, host: u32) -> u32
         ensures { result ≡ held_count self.now.leases host }
     {
-        let rank = host as u64;
-        self.by_host.count_below(rank + 1) - self.by_host.count_below(rank)
+        self.by_host.count_of(host as u64)
     }
 
     /// Gives the lease on the task another end. False where no lease is held on it.

@@ -79,7 +79,7 @@ pub found_right : (p : Lease → Bool) (xs ys : List Lease) → Each (λ y. p y 
 found_right p [] ys h = refl
 found_right p (x ∷ xs) ys h = let no : p x ≡ false = h.0 in rw no (found_right p xs ys h.1)
 
-counted : (p : Lease → Bool) (xs : List Lease) (x : Lease) (ys : List Lease) → count_by p (xs ++ x ∷ ys) ≡ count_by p xs + (cond (p x) 1 0 + count_by p ys)
+pub counted : (p : Lease → Bool) (xs : List Lease) (x : Lease) (ys : List Lease) → count_by p (xs ++ x ∷ ys) ≡ count_by p xs + (cond (p x) 1 0 + count_by p ys)
 counted p xs x ys = sum_by-append (λ y. cond (p y) 1 0) xs (x ∷ ys) ∙ ap (λ n. count_by p xs + n) (sum_by-cons (λ y. cond (p y) 1 0) x ys)
 
 -- ---- where a key is found
@@ -110,11 +110,11 @@ key_here by xs x ys key h a b =
 
 -- ---- where a rank is found
 
-rank_behind : (by : Order) (x : Lease) (ys : List Lease) (rank : ℕ) → Each (λ y. is_before by x y ≡ true) ys → rank < rank_of by x → Each (λ y. has_rank by rank y ≡ false) ys
+pub rank_behind : (by : Order) (x : Lease) (ys : List Lease) (rank : ℕ) → Each (λ y. is_before by x y ≡ true) ys → rank < rank_of by x → Each (λ y. has_rank by rank y ≡ false) ys
 rank_behind by x ys rank h lt =
     each_weaker (λ y. is_before by x y ≡ true) (λ y. has_rank by rank y ≡ false) (λ y b. let le : rank_of by x ≤ rank_of by y = rank_before (key_of by x) (key_of by y) b in grind (arith, nat_tests, lt, le)) ys h
 
-rank_ahead : (by : Order) (x : Lease) (xs : List Lease) (rank : ℕ) → Each (λ y. is_before by y x ≡ true) xs → rank_of by x < rank → Each (λ y. has_rank by rank y ≡ false) xs
+pub rank_ahead : (by : Order) (x : Lease) (xs : List Lease) (rank : ℕ) → Each (λ y. is_before by y x ≡ true) xs → rank_of by x < rank → Each (λ y. has_rank by rank y ≡ false) xs
 rank_ahead by x xs rank h lt =
     each_weaker (λ y. is_before by y x ≡ true) (λ y. has_rank by rank y ≡ false) (λ y b. let le : rank_of by y ≤ rank_of by x = rank_before (key_of by y) (key_of by x) b in grind (arith, nat_tests, lt, le)) xs h
 
@@ -147,7 +147,7 @@ first_of_all by (x ∷ xs) h =
 
 -- ---- how many have a lesser rank
 
-abbrev below : Order → ℕ → Lease → Bool
+abbrev pub below : Order → ℕ → Lease → Bool
 below by rank lease = nat_lt (rank_of by lease) rank
 
 -- a lease of no lesser rank: those behind it have none either

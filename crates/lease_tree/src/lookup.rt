@@ -1,4 +1,4 @@
-ghost use Rattle.std.specs.Prelude.{◌≡◌, ◌-◌, ◌^◌, find, slice_get, min};
+ghost use Rattle.std.specs.Prelude.{◌≡◌, ◌-◌, ◌<◌, ◌^◌, find, slice_get, length, min, count_by};
 ghost use Rattle.lease_tree.specs.Keys.{Rising, has_key, has_rank, is_from, is_behind, count_below};
 ghost use Rattle.lease_tree.specs.Trees.{leases_of, IsSized, depth};
 
@@ -115,6 +115,30 @@ pub fn count_below(tree: &Tree, order: Order, rank: u64) -> u32
             }
             let right = count_below(&node.right, order, rank);
             size(&node.left).saturating_add(1).saturating_add(right)
+        }
+    }
+}
+
+/// How many leases have the rank.
+#[tactic(auto, using(crate::proofs::Ranks::rank_on_left, crate::proofs::Ranks::rank_on_right))]
+pub fn count_of(tree: &Tree, order: Order, rank: u64) -> u32
+    requires { rank < 2 ^ 64 - 1 }
+    ensures { IsSized tree.now → length (leases_of tree.now) < 2 ^ 32 → Rising order (leases_of tree.now) → result ≡ count_by (has_rank order rank) (leases_of tree.now) }
+{
+    match tree {
+        Tree::Leaf => 0,
+        Tree::Fork(node) => {
+            let here = order.rank(node.lease);
+            if rank < here {
+                return count_of(&node.left, order, rank);
+            }
+            if here < rank {
+                return count_of(&node.right, order, rank);
+            }
+            let before = count_below(&node.left, order, rank);
+            let left = size(&node.left).saturating_sub(before);
+            let right = count_below(&node.right, order, rank + 1);
+            left.saturating_add(1).saturating_add(right)
         }
     }
 }

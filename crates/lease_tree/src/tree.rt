@@ -1,5 +1,5 @@
-ghost use Rattle.std.specs.Prelude.{◌≡◌, ℕ, ◌+◌, ◌-◌, ◌*◌, ◌<◌, ◌≤◌, ◌^◌, find, length, slice_get, is_some, None, IfSome, IfNone, OnOk, OnErr, vec_len, vec_capacity, if◌then◌else◌};
-ghost use Rattle.lease_tree.specs.Keys.{key_of, has_key, has_rank, is_from, is_behind, count_below, NoneBefore, NoneEarlier, IsAdded, IsTaken};
+ghost use Rattle.std.specs.Prelude.{◌≡◌, ℕ, ◌+◌, ◌-◌, ◌*◌, ◌<◌, ◌≤◌, ◌^◌, find, length, count_by, slice_get, is_some, None, IfSome, IfNone, OnOk, OnErr, vec_len, vec_capacity, if◌then◌else◌};
+ghost use Rattle.lease_tree.specs.Keys.{key_of, has_key, has_rank, is_from, is_behind, NoneBefore, NoneEarlier, IsAdded, IsTaken};
 ghost use Rattle.lease_tree.specs.TreeValue.{no_leases};
 
 use crate::keys::{Key, Order};
@@ -137,11 +137,12 @@ impl LeaseTree {
         lookup::first_behind(&self.root, self.order, key)
     }
 
-    /// How many leases have a lesser rank.
-    pub fn count_below(&self, rank: u64) -> u32
-        ensures { result ≡ count_below self.now.order rank self.now.leases }
+    /// How many leases have the rank, which is less than 2^64 - 1.
+    pub fn count_of(&self, rank: u64) -> u32
+        requires { rank < 2 ^ 64 - 1 }
+        ensures { result ≡ count_by (has_rank self.now.order rank) self.now.leases }
     {
-        lookup::count_below(&self.root, self.order, rank)
+        lookup::count_of(&self.root, self.order, rank)
     }
 
     /// Puts in a lease, where none stands at its key, which `find` tells.
