@@ -1,5 +1,5 @@
 -- What each change keeps: each lease is on an empty cell of a judging that is there.
-use Rattle.std.proofs.Common.{ℕ, ◌≡◌, ◌≢◌, ◌≤◌, List, [], ◌∷◌, ◌++◌, Option, Some, None, Bool, true, false, not, cond, refl, sym, ap, ◌∙◌, arith, inl, inr, map, filter, get_or}
+use Rattle.std.proofs.Common.{ℕ, ◌≡◌, ◌≢◌, ◌≤◌, List, [], ◌∷◌, ◌++◌, Option, Some, None, Bool, true, false, not, cond, refl, sym, ap, ◌∙◌, arith, inl, inr, map, filter, get_or, is_none}
 use Rattle.std.specs.Option.{option_and_then}
 use Rattle.std.proofs.lemmas.Bool.{cases_eq, and_parts}
 use Rattle.std.proofs.lemmas.List.Elements.{All-push, All-filter, All-map, All-weaker, filter_passes}
@@ -8,7 +8,7 @@ use Rattle.farm_kinds.specs.declared.outcomes.Task.{Task}
 use Rattle.farm_kinds.specs.RuleValue.{RuleValue}
 use Rattle.farm_model.specs.declared.records.Lease.{Lease}
 use Rattle.farm_model.specs.Numbered.{item_of, with_change}
-use Rattle.farm_model.specs.Leases.{same_task, with_lease, without_task, renew_if}
+use Rattle.farm_model.specs.Leases.{same_task, lease_on, with_lease, without_task, renew_if}
 use Rattle.farm_model.specs.Judgings.{Judging, task_of, cell_of, fill_cell, with_result, with_handed, with_asked, with_dropped, mark_handed, mark_asked, mark_dropped}
 use Rattle.farm_model.specs.Open.{is_free}
 use Rattle.judging_core.specs.Holding.{IsOnEmptyCell, AreOnEmptyCells}
@@ -99,3 +99,10 @@ open_cell rule js ls t e = by_judging (item_of js t.judging) refl ((and_parts (i
   by_judging : (o : Option Judging) → item_of js t.judging ≡ o → is_open_in rule t.test o ≡ true → cell_of js t.judging t.test ≡ Some None
   by_judging None i h = cc
   by_judging (Some judging) i h = ap (λ p. cell_in p t.test) i ∙ by_cell judging (item_of judging.row t.test) h
+
+-- and no lease is held on it
+pub open_free : (rule : RuleValue) (js : List Judging) (ls : List Lease) (t : Task) → is_open rule js ls t ≡ true → lease_on ls t ≡ None
+open_free rule js ls t e = none (lease_on ls t) ((and_parts (is_open_in rule t.test (item_of js t.judging)) (is_free ls t) e).1) where
+  none : (o : Option Lease) → is_none o ≡ true → o ≡ None
+  none None h = refl
+  none (Some lease) h = cc

@@ -5,7 +5,6 @@ use Rattle.std.proofs.lemmas.List.Elements.{All-head, All-push, All-filter, All-
 use Rattle.std.proofs.lemmas.Bool.Decides.{nat_tests}
 use Rattle.farm_model.specs.declared.records.Lease.{Lease}
 use Rattle.farm_model.specs.Leases.{holds, held_count, without_host, renew_if}
-use Rattle.lease_book.specs.Book.{Book, room}
 use Rattle.lease_book.proofs.Counts.{one_if, count_cons, count_push, count_parts, length_kept}
 use Rattle.judging_core.specs.Holding.{IsOfHosts, IsHeldWell}
 
@@ -73,7 +72,7 @@ few_in_all zero (x ∷ xs) h = let a = All-head (IsOfHosts zero) x xs h.hosts_kn
 few_in_all (suc hosts) xs h =
     omega (arith, few_in_all hosts (without_host xs (suc hosts)) (front_held hosts xs h), length_kept (holds (suc hosts)) xs, h.few_each (suc hosts))
 
--- where 64 for each host have room, and a host holds fewer, there is room for one more
-pub spare_left : (hosts : ℕ) (book : Book) (lease : Lease) → IsHeldWell hosts book.leases → 64 * hosts ≤ room book → IsOfHosts hosts lease → held_count book.leases lease.host < 64 → 0 < book.spare
-spare_left hosts book lease h roomy known few =
-    omega (arith, few_in_all hosts (book.leases ++ lease ∷ []) (one_held hosts book.leases lease h known few), length_push book.leases lease)
+-- and fewer, where a host holds fewer
+pub fewer_in_all : (hosts : ℕ) (xs : List Lease) (lease : Lease) → IsHeldWell hosts xs → IsOfHosts hosts lease → held_count xs lease.host < 64 → length xs < 64 * hosts
+fewer_in_all hosts xs lease h known few =
+    omega (arith, few_in_all hosts (xs ++ lease ∷ []) (one_held hosts xs lease h known few), length_push xs lease)

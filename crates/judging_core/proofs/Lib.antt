@@ -8,5 +8,6 @@ pub mod Wanted
 pub mod Listed
 pub mod OpenTasks
 pub mod Cells
+pub mod CellCount
 pub mod Vain
 pub mod Batches

@@ -1,5 +1,5 @@
 -- How many leases hosts hold, and on what.
-use Rattle.std.specs.Prelude.{◌≡◌, ℕ, ◌≤◌, List, All, Some, None}
+use Rattle.std.specs.Prelude.{◌≡◌, ℕ, ◌≤◌, ◌*◌, min, List, All, Some, None}
 use Rattle.farm_model.specs.Limits.{max_held}
 use Rattle.farm_model.specs.declared.records.Lease.{Lease}
 use Rattle.farm_model.specs.Leases.{held_count}
@@ -13,6 +13,10 @@ IsOfHosts hosts lease = (1 ≤ lease.host) × (lease.host ≤ hosts)
 pub record IsHeldWell (hosts : ℕ) (leases : List Lease) : Type 0 where
   pub hosts_known : All (IsOfHosts hosts) leases
   pub few_each : (host : ℕ) → held_count leases host ≤ max_held
+
+-- how many leases can be held: 64 by each host, one on a test
+abbrev pub most_held : ℕ → ℕ → ℕ
+most_held hosts tests = min (max_held * hosts) tests
 
 -- the lease is on an empty cell of a judging that is there
 abbrev pub IsOnEmptyCell : List Judging → Lease → Type 0

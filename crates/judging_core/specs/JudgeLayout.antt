@@ -1,11 +1,11 @@
 -- How a judge lies in memory.
-use Rattle.std.specs.Prelude.{ℕ, ◌≤◌, ◌<◌, ◌+◌, ◌*◌, ◌^◌, length, vec_len, vec_capacity}
-use Rattle.farm_model.specs.Limits.{max_hosts, max_judgings, max_held}
+use Rattle.std.specs.Prelude.{◌≡◌, ℕ, ◌≤◌, ◌<◌, ◌+◌, ◌^◌, length, vec_len, vec_capacity}
+use Rattle.farm_model.specs.Limits.{max_hosts, max_judgings}
 use Rattle.farm_model.specs.Judge.{JudgeState}
 use Rattle.lease_book.specs.Book.{room}
 use Rattle.judging_core.specs.JudgeValue.{JudgeValue}
-use Rattle.judging_core.specs.JudgeShape.{judging_values, AreWellKept, AreRuledBy, reserved_of, ArePrepared}
-use Rattle.judging_core.specs.Holding.{IsHeldWell, AreOnEmptyCells}
+use Rattle.judging_core.specs.JudgeShape.{judging_values, AreWellKept, AreRuledBy, cells_in, reserved_of, ArePrepared}
+use Rattle.judging_core.specs.Holding.{IsHeldWell, AreOnEmptyCells, most_held}
 use Rattle.judging_core.specs.Listed.{IsListed}
 use Rattle.judging_core.specs.declared.judge.Judge.TheInside.{Inside}
 
@@ -33,8 +33,10 @@ pub record IsJudgeLayout (a : Inside) : Type 0 where
   pub few_hosts : a.hosts ≤ max_hosts
   pub held : IsHeldWell a.hosts a.leases.leases
   pub cells : AreOnEmptyCells (judging_values a.judgings.items) a.leases.leases
-  -- 64 leases for each host
-  pub roomy : max_held * a.hosts ≤ room a.leases
+  -- how many tests the judgings have together
+  pub counted : a.cells ≡ cells_in a.judgings.items
+  -- room for as many leases as can be held: 64 by each host, one on a test
+  pub roomy : most_held a.hosts (a.cells + cells_in a.prepared.items) ≤ room a.leases
   -- what is made ahead
   pub prepared : ArePrepared a.prepared.items
   pub prepared_ruled : AreRuledBy a.rule a.prepared.items

@@ -1,5 +1,5 @@
 -- How judgings lie in memory.
-use Rattle.std.specs.Prelude.{◌≡◌, ℕ, ◌≤◌, List, map, reverse, length, All}
+use Rattle.std.specs.Prelude.{◌≡◌, ℕ, ◌≤◌, List, map, reverse, length, sum_by, All}
 use Rattle.farm_kinds.specs.declared.kinds.Kind.{Kind}
 use Rattle.farm_kinds.specs.RuleValue.{RuleValue}
 use Rattle.farm_model.specs.Limits.{max_tests}
@@ -46,10 +46,14 @@ CanAllHold kind judgings = All (CanHold kind) judgings
 abbrev pub row_length : Judging → ℕ
 row_length judging = length judging.row
 
--- Judgings that are made ahead, the next one last
-
 abbrev pub cell_count : KeptJudging → ℕ
 cell_count kept = length kept.row.cells
+
+-- how many cells they have together
+abbrev pub cells_in : List KeptJudging → ℕ
+cells_in judgings = sum_by cell_count judgings
+
+-- Judgings that are made ahead, the next one last
 
 -- their numbers of tests, the next one first
 abbrev pub reserved_of : List KeptJudging → List ℕ

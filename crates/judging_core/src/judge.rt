@@ -17,6 +17,7 @@ use crate::listing::{
 };
 use crate::open::first_open;
 use crate::prepared::{is_next, prepared_judgings, take_prepared};
+use crate::room::{make_lease_room, tests_with};
 use farm_kinds::{
     Answer, AskEnd, Claim, Class, Count, Fetched, Few, Kind, MAX_BATCH, MAX_HELD, Mode, NoMemory,
     Numbers, Renewed, Rule, Task,
@@ -40,6 +41,8 @@ pub struct Judge {
     moment: u64,
     judgings: Vec<KeptJudging>,
     prepared: Vec<KeptJudging>,
+    /// How many tests the judgings have together.
+    cells: u32,
     hosts: u32,
     leases: LeaseBook,
     /// Each open task is shown here, so that claims need not look at the judgings.
@@ -72,6 +75,7 @@ impl Judge {
             moment: 0,
             judgings: Vec::new(alloc),
             prepared: Vec::new(alloc),
+            cells: 0,
             hosts: 0,
             leases: LeaseBook::new(alloc),
             tasks: TaskTree::new(alloc),
@@ -95,6 +99,8 @@ impl Judge {
         let prepared = prepared_judgings(self.alloc, self.rule, tests.as_slice())?;
         self.judgings.reserve(prepared.len()).map_err(|_| NoMemory)?;
         make_room(&mut self.tasks, self.judgings.len() + prepared.len())?;
+        let all = tests_with(self.cells, &prepared);
+        make_lease_room(&mut self.leases, self.hosts, all)?;
         self.prepared = prepared;
         Ok(())
     }
@@ -122,8 +128,11 @@ impl Judge {
         let judging = empty_judging(self.alloc, self.rule, class, tests, mode, asked)?;
         let number = self.judgings.len() + 1;
         make_room(&mut self.tasks, number)?;
+        let cells = self.cells + u32::from(tests);
+        make_lease_room(&mut self.leases, self.hosts, cells)?;
         self.judgings.push(judging).map_err(|_| NoMemory)?;
         self.prepared = Vec::new(self.alloc);
+        self.cells = cells;
         list_judging(&mut self.tasks, class, number as u32, tests, asked);
         Ok(number as u32)
     }
@@ -140,23 +149,25 @@ impl Judge {
             return 0;
         };
         self.judgings.push_reserved(judging);
+        self.cells += u32::from(tests);
         let number = self.judgings.len() as u32;
         list_judging(&mut self.tasks, class, number, tests, asked);
         number
     }
 
-    /// Adds a host, and answers its number. There is room for 64 leases of each host then, so that no
-    /// later call of a host takes memory.
+    /// Adds a host, and answers its number. There is room then for all leases that can be held, 64 by each host
+    /// and one on each test, so that no later call of a host takes memory.
     pub fn add_host(&mut self) -> Result<u32, NoMemory>
         requires { self.old.hosts < max_hosts }
         ensures number { IfOk result (λ host. host ≡ self.old.hosts + 1) }
         ensures added { IfOk result (λ host. self.new ≡ record self.old { hosts = self.old.hosts + 1 }) }
         ensures unchanged { OnErr result (self.new ≡ self.old) }
     {
-        let room = (self.hosts + 1) * MAX_HELD;
-        self.leases.reserve(room - self.leases.len())?;
-        self.hosts += 1;
-        Ok(self.hosts)
+        let hosts = self.hosts + 1;
+        let tests = tests_with(self.cells, &self.prepared);
+        make_lease_room(&mut self.leases, hosts, tests)?;
+        self.hosts = hosts;
+        Ok(hosts)
     }
 
     /// Gives the host the least open task by class, judging and test, and a lease on it.

@@ -13,5 +13,6 @@ mod listing;
 mod marks;
 mod open;
 mod prepared;
+mod room;
 
 pub use judge::Judge;

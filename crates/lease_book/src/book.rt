@@ -100,9 +100,10 @@ impl LeaseBook {
         self.spare
     }
 
-    /// Grants the task to the host until that moment.
+    /// Grants the task to the host until that moment. There must be room for it. Whoever shows that may use that no
+    /// task has two leases, which the book itself knows.
     pub fn grant(&mut self, host: u32, task: Task, until: u64)
-        requires spare { 0 < self.old.spare }
+        requires spare { IsSinglyLeased self.old.leases → 0 < self.old.spare }
         requires unheld { lease_on self.old.leases task ≡ None }
         requires few { length self.old.leases < 2 ^ 32 - 1 }
         ensures leases { self.new.leases ≡ with_lease self.old.leases host task until }

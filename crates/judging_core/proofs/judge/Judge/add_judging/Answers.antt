@@ -2,17 +2,20 @@ use Rattle.std.proofs.Common.{ℕ, ◌≡◌, ◌∙◌, ◌≤◌, ◌<◌, ◌
 use Rattle.std.specs.List.{All}
 use Rattle.std.proofs.lemmas.List.{length_push, length-map, map_push, map-append}
 use Rattle.std.proofs.lemmas.List.Elements.{All-push}
+use Rattle.farm_model.specs.declared.records.Lease.{Lease}
 use Rattle.farm_model.specs.Judge.{add_judging}
 use Rattle.farm_model.specs.Judgings.{Judging, task_of, empty_judging}
+use Rattle.lease_book.specs.Book.{room}
 use Rattle.judging_core.specs.JudgeValue.{JudgeValue, with_judging, starts_with}
 use Rattle.judging_core.specs.JudgeLayout.{judge_value}
 use Rattle.judging_core.specs.declared.judgings.KeptJudging.{KeptJudging}
-use Rattle.judging_core.specs.JudgeShape.{judging_value, judging_values, IsWellKept, AreWellKept, IsRuledBy, AreRuledBy, reserved_of}
-use Rattle.judging_core.specs.Holding.{AreOnEmptyCells}
+use Rattle.judging_core.specs.JudgeShape.{judging_value, judging_values, IsWellKept, AreWellKept, IsRuledBy, AreRuledBy, cells_in, reserved_of}
+use Rattle.judging_core.specs.Holding.{IsHeldWell, AreOnEmptyCells, most_held}
 use Rattle.judging_core.specs.Listed.{IsListed}
 use Rattle.judging_core.proofs.Listed.{count_is, ahead_kept}
 use Rattle.judging_core.proofs.MadeAhead.{none_left}
 use Rattle.judging_core.proofs.Cells.{added_cells}
+use Rattle.judging_core.proofs.CellCount.{cells_few, cells_pushed}
 use Rattle.judging_core.proofs.judge.Judge.add_judging.Goals as goal
 
 -- whether or not the item was pushed
@@ -35,19 +38,37 @@ invariant_of-self c =
     ahead_kept (length at.judgings.items + length at.prepared.items) (length at.judgings.items + length at.prepared.items) (length at.tasks) (length c.make_room.new.tasks) c.self.invariant.ahead (omega arith) c.make_room.ensures.grows in
     search rules
 
+pub invariant_of-self-in_err-make_lease_room : goal.invariant_of-self-in_err-make_lease_room
+invariant_of-self-in_err-make_lease_room c =
+    let at = c.self.inside in
+    let leases = c.make_lease_room.new.leases in
+    let same = c.make_lease_room.ensures.leases in
+    let held : IsHeldWell at.hosts leases.leases = rw same c.self.invariant.held in
+    let cells : AreOnEmptyCells (judging_values at.judgings.items) leases.leases = rw same c.self.invariant.cells in
+    let listed : IsListed at.rule (judging_values at.judgings.items) leases.leases c.make_room.new.tasks = rw same (c.make_room.ensures.listed at.rule (judging_values at.judgings.items) at.leases.leases c.self.invariant.listed) in
+    let ahead : (k : ℕ) → k ≤ length at.judgings.items + length at.prepared.items → k ≤ 400000 → k ≤ length c.make_room.new.tasks =
+    ahead_kept (length at.judgings.items + length at.prepared.items) (length at.judgings.items + length at.prepared.items) (length at.tasks) (length c.make_room.new.tasks) c.self.invariant.ahead (omega arith) c.make_room.ensures.grows in
+    search rules
+
+pub overflow_add-cells : goal.overflow_add-cells
+overflow_add-cells c = omega (arith, c.from.ensures, c.requires.short, c.self.invariant.counted, cells_few c.self.inside.judgings.items c.self.invariant.rows, c.self.invariant.few)
+
 pub invariant_of-self-in_err-map_err : goal.invariant_of-self-in_err-map_err
 invariant_of-self-in_err-map_err c =
     let at = c.self.inside in
     let failed : is_ok c.push.result ≡ false = sym c.map_err.ensures.variant ∙ ap is_ok c.in_err-map_err.was in
     let same : c.push.new.self.items ≡ at.judgings.items = c.push.ensures.items ∙ ap (λ (b : Bool). if b then at.judgings.items ++ c.in_ok-judging.judging ∷ [] else at.judgings.items) failed in
-    let listed : IsListed at.rule (judging_values c.push.new.self.items) at.leases.leases c.make_room.new.tasks = rw same (c.make_room.ensures.listed at.rule (judging_values at.judgings.items) at.leases.leases c.self.invariant.listed) in
+    let leases = c.make_lease_room.new.leases in
+    let held : IsHeldWell at.hosts leases.leases = rw c.make_lease_room.ensures.leases c.self.invariant.held in
+    let listed : IsListed at.rule (judging_values c.push.new.self.items) leases.leases c.make_room.new.tasks = rw (same, c.make_lease_room.ensures.leases) (c.make_room.ensures.listed at.rule (judging_values at.judgings.items) at.leases.leases c.self.invariant.listed) in
     let size : length c.push.new.self.items ≡ length at.judgings.items = ap length same in
     let ahead : (k : ℕ) → k ≤ length c.push.new.self.items + length at.prepared.items → k ≤ 400000 → k ≤ length c.make_room.new.tasks =
     ahead_kept (length at.judgings.items + length at.prepared.items) (length c.push.new.self.items + length at.prepared.items) (length at.tasks) (length c.make_room.new.tasks) c.self.invariant.ahead (omega (arith, size)) c.make_room.ensures.grows in
     let rows : AreWellKept c.push.new.self.items = rw same c.self.invariant.rows in
     let ruled : AreRuledBy at.rule c.push.new.self.items = rw same c.self.invariant.ruled in
     let few : length c.push.new.self.items ≤ 400000 = omega (arith, size, c.self.invariant.few) in
-    let cells : AreOnEmptyCells (judging_values c.push.new.self.items) at.leases.leases = rw same c.self.invariant.cells in
+    let cells : AreOnEmptyCells (judging_values c.push.new.self.items) leases.leases = rw (same, c.make_lease_room.ensures.leases) c.self.invariant.cells in
+    let counted : at.cells ≡ cells_in c.push.new.self.items = c.self.invariant.counted ∙ sym (ap cells_in same) in
     search rules
 
 pub list_judging-requires-clause-known : goal.list_judging-requires-clause-known
@@ -75,8 +96,8 @@ invariant_of-self-2 c =
     let judging = c.in_ok-judging.judging in
     let rows : AreWellKept c.push.new.self.items = rw c.push.ensures.items (all_with IsWellKept (is_ok c.push.result) at judging c.self.invariant.rows c.in_ok-judging.ensures.short) in
     let ruled : AreRuledBy c.self.inside.rule c.push.new.self.items = rw c.push.ensures.items (all_with (IsRuledBy c.self.inside.rule) (is_ok c.push.result) at judging c.self.invariant.ruled c.in_ok-judging.ensures.ruled) in
-    let room : length at < 400000 = omega (arith, length-map at judging_value, ap (λ (v : JudgeValue). length v.state.judgings) c.self.view_is, c.requires.few) in
-    let few : length c.push.new.self.items ≤ 400000 = rw c.push.ensures.items (one_more 400000 (is_ok c.push.result) at judging room) in
+    let below : length at < 400000 = omega (arith, length-map at judging_value, ap (λ (v : JudgeValue). length v.state.judgings) c.self.view_is, c.requires.few) in
+    let few : length c.push.new.self.items ≤ 400000 = rw c.push.ensures.items (one_more 400000 (is_ok c.push.result) at judging below) in
     let inside = c.self.inside in
     let ok : is_ok c.push.result ≡ true = sym c.map_err.ensures.variant ∙ ap is_ok c.in_ok-map_err.was in
     let pushed : c.push.new.self.items ≡ at ++ judging ∷ [] = c.push.ensures.items ∙ ap (λ (b : Bool). if b then at ++ judging ∷ [] else at) ok in
@@ -84,10 +105,18 @@ invariant_of-self-2 c =
     ap judging_values pushed ∙ map_push judging_value at judging ∙ ap (λ (j : Judging). judging_values at ++ j ∷ []) c.in_ok-judging.ensures.value in
     let n = c.len-number.ensures in
     let here : length (judging_values at) + 1 ≡ c.len-number.result + 1 = omega (arith, n, inside.judgings.ok, count_is at) in
-    let listed : IsListed inside.rule (judging_values c.push.new.self.items) inside.leases.leases c.list_judging.new.tasks =
-    rw value (c.list_judging.ensures.listed inside.rule c.args.mode (judging_values at) inside.leases.leases here (c.make_room.ensures.listed inside.rule (judging_values at) inside.leases.leases c.self.invariant.listed)) in
-    let cells : AreOnEmptyCells (judging_values c.push.new.self.items) inside.leases.leases =
-    rw value (added_cells (judging_values at) (empty_judging c.args.class c.args.tests c.args.mode c.args.asked) inside.leases.leases c.self.invariant.cells) in
+    let leases = c.make_lease_room.new.leases in
+    let same = c.make_lease_room.ensures.leases in
+    let held : IsHeldWell inside.hosts leases.leases = rw same c.self.invariant.held in
+    let listed : IsListed inside.rule (judging_values c.push.new.self.items) leases.leases c.list_judging.new.tasks =
+    rw (value, same) (c.list_judging.ensures.listed inside.rule c.args.mode (judging_values at) inside.leases.leases here (c.make_room.ensures.listed inside.rule (judging_values at) inside.leases.leases c.self.invariant.listed)) in
+    let cells : AreOnEmptyCells (judging_values c.push.new.self.items) leases.leases =
+    rw (value, same) (added_cells (judging_values at) (empty_judging c.args.class c.args.tests c.args.mode c.args.asked) inside.leases.leases c.self.invariant.cells) in
+    let counted : inside.cells + c.from.result ≡ cells_in c.push.new.self.items =
+    omega (arith, c.from.ensures, c.self.invariant.counted, ap cells_in pushed, cells_pushed at judging c.args.class c.args.tests c.args.mode c.args.asked c.in_ok-judging.ensures.value) in
+    let none_ahead : cells_in c.new.result.items ≡ 0 = ap cells_in c.new.ensures.items in
+    let roomy : most_held inside.hosts (inside.cells + c.from.result + cells_in c.new.result.items) ≤ room leases =
+    omega (arith, none_ahead, c.in_ok-make_lease_room.ensures.enough) in
     let size = c.list_judging.ensures.count in
     let more : length c.push.new.self.items ≡ length at + 1 = ap length pushed ∙ length_push at judging in
     let none : length c.new.result.items ≡ 0 = ap length c.new.ensures.items in
@@ -103,12 +132,14 @@ returns-clause-added c =
     let class = c.args.class in
     let tests = c.args.tests in
     let start : JudgeValue = judge_value c.self.inside in
+    let leases = c.make_lease_room.new.leases.leases in
     let ok : is_ok c.push.result ≡ true = sym c.map_err.ensures.variant ∙ ap is_ok c.in_ok-map_err.was in
     let pushed : c.push.new.self.items ≡ at ++ c.in_ok-judging.judging ∷ [] = c.push.ensures.items ∙ ap (λ (b : Bool). if b then at ++ c.in_ok-judging.judging ∷ [] else at) ok in
     let other : starts_with start.reserved tests ≡ false = cc in
     let seen : judging_values c.push.new.self.items ≡ judging_values at ++ empty_judging class tests c.args.mode c.args.asked ∷ [] =
     ap judging_values pushed ∙ map-append judging_value at (c.in_ok-judging.judging ∷ []) ∙ ap (λ (judging : Judging). judging_values at ++ judging ∷ []) c.in_ok-judging.ensures.value in
-    ap (λ (prepared : List KeptJudging). record start { state = record start.state { judgings = judging_values c.push.new.self.items }; reserved = reserved_of prepared }) c.new.ensures.items
+    ap (λ (prepared : List KeptJudging). record start { state = record start.state { judgings = judging_values c.push.new.self.items; leases = leases }; reserved = reserved_of prepared }) c.new.ensures.items
+    ∙ ap (λ (ls : List Lease). record start { state = record start.state { judgings = judging_values c.push.new.self.items; leases = ls }; reserved = [] }) c.make_lease_room.ensures.leases
     ∙ ap (λ (judgings : List Judging). record start { state = record start.state { judgings = judgings }; reserved = [] }) seen
     ∙ ap (λ (left : List ℕ). record start { state = add_judging start.state class tests c.args.mode c.args.asked; reserved = left }) (sym (none_left start.reserved tests other))
     ∙ ap (λ (v : JudgeValue). with_judging v class tests c.args.mode c.args.asked) c.self.view_is

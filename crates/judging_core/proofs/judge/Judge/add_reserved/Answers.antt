@@ -2,13 +2,15 @@ use Rattle.std.proofs.Common.{ℕ, ◌≡◌, ◌≤◌, ◌<◌, ◌+◌, ◌�
 use Rattle.std.proofs.lemmas.List.{length_push, length-map, map_push}
 use Rattle.std.proofs.lemmas.List.Elements.{All-push}
 use Rattle.farm_model.specs.Judgings.{Judging, task_of, empty_judging}
+use Rattle.lease_book.specs.Book.{room}
 use Rattle.judging_core.specs.JudgeValue.{JudgeValue}
-use Rattle.judging_core.specs.JudgeShape.{judging_value, judging_values, IsWellKept, AreWellKept, IsRuledBy, AreRuledBy, ArePrepared}
-use Rattle.judging_core.specs.Holding.{AreOnEmptyCells}
+use Rattle.judging_core.specs.JudgeShape.{judging_value, judging_values, IsWellKept, AreWellKept, IsRuledBy, AreRuledBy, cells_in, ArePrepared}
+use Rattle.judging_core.specs.Holding.{AreOnEmptyCells, most_held}
 use Rattle.judging_core.specs.Listed.{IsListed}
 use Rattle.judging_core.specs.declared.judgings.KeptJudging.{KeptJudging}
 use Rattle.judging_core.proofs.Listed.{count_is, ahead_kept}
 use Rattle.judging_core.proofs.Cells.{added_cells}
+use Rattle.judging_core.proofs.CellCount.{cells_few, cells_pushed, cells_taken}
 use Rattle.judging_core.proofs.judge.Judge.add_reserved.Goals as goal
 
 one_more : {X : Type 0} (n : ℕ) (pushed : Bool) (xs : List X) (x : X) → length xs < n → length (if pushed then xs ++ x ∷ [] else xs) ≤ n
@@ -17,6 +19,9 @@ one_more n false xs x lt = omega arith
 
 small : (judgings : List KeptJudging) (judge : JudgeValue) → judging_values judgings ≡ judge.state.judgings → length judge.state.judgings < 400000 → length judgings < 400000
 small judgings judge e few = omega (arith, few, count_is judgings, ap length e)
+
+pub overflow_add-self : goal.overflow_add-self
+overflow_add-self c = omega (arith, c.from.ensures, c.requires.short, c.self.invariant.counted, cells_few c.self.inside.judgings.items c.self.invariant.rows, c.self.invariant.few)
 
 pub list_judging-requires-clause-known : goal.list_judging-requires-clause-known
 list_judging-requires-clause-known c =
@@ -56,6 +61,12 @@ invariant_of-self-2 c =
     omega (arith, l, p, inside.judgings.ok, inside.prepared.ok, c.push_reserved.new.self.ok, c.take_prepared.new.prepared.ok) in
     let cells : AreOnEmptyCells (judging_values c.push_reserved.new.self.items) inside.leases.leases =
     rw value (added_cells (judging_values at) (empty_judging c.args.class c.args.tests c.args.mode c.args.asked) inside.leases.leases c.self.invariant.cells) in
+    let tests : cells_in inside.prepared.items ≡ c.args.tests + cells_in c.take_prepared.new.prepared.items =
+    cells_taken inside.prepared.items c.take_prepared.new.prepared.items c.args.tests c.in-Some.ensures.left in
+    let counted : inside.cells + c.from.result ≡ cells_in c.push_reserved.new.self.items =
+    omega (arith, c.from.ensures, c.self.invariant.counted, ap cells_in c.push_reserved.ensures.items, cells_pushed at judging c.args.class c.args.tests c.args.mode c.args.asked c.in-Some.ensures.value) in
+    let roomy : most_held inside.hosts (inside.cells + c.from.result + cells_in c.take_prepared.new.prepared.items) ≤ room inside.leases =
+    omega (arith, c.from.ensures, tests, c.self.invariant.roomy) in
     let size = c.list_judging.ensures.count in
     let ahead : (k : ℕ) → k ≤ length c.push_reserved.new.self.items + length c.take_prepared.new.prepared.items → k ≤ 400000 → k ≤ length c.list_judging.new.tasks =
     ahead_kept (length at + length inside.prepared.items) (length c.push_reserved.new.self.items + length c.take_prepared.new.prepared.items) (length inside.tasks) (length c.list_judging.new.tasks) c.self.invariant.ahead less (omega (arith, size)) in

@@ -1,19 +1,21 @@
-use Rattle.std.proofs.Common.{ℕ, ◌≡◌, ◌≤◌, ◌+◌, ◌∙◌, Some, None, rules, not, refl, ap, sym, subst, arith, length, List, false}
+use Rattle.std.proofs.Common.{ℕ, ◌≡◌, ◌≤◌, ◌+◌, ◌-◌, ◌∙◌, Some, None, rules, not, refl, ap, sym, subst, arith, length, List, false}
+use Rattle.std.proofs.lemmas.List.{length-set}
 use Rattle.farm_model.specs.Leases.{same_task, without_task}
 use Rattle.farm_model.specs.Judgings.{task_of}
 use Rattle.judging_core.specs.Holding.{IsHeldWell, AreOnEmptyCells}
-use Rattle.farm_model.specs.Judgings.{Judging, cell_of, with_result}
+use Rattle.farm_model.specs.Judgings.{Judging, cell_of, with_result, fill_cell}
 use Rattle.task_tree.specs.Shown.{HasTask}
 use Rattle.judging_core.specs.declared.judgings.KeptJudging.{KeptJudging}
 use Rattle.judging_core.proofs.Shown.{size_shown}
 use Rattle.lazy_stop.specs.Matters.{IsPossible}
 use Rattle.judging_core.specs.JudgeValue.{JudgeValue, in_state}
 use Rattle.judging_core.specs.JudgeLayout.{judge_value}
-use Rattle.judging_core.specs.JudgeShape.{judging_values, AreRuledBy}
+use Rattle.judging_core.specs.JudgeShape.{judging_values, AreRuledBy, cells_in}
 use Rattle.judging_core.specs.Listed.{IsListed}
 use Rattle.judging_core.proofs.Listed.{cell_there, result_listed, result_closed, closed_hidden, cell_in_room, ahead_kept}
 use Rattle.judging_core.proofs.Items.{item_within}
 use Rattle.judging_core.proofs.Cells.{filled_cells}
+use Rattle.judging_core.proofs.CellCount.{cells_changed}
 use Rattle.judging_core.proofs.Vain.{vain_held, vain_cells, vain_listed}
 use Rattle.farm_kinds.specs.RuleValue.{RuleValue}
 use Rattle.farm_model.specs.declared.records.Lease.{Lease}
@@ -68,6 +70,7 @@ invariant_of-self c =
     rw vain (vain_held at.hosts at.rule new c.args.judging left (some_held at.hosts (λ lease. not (same_task lease.task task)) at.leases.leases c.self.invariant.held)) in
     let cells : AreOnEmptyCells (judging_values c.fill.new.judgings.items) c.end_in_vain.new.leases.leases =
     rw (c.fill.ensures.value, vain) (vain_cells at.rule new c.args.judging left (filled_cells js at.leases.leases c.args.judging c.args.test c.args.given (test_from_1 js c.args.judging c.args.test empty) c.self.invariant.cells)) in
+    let counted : at.cells ≡ cells_in c.fill.new.judgings.items = c.self.invariant.counted ∙ sym (cells_changed at.judgings.items c.fill.new.judgings.items c.args.judging (fill_cell c.args.test c.args.given) c.fill.ensures.value (λ x. length-set x.row (c.args.test - 1) (Some c.args.given))) in
     let room : room c.end_in_vain.new.leases ≡ room at.leases = c.end_in_vain.ensures.room ∙ c.end.ensures.room in
     let there : HasTask at.tasks task = cell_in_room at.judgings.items at.tasks c.args.judging c.args.test c.self.invariant.rows c.self.invariant.listed.wide (c.self.invariant.ahead (length at.judgings.items) (omega arith) c.self.invariant.few) empty in
     let closed = result_closed at.rule js (without_vain at.rule new c.args.judging left) c.args.judging c.args.test c.args.given empty in

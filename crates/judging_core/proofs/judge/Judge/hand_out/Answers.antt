@@ -1,19 +1,21 @@
-use Rattle.std.proofs.Common.{ℕ, ◌≡◌, ◌≤◌, ◌<◌, ◌+◌, ◌∙◌, rules, ap, sym, subst, arith, length, true, false}
+use Rattle.std.proofs.Common.{ℕ, ◌≡◌, ◌≤◌, ◌<◌, ◌+◌, ◌∙◌, rules, refl, ap, sym, subst, arith, length, true, false}
 use Rattle.farm_kinds.specs.declared.outcomes.Task.{Task}
 use Rattle.farm_model.specs.declared.records.Lease.{Lease}
 use Rattle.farm_model.specs.Leases.{held_count}
+use Rattle.farm_model.specs.Judgings.{mark_handed}
 use Rattle.task_tree.specs.Shown.{HasTask}
 use Rattle.judging_core.specs.declared.judge.Judge.TheInside.{Inside}
 use Rattle.judging_core.specs.JudgeLayout.{judge_value, IsJudgeLayout}
 use Rattle.judging_core.specs.JudgeValue.{JudgeValue}
 use Rattle.judging_core.specs.Holding.{IsOfHosts, IsHeldWell, AreOnEmptyCells}
-use Rattle.judging_core.specs.JudgeShape.{judging_values, AreRuledBy}
+use Rattle.judging_core.specs.JudgeShape.{judging_values, AreRuledBy, cells_in}
 use Rattle.judging_core.specs.Listed.{is_open, IsListed}
 use Rattle.judging_core.specs.Batches.{is_open_task}
 use Rattle.judging_core.proofs.Shown.{size_shown}
 use Rattle.judging_core.proofs.Listed.{handed_hidden, open_there, short_rows, count_is, ahead_kept}
-use Rattle.judging_core.proofs.Held.{one_held, few_in_all, spare_left}
-use Rattle.judging_core.proofs.Cells.{open_cell, handed_cells}
+use Rattle.judging_core.proofs.Held.{one_held, few_in_all, fewer_in_all}
+use Rattle.judging_core.proofs.Cells.{open_cell, open_free, handed_cells}
+use Rattle.judging_core.proofs.CellCount.{cells_changed, fewer_on_cells}
 use Rattle.judging_core.proofs.judge.Judge.hand_out.Goals as goal
 
 -- what is asked of the judge's value holds of its fields
@@ -37,10 +39,16 @@ hide_task-requires c =
     has_room at c.args.task c.self.invariant (seen_open at c.args.self.now c.args.task c.self.view_is c.requires.open_)
 
 pub grant-requires-clause-spare : goal.grant-requires-clause-spare
-grant-requires-clause-spare c =
+grant-requires-clause-spare c = λ single.
     let at = c.self.inside in
     let lease : Lease = record { host = c.args.host; task = c.args.task; until = at.moment + at.lease } in
-    spare_left at.hosts at.leases lease c.self.invariant.held c.self.invariant.roomy (seen_known at c.args.self.now lease c.self.view_is c.requires.numbered c.requires.known) (seen_few at c.args.self.now c.args.host c.self.view_is c.requires.few)
+    let known = seen_known at c.args.self.now lease c.self.view_is c.requires.numbered c.requires.known in
+    let opened = seen_open at c.args.self.now c.args.task c.self.view_is c.requires.open_ in
+    let by_hosts = fewer_in_all at.hosts at.leases.leases lease c.self.invariant.held known (seen_few at c.args.self.now c.args.host c.self.view_is c.requires.few) in
+    let empty = open_cell at.rule (judging_values at.judgings.items) at.leases.leases c.args.task opened in
+    let free = open_free at.rule (judging_values at.judgings.items) at.leases.leases c.args.task opened in
+    let by_cells = fewer_on_cells at.judgings.items at.leases.leases lease single c.self.invariant.cells free empty in
+    omega (arith, by_hosts, by_cells, c.self.invariant.counted, c.self.invariant.roomy)
 
 pub grant-requires-clause-few : goal.grant-requires-clause-few
 grant-requires-clause-few c = omega (arith, few_in_all c.self.inside.hosts c.self.inside.leases.leases c.self.invariant.held)
@@ -60,6 +68,7 @@ invariant_of-self c =
     rw (c.mark_handed.ensures.value, c.grant.ensures.leases) (handed_cells js at.leases.leases c.args.host until task c.self.invariant.cells (open_cell at.rule js at.leases.leases task opened)) in
     let listed : IsListed at.rule (judging_values c.mark_handed.new.judgings.items) c.grant.new.self.leases c.hide_task.new.self =
     rw (c.mark_handed.ensures.value, c.grant.ensures.leases, c.hide_task.ensures) (handed_hidden at.rule js at.leases.leases at.tasks task c.args.host until c.self.invariant.listed (has_room at task c.self.invariant opened)) in
+    let counted : at.cells ≡ cells_in c.mark_handed.new.judgings.items = c.self.invariant.counted ∙ sym (cells_changed at.judgings.items c.mark_handed.new.judgings.items task.judging (mark_handed task.test) c.mark_handed.ensures.value (λ x. refl)) in
     let size : length c.hide_task.new.self ≡ length at.tasks = ap length c.hide_task.ensures ∙ size_shown at.tasks task false in
     let ahead : (k : ℕ) → k ≤ length c.mark_handed.new.judgings.items + length at.prepared.items → k ≤ 400000 → k ≤ length c.hide_task.new.self = ahead_kept (length at.judgings.items + length at.prepared.items) (length c.mark_handed.new.judgings.items + length at.prepared.items) (length at.tasks) (length c.hide_task.new.self) c.self.invariant.ahead (omega (arith, c.mark_handed.ensures.count)) (omega (arith, size)) in
     search rules

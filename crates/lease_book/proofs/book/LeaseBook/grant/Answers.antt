@@ -1,11 +1,12 @@
-use Rattle.std.proofs.Common.{ℕ, ◌≡◌, ◌+◌, ◌-◌, [], ◌∷◌, ◌++◌, None, ap, ◌∙◌, arith, length}
+use Rattle.std.proofs.Common.{ℕ, ◌≡◌, ◌<◌, ◌+◌, ◌-◌, [], ◌∷◌, ◌++◌, None, ap, subst, ◌∙◌, arith, length}
 use Rattle.std.proofs.lemmas.List.{length_push}
 use Rattle.farm_kinds.specs.declared.outcomes.Task.{Task}
 use Rattle.farm_model.specs.declared.records.Lease.{Lease}
 use Rattle.farm_model.specs.Leases.{lease_on}
 use Rattle.lease_tree.specs.declared.keys.Order.TheVariants as order
-use Rattle.lease_book.specs.Book.{Book}
-use Rattle.lease_book.specs.BookLayout.{leases_held}
+use Rattle.lease_book.specs.Book.{Book, IsSinglyLeased}
+use Rattle.lease_book.specs.BookLayout.{leases_held, book_value, IsBookLayout}
+use Rattle.lease_book.specs.declared.book.LeaseBook.TheInside.{Inside}
 use Rattle.lease_book.specs.declared.change.Change.TheVariants as change
 use Rattle.lease_book.proofs.Index.{index_added}
 use Rattle.lease_book.proofs.Singly.{granted}
@@ -14,6 +15,10 @@ use Rattle.lease_book.proofs.book.LeaseBook.grant.Goals as goal
 
 abbrev lease_of : ℕ → Task → ℕ → Lease
 lease_of host task until = record { host = host; task = task; until = until }
+
+-- no task has two leases, and so there is room
+spare_there : (a : Inside) (book : Book) → book_value a ≡ book → IsBookLayout a → (IsSinglyLeased book.leases → 0 < book.spare) → 0 < a.spare
+spare_there a book is h spare = subst (λ (b : Book). (IsSinglyLeased b.leases → 0 < b.spare) → 0 < a.spare) is (λ some. some h.single) spare
 
 pub insert-requires-clause-free : goal.insert-requires-clause-free
 insert-requires-clause-free c = free_there c.self.inside c.args.self.now (lease_of c.args.host c.args.task c.args.until) order.Judging c.self.inside.by_judging c.self.view_is c.requires.unheld c.self.invariant.judgings
@@ -38,7 +43,7 @@ invariant_of-self c =
     let lease : Lease = record { host = c.args.host; task = c.args.task; until = c.args.until } in
     let old = leases_held c.self.inside.history.items in
     let n = c.self.inside.spare in
-    let less : n - 1 + 1 ≡ n = omega (arith, c.requires.spare, ap (λ (b : Book). b.spare) c.self.view_is) in
+    let less : n - 1 + 1 ≡ n = omega (arith, spare_there c.self.inside c.args.self.now c.self.view_is c.self.invariant c.requires.spare) in
     let is : leases_held c.and-self-inside.result.items ≡ old ++ lease ∷ [] = held_after c.self.inside.history.items c.and-self-inside.result.items (change.Granted lease) c.and-self-inside.ensures in
     let unheld : lease_on old c.args.task ≡ None = ap (λ (b : Book). lease_on b.leases c.args.task) c.self.view_is ∙ c.requires.unheld in
     let a = c.insert.ensures in
