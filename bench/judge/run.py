@@ -8,7 +8,7 @@ without an end, whose runs are as long as the limit lets them be. Each is run th
 The C interpreters are those of `bench/machine` that decode pages whole. They run the same tests, of the raw form of each
 submission, and stop a submission where `farm` does; they check no output and run no validators. Printed are submissions
 and tests a second, the ratio to the faster interpreter (over 1: `farm judge` is faster), the most memory beside the
-contest's bytes, and how long reading and the table take at most: that is the whole time of the same contest where each
+contest's bytes, also without the pages of files (the program's and those of libraries, which processes share), and how long reading and the table take at most: that is the whole time of the same contest where each
 run is given one instruction. Last comes the most memory with a problem of 50 MiB more. Rates are by the time of the
 processor, whose worst round is printed too.
 """
@@ -50,6 +50,17 @@ def timed(command, stdin=subprocess.DEVNULL):
     with open(peak) as file:
         memory = 1024 * int(file.read().split()[0])
     return wrote, seconds, after.ru_utime + after.ru_stime - before.ru_utime - before.ru_stime, memory
+
+
+def shared_pages(command):
+    """The most bytes of files, the program's own and those of libraries, that lay in a command's memory: looked at every 10 ms."""
+    most = 0
+    with subprocess.Popen(command, stdin=subprocess.DEVNULL, stdout=subprocess.DEVNULL) as process:
+        while process.poll() is None:
+            with open(f"/proc/{process.pid}/status") as file:
+                most = max([most, *(1024 * int(line.split()[1]) for line in file if line.startswith("RssFile:"))])
+            time.sleep(0.01)
+    return most
 
 
 def tests_of(folder, name):
@@ -127,13 +138,14 @@ def measure(program, name, folder):
               f"{runs / processor:6.0f} tests/s, {cost / processor / 1e6:4.0f} M/s")
     _, clock, processor, memory, _ = results[0]
     print(f"  over the faster one: {min(peer[2] for peer in results[1:]) / processor:.2f} by the processor, {min(peer[1] for peer in results[1:]) / clock:.2f} by the clock")
-    print_memory(memory, folder)
+    print_memory(program, memory, folder)
 
 
-def print_memory(memory, folder):
-    contest, machine = bytes_of(folder), 4096 * PAGES
-    print(f"  most memory {memory / 2**20:.1f} MiB; the contest's bytes {contest / 2**20:.1f} MiB and one machine's pages {machine / 2**20:.1f} MiB: "
-          f"{memory / (contest + machine):.2f} of their sum")
+def print_memory(program, memory, folder):
+    contest, machine, shared = bytes_of(folder), 4096 * PAGES, shared_pages([program, "judge", folder, "--hosts", "0"])
+    print(f"  most memory {memory / 2**20:.2f} MiB, of which {shared / 2**20:.2f} MiB are pages of the program's file and of libraries; the contest's "
+          f"bytes {contest / 2**20:.2f} MiB and one machine's pages {machine / 2**20:.2f} MiB: {memory / (contest + machine):.3f} of their sum, "
+          f"{(memory - shared) / (contest + machine):.3f} without the pages of files")
 
 
 def main():
@@ -157,7 +169,7 @@ def main():
     [(_, _, processor, memory, _)] = best_of([program, "judge", short, "--hosts", "0"])
     print(f"reading, the table and one instruction for each submission: {processor:.3f} s of the processor, {memory / 2**20:.1f} MiB")
     print("without those that loop, and a problem of 50 MiB more:")
-    print_memory(timed([program, "judge", large, "--hosts", "0"])[3], large)
+    print_memory(program, timed([program, "judge", large, "--hosts", "0"])[3], large)
     return 0
 
 
