@@ -146,6 +146,99 @@ fn two_passes_are_live_at_once(rt: HostRuntime) -> Result<(), Fail> {
     Ok(())
 }
 
+// Submits this often and looks each time, in the same turn, whether another submission came behind it.
+fn submit_and_look<W: Wait, A: Admission>(
+    rt: &W,
+    board: &Board<Anyone, A>,
+    mut pass: Pass<A>,
+    rounds: u32,
+) -> (Pass<A>, bool)
+    requires { pass.board ≡ board.now.id }
+    ensures { result.0.board ≡ board.now.id }
+{
+    for round in 0..rounds {
+        let _ = round;
+        if pass.left() < 2 {
+            break;
+        }
+        let reply = board.step_and_keep(rt, &mut pass, &submission());
+        let Reply::Submitted { judging, .. } = reply else {
+            board.let_go(&mut pass);
+            return (pass, false);
+        };
+        let judging = judging.saturating_add(1);
+        let shown = board.step(rt, &mut pass, &Event::Show { judging });
+        if !matches!(shown, Reply::NoJudging { .. }) {
+            return (pass, false);
+        }
+    }
+    (pass, true)
+}
+
+// Two threads, each with a pass of its own, submit in turn and look.
+fn look_in_two_threads<R: Threads + Wait + Sync, A: Admission + Send + Sync>(
+    rt: &R,
+    board: &Board<Anyone, A>,
+    one: Pass<A>,
+    two: Pass<A>,
+) -> (bool, bool)
+    requires { (one.board ≡ board.now.id) × (two.board ≡ board.now.id) }
+{
+    let ((_, one_alone), (_, two_alone)) = thread::join(
+        rt,
+        || submit_and_look(rt, board, one, 2000),
+        || submit_and_look(rt, board, two, 2000),
+    );
+    (one_alone, two_alone)
+}
+
+/// Whoever keeps its turn makes its next call before any other pass makes one.
+#[test]
+fn no_call_comes_between_two_of_one_turn(rt: HostRuntime) -> Result<(), Fail> {
+    let farm = Farm::new(rt.alloc(), Settings::standard(rt.alloc()));
+    let opened = Board::<Anyone, Brand>::new(rt.alloc(), farm, Anyone, 3, false);
+    let Ok((board, mut pass)) = opened else {
+        return Err(Fail::new("no memory"));
+    };
+    board.step(&rt, &mut pass, &problem());
+    let one = board.split(&rt, &mut pass, 4000);
+    let two = board.split(&rt, &mut pass, 4000);
+    let (one_alone, two_alone) = look_in_two_threads(&rt, &board, one, two);
+    assert!(rt; one_alone);
+    assert!(rt; two_alone);
+    Ok(())
+}
+
+/// A turn that was kept ends by `let_go`, and before the pass is split, joined or closed.
+#[test]
+fn a_kept_turn_is_let_go(rt: HostRuntime) -> Result<(), Fail> {
+    let farm = Farm::new(rt.alloc(), Settings::standard(rt.alloc()));
+    let opened = Board::<Anyone, Brand>::new(rt.alloc(), farm, Anyone, 2, true);
+    let Ok((board, mut pass)) = opened else {
+        return Err(Fail::new("no memory"));
+    };
+    board.step_and_keep(&rt, &mut pass, &problem());
+    let mut other = board.split(&rt, &mut pass, 10);
+    board.step_and_keep(&rt, &mut pass, &submission());
+    board.let_go(&mut pass);
+    board.step(&rt, &mut other, &submission());
+    board.step_and_keep(&rt, &mut other, &submission());
+    board.join(&rt, &mut pass, other);
+    board.step_and_keep(&rt, &mut pass, &submission());
+    if !pass.is_alone() {
+        return Err(Fail::new("not alone"));
+    }
+    let (_, history) = board.close(pass);
+    let Some(history) = history else {
+        return Err(Fail::new("no journal"));
+    };
+    let calls = history.as_slice();
+    assert!(rt; calls.len() == 5);
+    let numbers = calls.iter().map(|call| call.number);
+    assert!(rt; numbers.eq([0, 0, 1, 1, 0]));
+    Ok(())
+}
+
 /// The image of a program that exits with 1.
 const FAIL: &[u8] = b"\x13\x05\x10\x00\x93\x08\xD0\x05\x73\x00\x00\x00";
 

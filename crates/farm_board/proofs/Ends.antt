@@ -29,7 +29,7 @@ opens {S} state_of start h slots are is begins some_seat =
     let w : View = opening_view start in
     let out : IsOut 0 start.value = ap (λ (xs : List ℕ). is_in 0 xs) begins.out ∙ in_here 0 [] in
     let one_out : length start.value.out ≡ 1 = ap (λ (xs : List ℕ). length xs) begins.out in
-    let fits : Fits start.value [] 0 w = record {
+    let fits : Fits start.value [] 0 0 w = record {
       start = refl;
       seen = ([], refl);
       mine = refl;
@@ -39,19 +39,22 @@ opens {S} state_of start h slots are is begins some_seat =
           (λ q. ⊎_elim (λ (e : None ≡ Some n). absurd (cc e)) (λ (e : None ≡ Some n). absurd (cc e)) q) names;
       ticket = λ k none_is. absurd (cc none_is);
       turn = λ no. absurd (cc no);
+      kept = λ no. absurd (cc no);
       coming = λ e none_is. absurd (cc none_is);
     } in
     subst (λ (z : List (Option S)). IsConsistent state_of start.value (table_opening (0 ∷ 0 ∷ []) z w)) (sym are) record {
       history = [];
       drawn = 0;
+      served = 0;
       words = refl;
-      served = omega arith;
+      within = omega arith;
       begins = begins;
       legal = tt;
       bound = omega arith;
+      few = (let none = begins.given in omega arith);
       room = omega arith;
       one_slot = refl;
-      each = λ i v e live. subst (λ (z : View). Fits start.value [] 0 z) (only w i v e).1 fits;
+      each = λ i v e live. subst (λ (z : View). Fits start.value [] 0 0 z) (only w i v e).1 fits;
       over = λ i v e dead. absurd (not_both w.ended refl (ap (λ (z : View). z.ended) (only w i v e).1 ∙ dead));
       waiting = λ k from to. absurd (omega arith);
       one_ticket = λ i j v u a b same. (only w i v a).0 ∙ sym (only w j u b).0;

@@ -143,15 +143,11 @@ given_opening s o n out =
     let none = o.given in
     let is : n ≡ 0 = in_single 0 n (0 ∷ []) (omega arith) (in_here 0 []) (ap (λ (xs : List ℕ). is_in n xs) (sym o.out) ∙ out) in omega arith
 
-next_board_few : (s : BoardState) (e : Entry) → (next_board s e).given ≤ s.given + 1
+-- an entry gives one number at the most
+pub next_board_few : (s : BoardState) (e : Entry) → (next_board s e).given ≤ s.given + 1
 next_board_few s (entry.Call call) = let same = after_call_given (is_no_memory call.reply) s call in omega arith
 next_board_few s (entry.Split number new) = omega arith
 next_board_few s (entry.Join number old) = omega arith
-
--- no more numbers are given than there are entries
-pub given_few : (s : BoardState) (es : List Entry) → (board_after s es).given ≤ s.given + length es
-given_few s [] = omega arith
-given_few s (e ∷ es) = let a = next_board_few s e in let b = given_few (next_board s e) es in omega arith
 
 -- The journal
 

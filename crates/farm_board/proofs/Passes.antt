@@ -1,14 +1,15 @@
 -- What a whole turn does to a pass.
-use Rattle.std.proofs.Common.{◌≡◌, ℕ, ◌+◌, ◌-◌, ◌<◌, ◌≤◌, false, List, [], ◌∷◌, ◌++◌, length, refl, ap, sym, ◌∙◌, subst, inl, inr, arith}
+use Rattle.std.proofs.Common.{◌≡◌, ℕ, ◌+◌, ◌-◌, ◌<◌, ◌≤◌, Bool, true, false, List, [], ◌∷◌, ◌++◌, length, refl, ap, sym, ◌∙◌, subst, inl, inr, arith}
 use Rattle.std.specs.Prelude.{Option, Some, None}
 use Rattle.farm_board.specs.BoardState.{BoardState}
 use Rattle.farm_board.specs.Histories.{board_after, next_board, IsNext, IsOut, IsReply, entries_by, pass_number}
-use Rattle.farm_board.specs.Views.{with_ticket, with_turn, with_coming, with_entry, to_give_after, split_left, split_right, joined_view, Suits, IsFree}
-use Rattle.farm_board.specs.Steps.{KnowsHistory, GetsTurn, InTurn, view_after_turn, EndsTurn}
+use Rattle.farm_board.specs.Views.{with_ticket, with_turn, with_coming, with_entry, with_kept_ticket, without_ticket, to_give_after, split_left, split_right, joined_view, Suits, IsFree, IsKeeping, IsBetween}
+use Rattle.farm_board.specs.Steps.{KnowsHistory, GetsTurn, InTurn, view_after_turn, EndsTurn, KeepsTurn}
 use Rattle.atomic_table.specs.Table.{Me}
 use Rattle.farm_board.specs.Passes.{BoardId, pass_of, GrowsBy, IsSoundView, IsGiving, call_of, Calls, SplitsOff, TakesIn}
 use Rattle.farm_kinds.specs.declared.events.Event.{Event}
 use Rattle.farm_kinds.specs.declared.events.Reply.{Reply}
+use Rattle.farm_board.specs.declared.entries.Call.{Call}
 use Rattle.farm_board.specs.declared.entries.Entry.TheVariants as entry
 use Rattle.farm_board.specs.declared.entries.Entry.{Entry}
 use Rattle.farm_board.specs.declared.view.View.{View}
@@ -88,7 +89,7 @@ calls {board} {board'} same_board v y k history n event reply same y_is t next s
 
 pub free_after : (v y : View) (k : ℕ) (history : List Entry) (e : Entry) → y ≡ view_after_turn v k history e → v.ended ≡ false → to_give_after e ≡ None → IsFree y
 free_after v y k history e y_is live no_gift = subst (λ (z : View). IsFree z) (sym y_is) record {
-  resting = record { ticket = refl; turn = refl; coming = refl; live = live };
+  resting = record { ticket = refl; turn = refl; kept = refl; coming = refl; live = live };
   to_give = no_gift;
   taken_in = refl;
 }
@@ -118,7 +119,7 @@ few_given v w now t = let few = t.knows.few in let same = ap (λ (z : BoardState
 
 pub gives : (v y : View) (k : ℕ) (history : List Entry) (n new : ℕ) → y ≡ view_after_turn v k history (entry.Split n new) → v.ended ≡ false → IsGiving new y
 gives v y k history n new y_is live = subst (λ (z : View). IsGiving new z) (sym y_is) record {
-  resting = record { ticket = refl; turn = refl; coming = refl; live = live };
+  resting = record { ticket = refl; turn = refl; kept = refl; coming = refl; live = live };
   to_give = refl;
   taken_in = refl;
 }
@@ -147,10 +148,10 @@ splits_off {board} {board'} {other_board} same_board same_other v y k history n 
     }
 
 pub free_left : (y : View) (new share : ℕ) → IsGiving new y → IsFree (split_left share y)
-free_left y new share g = record { resting = record { ticket = g.resting.ticket; turn = g.resting.turn; coming = g.resting.coming; live = g.resting.live }; to_give = refl; taken_in = g.taken_in }
+free_left y new share g = record { resting = record { ticket = g.resting.ticket; turn = g.resting.turn; kept = g.resting.kept; coming = g.resting.coming; live = g.resting.live }; to_give = refl; taken_in = g.taken_in }
 
 pub free_right : (y : View) (new share : ℕ) → IsGiving new y → IsFree (split_right share y)
-free_right y new share g = record { resting = record { ticket = g.resting.ticket; turn = g.resting.turn; coming = g.resting.coming; live = g.resting.live }; to_give = refl; taken_in = g.taken_in }
+free_right y new share g = record { resting = record { ticket = g.resting.ticket; turn = g.resting.turn; kept = g.resting.kept; coming = g.resting.coming; live = g.resting.live }; to_give = refl; taken_in = g.taken_in }
 
 pub keeps_left : (y : View) (share : ℕ) → IsSoundView y → IsSoundView (split_left share y)
 keeps_left y share q = let few = q.few in record { own = q.own; out = q.out; room = q.room; small = q.small; few = omega arith }
@@ -246,3 +247,65 @@ takes_after_turn same_board v from {y} {n} {old} z same same_old some_left = tak
 -- what may come next may come next where the pass has its turn
 pub next_there : (v w : View) (now : BoardState) (e : Entry) → (t : InTurn v w now) → IsNext (board_after v.start.value t.history) e → IsNext (board_after w.start.value w.seen) e
 next_there v w now e t next = subst (λ (z : View). IsNext (board_after z.start.value z.seen) e) (sym t.view) next
+
+-- A call that keeps its ticket
+
+pub keeps_turn : {S : Type 0} (v w : View) (now : BoardState) (e : Entry) (m m' : Me (Option S) View) → (t : InTurn v w now) → m.0 ≡ with_coming w e → ((x : Entry) → m.0.coming ≡ Some x → m' ≡ (with_kept_ticket m.0 x, []))
+    → IsNext (board_after v.start.value t.history) e → KeepsTurn v m'.0 e
+keeps_turn {S} v w now e m m' t marked end next =
+    let is : m'.0 ≡ with_kept_ticket m.0 e = ap (λ (z : Me (Option S) View). z.0) (end e (ap (λ (z : View). z.coming) marked)) in
+    let of_turn : m'.0 ≡ with_kept_ticket (with_coming w e) e = is ∙ ap (λ (z : View). with_kept_ticket z e) marked in record {
+      ticket = t.ticket;
+      history = t.history;
+      view = of_turn ∙ ap (λ (z : View). with_kept_ticket (with_coming z e) e) t.view;
+      knows = t.knows;
+      next = next;
+      bound = subst (λ (z : View). z.left < 4611686018427387904) (sym of_turn) t.bound;
+    }
+
+-- but for the ticket, it leaves what a call leaves that ends its turn
+as_if_ended : {v w : View} {e : Entry} → (z : KeepsTurn v w e) → EndsTurn v (view_after_turn v z.ticket z.history e) e
+as_if_ended {v} {w} {e} z = record {
+  ticket = z.ticket;
+  history = z.history;
+  view = refl;
+  knows = z.knows;
+  next = z.next;
+  bound = subst (λ (u : View). u.left < 4611686018427387904) z.view z.bound;
+}
+
+pub keeping_after_call : {v y : View} {call : Call} → KeepsTurn v y (entry.Call call) → v.ended ≡ false → IsKeeping y
+keeping_after_call {v} {y} {call} z live = subst (λ (u : View). IsKeeping u) (sym z.view) record { turn = refl; kept = refl; coming = refl; live = live; to_give = refl; taken_in = refl }
+
+pub calls_after_kept : {board board' : BoardId} → board' ≡ board → {v y : View} {n : ℕ} {event : Event} {reply : Reply} → KeepsTurn v y (entry.Call (call_of n event reply)) → n ≡ v.number → 0 < v.left → Calls (pass_of board v) (pass_of board' y) event reply
+calls_after_kept {board} {board'} same_board {v} {y} {n} {event} {reply} z same some_left =
+    subst (λ (u : View). Calls (pass_of board v) (pass_of board' u) event reply) (sym z.view) (calls_after_turn same_board (as_if_ended z) same some_left)
+
+pub sound_after_kept : {v y : View} {e : Entry} → KeepsTurn v y e → pass_number e ≡ v.number → Suits e v → IsSoundView y
+sound_after_kept {v} {y} {e} z own suits =
+    let q = keeps_after_turn (as_if_ended z) own suits in
+    subst (λ (u : View). IsSoundView u) (sym z.view) record { own = q.own; out = q.out; room = q.room; small = q.small; few = q.few }
+
+pub empty_after_kept : {S : Type 0} (v : View) (e : Entry) (m m' : Me (Option S) View) → m.0 ≡ with_coming v e → ((x : Entry) → m.0.coming ≡ Some x → m' ≡ (with_kept_ticket m.0 x, [])) → m'.1 ≡ []
+empty_after_kept {S} v e m m' marked end = ap (λ (z : Me (Option S) View). z.1) (end e (ap (λ (z : View). z.coming) marked))
+
+-- Between two calls
+
+pub live_between : (kept : Bool) (v : View) → IsBetween kept v → v.ended ≡ false
+live_between false v is = is.resting.live
+live_between true v is = is.live
+
+-- a call suits whoever is between two
+pub call_suits : (kept : Bool) (v : View) → IsBetween kept v → (v.to_give ≡ None) × (v.taken_in ≡ None)
+call_suits false v is = (is.to_give, is.taken_in)
+call_suits true v is = (is.to_give, is.taken_in)
+
+pub free_without : (v : View) → IsKeeping v → IsFree (without_ticket v)
+free_without v is = record {
+  resting = record { ticket = refl; turn = is.turn; kept = refl; coming = is.coming; live = is.live };
+  to_give = is.to_give;
+  taken_in = is.taken_in;
+}
+
+pub sound_without : (v : View) → IsSoundView v → IsSoundView (without_ticket v)
+sound_without v q = record { own = q.own; out = q.out; room = q.room; small = q.small; few = q.few }

@@ -55,7 +55,7 @@ splits {S} state_of start id g share v is few s r at =
     let none_comes : (x : Entry) → v.coming ≡ Some x → ⊥ = λ x some_is. let no : None ≡ Some x = sym is.resting.coming ∙ some_is in absurd (cc no) in
     let none_taken : (n : ℕ) → v.taken_in ≡ Some n → ⊥ = λ n some_is. let no : None ≡ Some n = sym is.taken_in ∙ some_is in absurd (cc no) in
     let no_ticket : (k : ℕ) → v.ticket ≡ Some k → ⊥ = λ k some_is. let no : None ≡ Some k = sym is.resting.ticket ∙ some_is in absurd (cc no) in
-    let left_fits : Fits start r.history r.drawn l = record {
+    let left_fits : Fits start r.history r.served r.drawn l = record {
       start = f.start;
       seen = f.seen;
       mine = f.mine;
@@ -64,9 +64,10 @@ splits {S} state_of start id g share v is few s r at =
       out = λ n o. f.out n (left_whole n share v o);
       ticket = f.ticket;
       turn = f.turn;
+      kept = f.kept;
       coming = λ x some_is. absurd (none_comes x some_is);
     } in
-    let right_fits : Fits start r.history r.drawn w = record {
+    let right_fits : Fits start r.history r.served r.drawn w = record {
       start = f.start;
       seen = f.seen;
       mine = ap (λ (n : ℕ). entries_by n r.history) number ∙ to_give.0;
@@ -75,6 +76,7 @@ splits {S} state_of start id g share v is few s r at =
       out = λ n o. subst (λ (z : ℕ). IsOut z (board_after start r.history)) (sym (right_names n g share v is.to_give is.taken_in o)) (f.out g (inr (inl is.to_give)));
       ticket = λ k some_is. absurd (no_ticket k some_is);
       turn = λ on. not_both v.turn is.resting.turn on;
+      kept = λ on. not_both v.kept is.resting.kept on;
       coming = λ x some_is. absurd (none_comes x some_is);
     } in
     -- no other view owns the number to give
@@ -86,15 +88,17 @@ splits {S} state_of start id g share v is few s r at =
     (at_set s.views id j l u e) in record {
       history = r.history;
       drawn = r.drawn;
-      words = r.words;
       served = r.served;
+      words = r.words;
+      within = r.within;
       begins = r.begins;
       legal = r.legal;
       bound = omega arith;
+      few = r.few;
       room = omega arith;
       one_slot = r.one_slot;
-      each = each_more (λ u. u.ended ≡ false → Fits start r.history r.drawn u) (set s.views id l) w (λ _. right_fits)
-          (each_set (λ i u. u.ended ≡ false → Fits start r.history r.drawn u) s.views id l (λ _. left_fits) (λ i u other e. r.each i u e));
+      each = each_more (λ u. u.ended ≡ false → Fits start r.history r.served r.drawn u) (set s.views id l) w (λ _. right_fits)
+          (each_set (λ i u. u.ended ≡ false → Fits start r.history r.served r.drawn u) s.views id l (λ _. left_fits) (λ i u other e. r.each i u e));
       over = each_more (λ u. u.ended ≡ true → IsOver u) (set s.views id l) w (λ dead. not_both v.ended live dead)
           (each_set (λ i u. u.ended ≡ true → IsOver u) s.views id l (λ dead. not_both v.ended live dead) (λ i u other e. r.over i u e));
       waiting = λ k from to. waiting_more (set s.views id l) w k (waiting_set s.views id v l k at (λ some_is. some_is) (r.waiting k from to));
@@ -159,7 +163,7 @@ joins {S} state_of start id other v w vf wf s r at apart there =
     let room = r.room in
     let no_gift : (n : ℕ) → v.to_give ≡ Some n → ⊥ = λ n some_is. let no : None ≡ Some n = sym vf.to_give ∙ some_is in absurd (cc no) in
     let apart_numbers : w.number ≢ v.number = λ same. apart (sym (r.one_number id other v w at there' (v.number, v_owns, (wl, inl (sym same))))) in
-    let both_fits : Fits start r.history r.drawn b = record {
+    let both_fits : Fits start r.history r.served r.drawn b = record {
       start = f.start;
       seen = longer_fits r.history v.seen w.seen (nat_lt (length v.seen) (length w.seen)) f.seen g.seen;
       mine = f.mine;
@@ -168,6 +172,7 @@ joins {S} state_of start id other v w vf wf s r at apart there =
       out = λ n o. ⊎_elim (λ (a : n ≡ v.number). f.out n (inl a)) (λ q. ⊎_elim (λ (a : v.to_give ≡ Some n). absurd (no_gift n a)) (λ (a : Some w.number ≡ Some n). let is : w.number ≡ n = cc a in g.out n (inl (sym is))) q) o;
       ticket = λ k some_is. let no : None ≡ Some k = sym vf.resting.ticket ∙ some_is in absurd (cc no);
       turn = λ on. not_both v.turn vf.resting.turn on;
+      kept = λ on. not_both v.kept vf.resting.kept on;
       coming = λ x some_is. let no : None ≡ Some x = sym vf.resting.coming ∙ some_is in absurd (cc no);
     } in
     let owner : (n i : ℕ) (a : View) → get_elem? (set v1 other ended_view) i ≡ some a → Owns n a → Owner s id other n i a = λ n i a e o. ⊎_elim
@@ -199,15 +204,17 @@ joins {S} state_of start id other v w vf wf s r at apart there =
     (λ not_other. (q.0, q.1, set_else v1 other q.0 ended_view not_other ∙ (set_else s.views id q.0 b not_id ∙ q.2), q.3, q.4)))) in record {
       history = r.history;
       drawn = r.drawn;
-      words = r.words;
       served = r.served;
+      words = r.words;
+      within = r.within;
       begins = r.begins;
       legal = r.legal;
       bound = omega arith;
+      few = r.few;
       room = omega arith;
       one_slot = r.one_slot;
-      each = each_set (λ i u. u.ended ≡ false → Fits start r.history r.drawn u) v1 other ended_view (λ no. absurd (cc no))
-          (λ i u _ e. each_set (λ j z. z.ended ≡ false → Fits start r.history r.drawn z) s.views id b (λ _. both_fits) (λ j z _ e'. r.each j z e') i u e);
+      each = each_set (λ i u. u.ended ≡ false → Fits start r.history r.served r.drawn u) v1 other ended_view (λ no. absurd (cc no))
+          (λ i u _ e. each_set (λ j z. z.ended ≡ false → Fits start r.history r.served r.drawn z) s.views id b (λ _. both_fits) (λ j z _ e'. r.each j z e') i u e);
       over = each_set (λ i u. u.ended ≡ true → IsOver u) v1 other ended_view (λ _. record { left = refl; spare = refl; ticket = refl; turn = refl })
           (λ i u _ e. each_set (λ j z. z.ended ≡ true → IsOver z) s.views id b (λ dead. not_both v.ended vl dead) (λ j z _ e'. r.over j z e') i u e);
       waiting = λ k from to. waiting_set v1 other w ended_view k there (λ some_is. let no : None ≡ Some k = sym wf.resting.ticket ∙ some_is in absurd (cc no))

@@ -1,5 +1,5 @@
 -- Each step of a turn keeps the rule.
-use Rattle.std.proofs.Common.{◌≡◌, ◌≢◌, ℕ, ◌+◌, ◌%◌, ◌<◌, ◌≤◌, Bool, true, false, List, [], ◌∷◌, ◌++◌, length, set, get_or, refl, ap, sym, ◌∙◌, subst, inl, inr, ⊎_elim, arith, length-append, length-set}
+use Rattle.std.proofs.Common.{◌≡◌, ◌≢◌, ℕ, ◌+◌, ◌%◌, ◌<◌, ◌≤◌, Bool, true, false, List, [], ◌∷◌, ◌++◌, length, set, get_or, refl, ap, sym, ◌∙◌, subst, inl, inr, ⊎_elim, arith, length-set}
 use Rattle.std.specs.Prelude.{Option, Some, None}
 use mathlib.Core.Logic.{dite}
 use mathlib.Core.Option.{some, none}
@@ -10,16 +10,17 @@ use Rattle.atomic_table.specs.Table.{State, Me, Act, step, keeps, takes, gives, 
 use Rattle.atomic_table.proofs.Lists.{set_again}
 use Rattle.farm_board.specs.Homes.{Home}
 use Rattle.farm_board.specs.BoardState.{BoardState}
-use Rattle.farm_board.specs.Histories.{board_after, next_board, IsLegal, IsNext, IsOut, entries_by, pass_number, OutWereGiven, IsOpening}
-use Rattle.farm_board.specs.Views.{with_ticket, with_turn, with_coming, with_entry, to_give_after, Suits, IsResting}
+use Rattle.farm_board.specs.Histories.{board_after, next_board, is_no_memory, IsLegal, IsNext, IsOut, entries_by, pass_number, OutWereGiven, IsOpening}
+use Rattle.farm_board.specs.Views.{with_ticket, with_turn, with_coming, with_entry, with_kept_ticket, without_ticket, to_give_after, Suits, IsResting, IsKeeping}
 use Rattle.farm_board.specs.Rules.{IsComing, HasNumber, Fits, IsOver, SameTicket, Owns, SameNumber, IsIdle, IsConsistent}
-use Rattle.farm_board.specs.Steps.{KnowsHistory, DrawsTicket, LooksForTurn, MarksEntry, FinishesTurn}
+use Rattle.farm_board.specs.Steps.{KnowsHistory, DrawsTicket, LooksForTurn, GoesOn, MarksEntry, FinishesTurn, KeepsTicket, GivesTicketUp}
+use Rattle.farm_board.specs.declared.entries.Call.{Call}
 use Rattle.farm_board.specs.declared.entries.Entry.{Entry}
 use Rattle.farm_board.specs.declared.entries.Entry.TheVariants as entry
 use Rattle.farm_board.specs.declared.view.View.{View}
 use Rattle.farm_board.proofs.Prefixes.{prefix_self, prefix_more}
 use Rattle.farm_board.proofs.Numbers.{in_end}
-use Rattle.farm_board.proofs.Histories.{board_after_snoc, board_after_seats, legal_snoc, entries_mine, entries_other, Stays, out_next_board, room_next_board, given_after, given_opening, given_few, none_new}
+use Rattle.farm_board.proofs.Histories.{board_after_snoc, board_after_seats, legal_snoc, entries_mine, entries_other, Stays, out_next_board, room_next_board, given_after, given_opening, after_call_given, next_board_few, none_new}
 use Rattle.farm_board.proofs.Views.{set_at, same_view, each_set, apart_set, apart_less, total_left_set, total_spare_set, total_spare_at, left_in, waiting_set, whole_set, idle_set, none_turn, dec_ticket}
 
 -- the table, with these words
@@ -35,8 +36,8 @@ dead_or false live dead = live refl
 
 -- Drawing
 
-more_drawn : (start : BoardState) (history : List Entry) (drawn more : ℕ) (v : View) → drawn ≤ more → Fits start history drawn v → Fits start history more v
-more_drawn start history drawn more v le f = record {
+more_drawn : (start : BoardState) (history : List Entry) (served drawn more : ℕ) (v : View) → drawn ≤ more → Fits start history served drawn v → Fits start history served more v
+more_drawn start history served drawn more v le f = record {
   start = f.start;
   seen = f.seen;
   mine = f.mine;
@@ -45,6 +46,7 @@ more_drawn start history drawn more v le f = record {
   out = f.out;
   ticket = λ k e. let h = f.ticket k e in (h.0, omega arith);
   turn = f.turn;
+  kept = f.kept;
   coming = f.coming;
 }
 
@@ -62,19 +64,21 @@ draws {S} state_of start slots id me at_rest some_left s r _ at small =
     let spare = total_spare_set s.views id me.0 w at in
     let bound = r.bound in
     let room = r.room in
-    let served = r.served in
+    let within = r.within in
     let grown : (r.drawn + 1) % 18446744073709551616 ≡ r.drawn + 1 = omega arith in
-    let new : IsConsistent state_of start record { words = (r.drawn + 1) % 18446744073709551616 ∷ length r.history ∷ []; homes = s.homes; views = set s.views id w } = record {
+    let new : IsConsistent state_of start record { words = (r.drawn + 1) % 18446744073709551616 ∷ r.served ∷ []; homes = s.homes; views = set s.views id w } = record {
       history = r.history;
       drawn = r.drawn + 1;
-      words = ap (λ (k : ℕ). k ∷ length r.history ∷ []) grown;
-      served = omega arith;
+      served = r.served;
+      words = ap (λ (k : ℕ). k ∷ r.served ∷ []) grown;
+      within = omega arith;
       begins = r.begins;
       legal = r.legal;
       bound = omega arith;
+      few = r.few;
       room = omega arith;
       one_slot = r.one_slot;
-      each = each_set (λ i v. v.ended ≡ false → Fits start r.history (r.drawn + 1) v) s.views id w
+      each = each_set (λ i v. v.ended ≡ false → Fits start r.history r.served (r.drawn + 1) v) s.views id w
           (λ live. record {
             start = f.start;
             seen = f.seen;
@@ -84,9 +88,10 @@ draws {S} state_of start slots id me at_rest some_left s r _ at small =
             out = f.out;
             ticket = λ k e. let same : r.drawn ≡ k = cc e in (omega arith, omega arith);
             turn = λ on. not_both me.0.turn at_rest.turn on;
+            kept = λ on. absurd (cc on);
             coming = λ e is. let no : None ≡ Some e = sym at_rest.coming ∙ is in absurd (cc no);
           })
-          (λ i v other e live. more_drawn start r.history r.drawn (r.drawn + 1) v (omega arith) (r.each i v e live));
+          (λ i v other e live. more_drawn start r.history r.served r.drawn (r.drawn + 1) v (omega arith) (r.each i v e live));
       over = each_set (λ i v. v.ended ≡ true → IsOver v) s.views id w (λ dead. not_both me.0.ended at_rest.live dead) (λ i v other e dead. r.over i v e dead);
       waiting = λ k from to. dite (ℕ_discrete k r.drawn)
           (λ is. (id, w, set_at s.views id me.0 w at, ap Some (sym is)))
@@ -104,8 +109,8 @@ draws {S} state_of start slots id me at_rest some_left s r _ at small =
 
 -- Looking, and taking what lies in the slot
 
-knows : (start : BoardState) (history : List Entry) (drawn : ℕ) (v : View) → Fits start history drawn v → IsLegal start history → length (board_after start history).out + v.spare ≤ start.seats → (board_after start history).given ≤ 4611686018427387904 → IsOpening start → KnowsHistory v history
-knows start history drawn v f legal room few begins = record {
+knows : (start : BoardState) (history : List Entry) (served drawn : ℕ) (v : View) → Fits start history served drawn v → IsLegal start history → length (board_after start history).out + v.spare ≤ start.seats → (board_after start history).given ≤ 4611686018427387904 → IsOpening start → KnowsHistory v history
+knows start history served drawn v f legal room few begins = record {
   longer = f.seen;
   legal = subst (λ (z : BoardState). IsLegal z history) (sym f.start) legal;
   mine = f.mine;
@@ -125,12 +130,12 @@ looks {S} state_of start slots id me empty no_turn no_entry live s r _ at small 
     × IsConsistent state_of start (stepped (at_words s ws) 1 (get_or ws 1 0) id me.1 x a) × LooksForTurn state_of (step slots 1 0 0 none) me (get_or ws 1 0) (x, carried_after me.1 a) in
     let f = r.each id me.0 at live in
     subst P (sym r.words)
-    (dite (dec_ticket me.0.ticket (length r.history))
+    (dite (dec_ticket me.0.ticket r.served)
     (λ mine.
     let idle : IsIdle s.views = λ i v e. none_turn v.turn (λ on.
     dead_or v.ended (λ u_live.
     let t = (r.each i v e u_live).turn on in
-    let is : i ≡ id = r.one_ticket i id v me.0 e at (length r.history, t.0, mine) in
+    let is : i ≡ id = r.one_ticket i id v me.0 e at (r.served, t.0, mine) in
     not_both v.turn (ap (λ (z : View). z.turn) (same_view s.views i id v me.0 is e at) ∙ no_turn) on)
     (λ dead. not_both v.turn (r.over i v e dead).turn on)) in
     let home = r.home idle in
@@ -142,17 +147,19 @@ looks {S} state_of start slots id me empty no_turn no_entry live s r _ at small 
     let all_is = all.1 in
     let bound = r.bound in
     let room = r.room in
-    let new : IsConsistent state_of start record { words = r.drawn ∷ length r.history ∷ []; homes = set s.homes 0 none; views = set s.views id w } = record {
+    let new : IsConsistent state_of start record { words = r.drawn ∷ r.served ∷ []; homes = set s.homes 0 none; views = set s.views id w } = record {
       history = r.history;
       drawn = r.drawn;
-      words = refl;
       served = r.served;
+      words = refl;
+      within = r.within;
       begins = r.begins;
       legal = r.legal;
       bound = omega arith;
+      few = r.few;
       room = omega arith;
       one_slot = length-set s.homes 0 none ∙ r.one_slot;
-      each = each_set (λ i v. v.ended ≡ false → Fits start r.history r.drawn v) s.views id w
+      each = each_set (λ i v. v.ended ≡ false → Fits start r.history r.served r.drawn v) s.views id w
           (λ _. record {
             start = f.start;
             seen = prefix_self r.history;
@@ -162,6 +169,7 @@ looks {S} state_of start slots id me empty no_turn no_entry live s r _ at small 
             out = f.out;
             ticket = f.ticket;
             turn = λ _. (mine, refl);
+            kept = λ _. (mine, refl);
             coming = λ e is. let no : None ≡ Some e = sym no_entry ∙ is in absurd (cc no);
           })
           (λ i v other e. r.each i v e);
@@ -183,17 +191,93 @@ looks {S} state_of start slots id me empty no_turn no_entry live s r _ at small 
           view = refl;
           slot = ap (λ (c : List (ℕ × Option S)). (0, Some h) ∷ c) empty;
           now = subst (λ (z : BoardState). state_of h ≡ board_after z r.history) (sym f.start) home.2;
-          bound = (let drawn = f.ticket (length r.history) mine in let part = left_in s.views id me.0 at in omega arith);
-          knows = knows start r.history r.drawn me.0 f r.legal (omega arith) (let few = given_few start r.history in let none = r.begins.given in let served = r.served in omega arith) r.begins;
+          bound = (let drawn = f.ticket r.served mine in let part = left_in s.views id me.0 at in omega arith);
+          knows = knows start r.history r.served r.drawn me.0 f r.legal (omega arith) (let few = r.few in let within = r.within in omega arith) r.begins;
         },
         λ other. absurd (other mine),
       ),
     ))
     (λ other.
-    let new : IsConsistent state_of start record { words = r.drawn ∷ length r.history ∷ []; homes = s.homes; views = set s.views id me.0 } =
-    subst (λ (vs : List View). IsConsistent state_of start record { words = r.drawn ∷ length r.history ∷ []; homes = s.homes; views = vs }) (sym (set_again s.views id me.0 at))
+    let new : IsConsistent state_of start record { words = r.drawn ∷ r.served ∷ []; homes = s.homes; views = set s.views id me.0 } =
+    subst (λ (vs : List View). IsConsistent state_of start record { words = r.drawn ∷ r.served ∷ []; homes = s.homes; views = vs }) (sym (set_again s.views id me.0 at))
     (subst (λ (ws : List ℕ). IsConsistent state_of start (at_words s ws)) r.words r) in
     (me.0, keeps, tt, new, (λ mine. absurd (other mine), λ _. refl))))
+
+-- Going on with the ticket that was kept
+
+knows_after : (v : View) (k : ℕ) (history : List Entry) → KnowsHistory v history → KnowsHistory (with_ticket v k) history
+knows_after v k history t = record { longer = t.longer; legal = t.legal; mine = t.mine; taken_in = t.taken_in; out = t.out; room = t.room; few = t.few; small = t.small; given = t.given; fresh = t.fresh }
+
+pub goes_on : {S : Type 0} (state_of : S → BoardState) (start : BoardState) (slots id : ℕ) (me : Me (Option S) View) → me.1 ≡ [] → IsKeeping me.0
+    → Allows (IsConsistent state_of start) slots id me 1 (λ n. n) (GoesOn state_of (step slots 1 0 0 none) me)
+goes_on {S} state_of start slots id me empty keeping s r _ at small =
+    let P : List ℕ → Type 0 = λ ws. (x : View) × (a : Act (Option S)) × Valid s.homes me.1 a
+    × IsConsistent state_of start (stepped (at_words s ws) 1 (get_or ws 1 0) id me.1 x a) × GoesOn state_of (step slots 1 0 0 none) me (get_or ws 1 0) (x, carried_after me.1 a) in
+    let f = r.each id me.0 at keeping.live in
+    let mine : me.0.ticket ≡ Some r.served = (f.kept keeping.kept).0 in
+    let idle : IsIdle s.views = λ i v e. none_turn v.turn (λ on.
+    dead_or v.ended (λ u_live.
+    let t = (r.each i v e u_live).turn on in
+    let is : i ≡ id = r.one_ticket i id v me.0 e at (r.served, t.0, mine) in
+    not_both v.turn (ap (λ (z : View). z.turn) (same_view s.views i id v me.0 is e at) ∙ keeping.turn) on)
+    (λ dead. not_both v.turn (r.over i v e dead).turn on)) in
+    let home = r.home idle in
+    let h : S = home.0 in
+    let w : View = with_turn (with_ticket me.0 r.served) r.history in
+    let sum = total_left_set s.views id me.0 w at in
+    let spare = total_spare_set s.views id me.0 w at in
+    let all = total_spare_at s.views id me.0 at in
+    let all_is = all.1 in
+    let bound = r.bound in
+    let room = r.room in
+    let new : IsConsistent state_of start record { words = r.drawn ∷ r.served ∷ []; homes = set s.homes 0 none; views = set s.views id w } = record {
+      history = r.history;
+      drawn = r.drawn;
+      served = r.served;
+      words = refl;
+      within = r.within;
+      begins = r.begins;
+      legal = r.legal;
+      bound = omega arith;
+      few = r.few;
+      room = omega arith;
+      one_slot = length-set s.homes 0 none ∙ r.one_slot;
+      each = each_set (λ i v. v.ended ≡ false → Fits start r.history r.served r.drawn v) s.views id w
+          (λ _. record {
+            start = f.start;
+            seen = prefix_self r.history;
+            mine = f.mine;
+            to_give = f.to_give;
+            taken_in = f.taken_in;
+            out = f.out;
+            ticket = λ k is. f.ticket k (mine ∙ is);
+            turn = λ _. (refl, refl);
+            kept = λ on. absurd (cc on);
+            coming = λ e is. let no : None ≡ Some e = sym keeping.coming ∙ is in absurd (cc no);
+          })
+          (λ i v other e. r.each i v e);
+      over = each_set (λ i v. v.ended ≡ true → IsOver v) s.views id w (λ dead. not_both me.0.ended keeping.live dead) (λ i v other e dead. r.over i v e dead);
+      waiting = λ k from to. waiting_set s.views id me.0 w k at (λ is. sym mine ∙ is) (r.waiting k from to);
+      one_ticket = apart_less SameTicket s.views id me.0 w at (λ u same. (same.0, mine ∙ same.1, same.2)) (λ u same. (same.0, same.1, mine ∙ same.2)) r.one_ticket;
+      one_number = apart_less SameNumber s.views id me.0 w at (λ u same. same) (λ u same. same) r.one_number;
+      whole = whole_set r.history s.views id me.0 w at keeping.live (λ is. refl) r.whole;
+      home = λ none_has. not_both w.turn (none_has id w (set_at s.views id me.0 w at)) refl;
+    } in
+    subst P (sym r.words) (
+      w,
+      takes 0 (Some h),
+      ap (λ (hs : List (Home (Option S))). get_elem? hs 0) home.1,
+      new,
+      record {
+        history = r.history;
+        held = h;
+        view = refl;
+        slot = ap (λ (c : List (ℕ × Option S)). (0, Some h) ∷ c) empty;
+        now = subst (λ (z : BoardState). state_of h ≡ board_after z r.history) (sym f.start) home.2;
+        bound = (let drawn = f.ticket r.served mine in let part = left_in s.views id me.0 at in omega arith);
+        knows = knows_after me.0 r.served r.history (knows start r.history r.served r.drawn me.0 f r.legal (omega arith) (let few = r.few in let within = r.within in omega arith) r.begins);
+      },
+    )
 
 -- Marking
 
@@ -218,17 +302,19 @@ marks {S} state_of start slots id me e on live own next suits s r _ at small =
     let comes : (x : Entry) → Some e ≡ Some x → IsComing (board_after start r.history) w x = λ x is.
     let same : e ≡ x = cc is in
     subst (λ (z : Entry). IsComing (board_after start r.history) w z) same record { turn = on; own = own; next = may; suits = suits_coming e me.0 suits } in
-    let new : IsConsistent state_of start record { words = r.drawn ∷ length r.history ∷ []; homes = s.homes; views = set s.views id w } = record {
+    let new : IsConsistent state_of start record { words = r.drawn ∷ r.served ∷ []; homes = s.homes; views = set s.views id w } = record {
       history = r.history;
       drawn = r.drawn;
-      words = refl;
       served = r.served;
+      words = refl;
+      within = r.within;
       begins = r.begins;
       legal = r.legal;
       bound = omega arith;
+      few = r.few;
       room = omega arith;
       one_slot = r.one_slot;
-      each = each_set (λ i v. v.ended ≡ false → Fits start r.history r.drawn v) s.views id w
+      each = each_set (λ i v. v.ended ≡ false → Fits start r.history r.served r.drawn v) s.views id w
           (λ _. record {
             start = f.start;
             seen = f.seen;
@@ -238,6 +324,7 @@ marks {S} state_of start slots id me e on live own next suits s r _ at small =
             out = f.out;
             ticket = f.ticket;
             turn = f.turn;
+            kept = f.kept;
             coming = comes;
           })
           (λ i v other e. r.each i v e);
@@ -274,9 +361,9 @@ gift_out s (entry.Split number new) n is = let same : new ≡ n = cc is in subst
 gift_out s (entry.Join number old) n is = absurd (cc is)
 
 -- the view of the pass that ends its turn
-fits_after_turn : (start : BoardState) (history : List Entry) (drawn : ℕ) (v : View) (e : Entry) → Fits start history drawn v → v.turn ≡ true → IsComing (board_after start history) v e → IsLegal start history → IsOpening start
-    → Fits start (history ++ e ∷ []) drawn (with_entry v e)
-fits_after_turn start history drawn v e f on c legal begins =
+fits_after_turn : (start : BoardState) (history : List Entry) (served later drawn : ℕ) (v : View) (e : Entry) → Fits start history served drawn v → v.turn ≡ true → IsComing (board_after start history) v e → IsLegal start history → IsOpening start
+    → Fits start (history ++ e ∷ []) later drawn (with_entry v e)
+fits_after_turn start history served later drawn v e f on c legal begins =
     let now : BoardState = board_after start history in
     let below : OutWereGiven now = given_after start history legal (given_opening start begins) in
     let is_next : board_after start (history ++ e ∷ []) ≡ next_board now e = board_after_snoc start history e in
@@ -298,15 +385,17 @@ fits_after_turn start history drawn v e f on c legal begins =
           (λ q. ⊎_elim (λ is. gift_out now e n is) (λ (none_is : None ≡ Some n). absurd (cc none_is)) q) names);
       ticket = λ k none_is. absurd (cc none_is);
       turn = λ is. absurd (cc is);
+      kept = λ is. absurd (cc is);
       coming = λ x none_is. absurd (cc none_is);
     }
 
 -- the view of another pass
-beside_turn : (start : BoardState) (history : List Entry) (drawn : ℕ) (v u : View) (e : Entry) → Fits start history drawn u → IsComing (board_after start history) v e → v.ended ≡ false
-    → u.turn ≡ false → u.ticket ≢ Some (length history) → ((n : ℕ) → HasNumber n u → HasNumber n v → ⊥)
-    → Fits start (history ++ e ∷ []) drawn u
-beside_turn start history drawn v u e g c live off waits apart =
-    let len : length (history ++ e ∷ []) ≡ length history + 1 = length-append history (e ∷ []) in
+beside_turn : (start : BoardState) (history : List Entry) (served later drawn : ℕ) (v u : View) (e : Entry) → Fits start history served drawn u → IsComing (board_after start history) v e → v.ended ≡ false
+    → later ≤ served + 1 → u.ticket ≢ Some served → ((n : ℕ) → HasNumber n u → HasNumber n v → ⊥)
+    → Fits start (history ++ e ∷ []) later drawn u
+beside_turn start history served later drawn v u e g c live next waits apart =
+    let off : u.turn ≡ false = none_turn u.turn (λ on. waits (g.turn on).0) in
+    let none_kept : u.kept ≡ false = none_turn u.kept (λ on. waits (g.kept on).0) in
     let other : (n : ℕ) → HasNumber n u → pass_number e ≢ n = λ n names same. apart n names (inl (sym same ∙ c.own)) in record {
       start = g.start;
       seen = prefix_more u.seen history e g.seen;
@@ -315,8 +404,9 @@ beside_turn start history drawn v u e g c live off waits apart =
       taken_in = λ n is. let q = g.taken_in n is in (entries_other n history e (other n (inr (inr is))) ∙ q.0, q.1, q.2, prefix_more u.taken_in_seen history e q.3, prefix_more u.seen_before history e q.4);
       out = λ n names. subst (λ (z : BoardState). IsOut n z) (sym (board_after_snoc start history e))
           (out_next_board (board_after start history) e n (g.out n names) (stays_apart e v n c.suits (λ m m_is same. apart n names (inr (inr (m_is ∙ ap Some (sym same)))))));
-      ticket = λ k is. let q = g.ticket k is in let later : k ≢ length history = λ same. waits (is ∙ ap Some same) in (omega arith, q.1);
+      ticket = λ k is. let q = g.ticket k is in let other_ticket : k ≢ served = λ same. waits (is ∙ ap Some same) in (omega arith, q.1);
       turn = λ on. not_both u.turn off on;
+      kept = λ on. not_both u.kept none_kept on;
       coming = λ x is. not_both u.turn off (g.coming x is).turn;
     }
 
@@ -334,8 +424,7 @@ finishes {S} state_of start slots id v h e on live coming now_is s r _ at small 
     let history : List Entry = r.history ++ e ∷ [] in
     let now : BoardState = board_after start r.history in
     let is_next : board_after start history ≡ next_board now e = board_after_snoc start r.history e in
-    let len : length history ≡ length r.history + 1 = length-append r.history (e ∷ []) in
-    let drawn_more = f.ticket (length r.history) t.0 in
+    let drawn_more = f.ticket r.served t.0 in
     let bound = r.bound in
     let sum = total_left_set s.views id v w at in
     let all = total_spare_at s.views id v at in
@@ -345,32 +434,34 @@ finishes {S} state_of start slots id v h e on live coming now_is s r _ at small 
     let seats_are = board_after_seats start r.history in
     let room = room_next_board now e v all.0 c.next c.suits (omega arith) in
     let out_is : length (board_after start history).out ≡ length (next_board now e).out = ap (λ (z : BoardState). length z.out) is_next in
-    let up : (length r.history + 1) % 18446744073709551616 ≡ length history = omega arith in
+    let up : (r.served + 1) % 18446744073709551616 ≡ r.served + 1 = omega arith in
+    let few : (board_after start history).given ≤ r.served + 1 = (let is_given = ap (λ (z : BoardState). z.given) is_next in let step_few = next_board_few now e in let few = r.few in omega arith) in
     let below : OutWereGiven now = given_after start r.history r.legal (given_opening start r.begins) in
     let not_new : (n : ℕ) (j : ℕ) (u : View) → get_elem? s.views j ≡ some u → Owns n u → to_give_after e ≡ Some n → ⊥ = λ n j u there o is.
     let is_new = gift_new now e n c.next is in
     let given = below n ((r.each j u there o.0).out n o.1) in absurd (omega arith) in
     let seen : v.seen ++ e ∷ [] ≡ history = ap (λ (z : List Entry). z ++ e ∷ []) t.1 in
-    let new : IsConsistent state_of start record { words = r.drawn ∷ (length r.history + 1) % 18446744073709551616 ∷ []; homes = set s.homes 0 (some (Some h)); views = set s.views id w } = record {
+    let new : IsConsistent state_of start record { words = r.drawn ∷ (r.served + 1) % 18446744073709551616 ∷ []; homes = set s.homes 0 (some (Some h)); views = set s.views id w } = record {
       history = history;
       drawn = r.drawn;
+      served = r.served + 1;
       words = ap (λ (k : ℕ). r.drawn ∷ k ∷ []) up;
-      served = omega arith;
+      within = omega arith;
       begins = r.begins;
       legal = legal_snoc start r.history e r.legal c.next;
       bound = omega arith;
+      few = few;
       room = omega arith;
       one_slot = length-set s.homes 0 (some (Some h)) ∙ r.one_slot;
-      each = each_set (λ i u. u.ended ≡ false → Fits start history r.drawn u) s.views id w
-          (λ _. fits_after_turn start r.history r.drawn v e f on c r.legal r.begins)
+      each = each_set (λ i u. u.ended ≡ false → Fits start history (r.served + 1) r.drawn u) s.views id w
+          (λ _. fits_after_turn start r.history r.served (r.served + 1) r.drawn v e f on c r.legal r.begins)
           (λ i u other there u_live.
           let g = r.each i u there u_live in
-          let waits : u.ticket ≢ Some (length r.history) = λ is. other (r.one_ticket i id u v there at (length r.history, is, t.0)) in
-          beside_turn start r.history r.drawn v u e g c live (none_turn u.turn (λ u_on. waits (g.turn u_on).0)) waits
+          beside_turn start r.history r.served (r.served + 1) r.drawn v u e g c live (omega arith) (λ is. other (r.one_ticket i id u v there at (r.served, is, t.0)))
           (λ n a b. other (r.one_number i id u v there at (n, (u_live, a), (live, b)))));
       over = each_set (λ i u. u.ended ≡ true → IsOver u) s.views id w (λ dead. not_both v.ended live dead) (λ i u other there dead. r.over i u there dead);
       waiting = λ k from to. waiting_set s.views id v w k at
-          (λ is. let same : Some (length r.history) ≡ Some k = sym t.0 ∙ is in let k_is : length r.history ≡ k = cc same in absurd (omega arith))
+          (λ is. let same : Some r.served ≡ Some k = sym t.0 ∙ is in let k_is : r.served ≡ k = cc same in absurd (omega arith))
           (r.waiting k (omega arith) to);
       one_ticket = apart_set SameTicket s.views id w r.one_ticket
           (λ j u other there same. let n : None ≡ Some same.0 = same.1 in absurd (cc n))
@@ -391,3 +482,153 @@ pub ends : {S : Type 0} (state_of : S → BoardState) (start : BoardState) (slot
 ends {S} state_of start slots id v h e me is on live coming now_is =
     let F : Me (Option S) View → Type 0 = λ m. Allows (IsConsistent state_of start) slots id m 1 (λ n. (n + 1) % 18446744073709551616) (FinishesTurn (step slots 1 1 0 none) m) in
     subst F (sym is) (finishes state_of start slots id v h e on live coming now_is)
+
+-- Keeping the ticket
+
+pub keeps_ticket : {S : Type 0} (state_of : S → BoardState) (start : BoardState) (slots id : ℕ) (v : View) (h : S) (call : Call) → v.turn ≡ true → v.ended ≡ false → v.coming ≡ Some (entry.Call call)
+    → state_of h ≡ board_after v.start.value (v.seen ++ entry.Call call ∷ [])
+    → Allows (IsConsistent state_of start) slots id (v, (0, Some h) ∷ []) 1 (λ n. n) (KeepsTicket (step slots 1 0 0 none) (v, (0, Some h) ∷ []))
+keeps_ticket {S} state_of start slots id v h call on live coming now_is s r _ at small =
+    let me : Me (Option S) View = (v, (0, Some h) ∷ []) in
+    let e : Entry = entry.Call call in
+    let P : List ℕ → Type 0 = λ ws. (x : View) × (a : Act (Option S)) × Valid s.homes me.1 a
+    × IsConsistent state_of start (stepped (at_words s ws) 1 (get_or ws 1 0) id me.1 x a) × KeepsTicket (step slots 1 0 0 none) me (get_or ws 1 0) (x, carried_after me.1 a) in
+    let f = r.each id v at live in
+    let t = f.turn on in
+    let c = f.coming e coming in
+    let w : View = with_kept_ticket v e in
+    let history : List Entry = r.history ++ e ∷ [] in
+    let now : BoardState = board_after start r.history in
+    let is_next : board_after start history ≡ next_board now e = board_after_snoc start r.history e in
+    let few : (board_after start history).given ≤ r.served = (let is_given = ap (λ (z : BoardState). z.given) is_next in let same = after_call_given (is_no_memory call.reply) now call in let few = r.few in omega arith) in
+    let bound = r.bound in
+    let sum = total_left_set s.views id v w at in
+    let all = total_spare_at s.views id v at in
+    let all_is = all.1 in
+    let all_new = all.2 w in
+    let room_is = r.room in
+    let seats_are = board_after_seats start r.history in
+    let room = room_next_board now e v all.0 c.next c.suits (omega arith) in
+    let out_is : length (board_after start history).out ≡ length (next_board now e).out = ap (λ (z : BoardState). length z.out) is_next in
+    let seen : v.seen ++ e ∷ [] ≡ history = ap (λ (z : List Entry). z ++ e ∷ []) t.1 in
+    let ended = fits_after_turn start r.history r.served r.served r.drawn v e f on c r.legal r.begins in
+    let numbers : (n : ℕ) → HasNumber n w → HasNumber n v = λ n o. ⊎_elim (λ (is : n ≡ v.number). inl is)
+    (λ q. ⊎_elim (λ (is : None ≡ Some n). absurd (cc is)) (λ (is : None ≡ Some n). absurd (cc is)) q) o in
+    let new : IsConsistent state_of start record { words = r.drawn ∷ r.served ∷ []; homes = set s.homes 0 (some (Some h)); views = set s.views id w } = record {
+      history = history;
+      drawn = r.drawn;
+      served = r.served;
+      words = refl;
+      within = r.within;
+      begins = r.begins;
+      legal = legal_snoc start r.history e r.legal c.next;
+      bound = omega arith;
+      few = few;
+      room = omega arith;
+      one_slot = length-set s.homes 0 (some (Some h)) ∙ r.one_slot;
+      each = each_set (λ i u. u.ended ≡ false → Fits start history r.served r.drawn u) s.views id w
+          (λ _. record {
+            start = ended.start;
+            seen = ended.seen;
+            mine = ended.mine;
+            to_give = ended.to_give;
+            taken_in = ended.taken_in;
+            out = ended.out;
+            ticket = f.ticket;
+            turn = λ is. absurd (cc is);
+            kept = λ _. (t.0, seen);
+            coming = λ x none_is. absurd (cc none_is);
+          })
+          (λ i u other there u_live.
+          let g = r.each i u there u_live in
+          beside_turn start r.history r.served r.served r.drawn v u e g c live (omega arith) (λ is. other (r.one_ticket i id u v there at (r.served, is, t.0)))
+          (λ n a b. other (r.one_number i id u v there at (n, (u_live, a), (live, b)))));
+      over = each_set (λ i u. u.ended ≡ true → IsOver u) s.views id w (λ dead. not_both v.ended live dead) (λ i u other there dead. r.over i u there dead);
+      waiting = λ k from to. waiting_set s.views id v w k at (λ is. is) (r.waiting k from to);
+      one_ticket = apart_less SameTicket s.views id v w at (λ u same. same) (λ u same. same) r.one_ticket;
+      one_number = apart_less SameNumber s.views id v w at
+          (λ u same. (same.0, (live, numbers same.0 same.1.1), same.2))
+          (λ u same. (same.0, same.1, (live, numbers same.0 same.2.1))) r.one_number;
+      whole = (id, w, set_at s.views id v w at, live, seen);
+      home = λ _. (h, one_home s.homes (some (Some h)) r.one_slot, subst (λ (z : BoardState × List Entry). state_of h ≡ board_after z.0 z.1) (λ k. (f.start k, seen k)) now_is);
+    } in
+    subst P (sym r.words) (w, gives, tt, new, λ x is. let same : e ≡ x = cc (coming, is) in ap (λ (z : Entry). (with_kept_ticket v z, [])) same)
+
+pub keeps_its_ticket : {S : Type 0} (state_of : S → BoardState) (start : BoardState) (slots id : ℕ) (v : View) (h : S) (call : Call) (me : Me (Option S) View) → me ≡ (v, (0, Some h) ∷ []) → v.turn ≡ true → v.ended ≡ false → v.coming ≡ Some (entry.Call call)
+    → state_of h ≡ board_after v.start.value (v.seen ++ entry.Call call ∷ [])
+    → Allows (IsConsistent state_of start) slots id me 1 (λ n. n) (KeepsTicket (step slots 1 0 0 none) me)
+keeps_its_ticket {S} state_of start slots id v h call me is on live coming now_is =
+    let F : Me (Option S) View → Type 0 = λ m. Allows (IsConsistent state_of start) slots id m 1 (λ n. n) (KeepsTicket (step slots 1 0 0 none) m) in
+    subst F (sym is) (keeps_ticket state_of start slots id v h call on live coming now_is)
+
+-- Giving the ticket up
+
+-- another view, where the ticket that is served was given up
+beside_given_up : (start : BoardState) (history : List Entry) (served drawn : ℕ) (u : View) → Fits start history served drawn u → u.ticket ≢ Some served → Fits start history (served + 1) drawn u
+beside_given_up start history served drawn u g waits = record {
+  start = g.start;
+  seen = g.seen;
+  mine = g.mine;
+  to_give = g.to_give;
+  taken_in = g.taken_in;
+  out = g.out;
+  ticket = λ k is. let q = g.ticket k is in let other_ticket : k ≢ served = λ same. waits (is ∙ ap Some same) in (omega arith, q.1);
+  turn = λ on. absurd (waits (g.turn on).0);
+  kept = λ on. absurd (waits (g.kept on).0);
+  coming = g.coming;
+}
+
+pub gives_up : {S : Type 0} (state_of : S → BoardState) (start : BoardState) (slots id : ℕ) (me : Me (Option S) View) → IsKeeping me.0
+    → Allows (IsConsistent state_of start) slots id me 1 (λ n. (n + 1) % 18446744073709551616) (GivesTicketUp (step slots 1 1 0 none) me)
+gives_up {S} state_of start slots id me keeping s r _ at small =
+    let P : List ℕ → Type 0 = λ ws. (x : View) × (a : Act (Option S)) × Valid s.homes me.1 a
+    × IsConsistent state_of start (stepped (at_words s ws) 1 ((get_or ws 1 0 + 1) % 18446744073709551616) id me.1 x a) × GivesTicketUp (step slots 1 1 0 none) me (get_or ws 1 0) (x, carried_after me.1 a) in
+    let live = keeping.live in
+    let f = r.each id me.0 at live in
+    let mine : me.0.ticket ≡ Some r.served = (f.kept keeping.kept).0 in
+    let drawn_more = f.ticket r.served mine in
+    let w : View = without_ticket me.0 in
+    let sum = total_left_set s.views id me.0 w at in
+    let spare = total_spare_set s.views id me.0 w at in
+    let bound = r.bound in
+    let room = r.room in
+    let few = r.few in
+    let up : (r.served + 1) % 18446744073709551616 ≡ r.served + 1 = omega arith in
+    let new : IsConsistent state_of start record { words = r.drawn ∷ (r.served + 1) % 18446744073709551616 ∷ []; homes = s.homes; views = set s.views id w } = record {
+      history = r.history;
+      drawn = r.drawn;
+      served = r.served + 1;
+      words = ap (λ (k : ℕ). r.drawn ∷ k ∷ []) up;
+      within = omega arith;
+      begins = r.begins;
+      legal = r.legal;
+      bound = omega arith;
+      few = omega arith;
+      room = omega arith;
+      one_slot = r.one_slot;
+      each = each_set (λ i v. v.ended ≡ false → Fits start r.history (r.served + 1) r.drawn v) s.views id w
+          (λ _. record {
+            start = f.start;
+            seen = f.seen;
+            mine = f.mine;
+            to_give = f.to_give;
+            taken_in = f.taken_in;
+            out = f.out;
+            ticket = λ k none_is. absurd (cc none_is);
+            turn = λ on. not_both me.0.turn keeping.turn on;
+            kept = λ on. absurd (cc on);
+            coming = λ e is. let no : None ≡ Some e = sym keeping.coming ∙ is in absurd (cc no);
+          })
+          (λ i u other there u_live. beside_given_up start r.history r.served r.drawn u (r.each i u there u_live) (λ is. other (r.one_ticket i id u me.0 there at (r.served, is, mine))));
+      over = each_set (λ i u. u.ended ≡ true → IsOver u) s.views id w (λ dead. not_both me.0.ended live dead) (λ i u other there dead. r.over i u there dead);
+      waiting = λ k from to. waiting_set s.views id me.0 w k at
+          (λ is. let same : Some r.served ≡ Some k = sym mine ∙ is in let k_is : r.served ≡ k = cc same in absurd (omega arith))
+          (r.waiting k (omega arith) to);
+      one_ticket = apart_set SameTicket s.views id w r.one_ticket
+          (λ j u other there same. let n : None ≡ Some same.0 = same.1 in absurd (cc n))
+          (λ j u other there same. let n : None ≡ Some same.0 = same.2 in absurd (cc n));
+      one_number = apart_less SameNumber s.views id me.0 w at (λ u same. same) (λ u same. same) r.one_number;
+      whole = whole_set r.history s.views id me.0 w at live (λ is. is) r.whole;
+      home = λ idle. r.home (idle_set s.views id me.0 w at keeping.turn idle);
+    } in
+    subst P (sym r.words) (w, keeps, tt, new, refl)

@@ -1,5 +1,6 @@
 -- The rule of the board: what holds of its two words, its slot and all views, between any two steps.
--- Word 0 counts the tickets that were drawn, and word 1 the turns that were served.
+-- Word 0 counts the tickets that were drawn, and word 1 those that were served. An entry joins the history in the turn
+-- of a ticket, which may go on for more of them.
 use Rattle.std.specs.Prelude.{◌≡◌, ◌≢◌, ℕ, ◌+◌, ◌^◌, ◌<◌, ◌≤◌, ◌⊎◌, true, false, Option, None, Some, List, [], ◌∷◌, length}
 use mathlib.Core.Option.{some}
 use mathlib.Core.List.{IsPrefix}
@@ -35,16 +36,17 @@ IsTakenIn history v n =
     (entries_by n history ≡ v.taken_in_mine) × (n ≢ v.number) × (v.to_give ≢ Some n)
     × IsPrefix v.taken_in_seen history × IsPrefix v.seen_before history
 
--- the view agrees with the history and with how many tickets were drawn
-pub record Fits (s : BoardState) (history : List Entry) (drawn : ℕ) (v : View) : Type 0 where
+-- the view agrees with the history, and with how many tickets were served and drawn
+pub record Fits (s : BoardState) (history : List Entry) (served drawn : ℕ) (v : View) : Type 0 where
   pub start : v.start.value ≡ s
   pub seen : IsPrefix v.seen history
   pub mine : entries_by v.number history ≡ v.mine
   pub to_give : (n : ℕ) → v.to_give ≡ Some n → IsNewNumber history v n
   pub taken_in : (n : ℕ) → v.taken_in ≡ Some n → IsTakenIn history v n
   pub out : (n : ℕ) → HasNumber n v → IsOut n (board_after s history)
-  pub ticket : (k : ℕ) → v.ticket ≡ Some k → (length history ≤ k) × (k < drawn)
-  pub turn : v.turn ≡ true → (v.ticket ≡ Some (length history)) × (v.seen ≡ history)
+  pub ticket : (k : ℕ) → v.ticket ≡ Some k → (served ≤ k) × (k < drawn)
+  pub turn : v.turn ≡ true → (v.ticket ≡ Some served) × (v.seen ≡ history)
+  pub kept : v.kept ≡ true → (v.ticket ≡ Some served) × (v.seen ≡ history)
   pub coming : (e : Entry) → v.coming ≡ Some e → IsComing (board_after s history) v e
 
 -- an ended view has no calls left, and takes part in nothing
@@ -100,16 +102,18 @@ pub record IsConsistent {S : Type 0} (state_of : S → BoardState) (start : Boar
     : Type 0 where
   pub history : List Entry
   pub drawn : ℕ
-  pub words : s.words ≡ drawn ∷ length history ∷ []
-  pub served : length history ≤ drawn
+  pub served : ℕ
+  pub words : s.words ≡ drawn ∷ served ∷ []
+  pub within : served ≤ drawn
   pub begins : IsOpening start
   pub legal : IsLegal start history
   pub bound : drawn + total_left s.views ≤ 2 ^ 62
+  pub few : (board_after start history).given ≤ served
   pub room : length (board_after start history).out + total_spare s.views ≤ start.seats
   pub one_slot : length s.homes ≡ 1
-  pub each : (i : ℕ) (v : View) → get_elem? s.views i ≡ some v → v.ended ≡ false → Fits start history drawn v
+  pub each : (i : ℕ) (v : View) → get_elem? s.views i ≡ some v → v.ended ≡ false → Fits start history served drawn v
   pub over : (i : ℕ) (v : View) → get_elem? s.views i ≡ some v → v.ended ≡ true → IsOver v
-  pub waiting : (k : ℕ) → length history ≤ k → k < drawn → SomeHasTicket s.views k
+  pub waiting : (k : ℕ) → served ≤ k → k < drawn → SomeHasTicket s.views k
   pub one_ticket : Apart SameTicket s.views
   pub one_number : Apart SameNumber s.views
   pub whole : SomeHasSeenAll history s.views

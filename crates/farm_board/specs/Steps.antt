@@ -4,7 +4,7 @@ use mathlib.Core.List.{IsPrefix}
 use Rattle.atomic_table.specs.Table.{Me, Step, rest}
 use Rattle.farm_board.specs.BoardState.{BoardState}
 use Rattle.farm_board.specs.Histories.{board_after, IsLegal, IsNext, IsOut, OutWereGiven, entries_by}
-use Rattle.farm_board.specs.Views.{with_ticket, with_turn, with_coming, with_entry}
+use Rattle.farm_board.specs.Views.{with_ticket, with_turn, with_coming, with_entry, with_kept_ticket, without_ticket}
 use Rattle.farm_board.specs.Rules.{HasNumber, IsTakenIn}
 use Rattle.farm_board.specs.declared.entries.Entry.{Entry}
 use Rattle.farm_board.specs.declared.view.View.{View}
@@ -45,6 +45,11 @@ abbrev pub LooksForTurn : {S : Type 0} → (S → BoardState) → Step (Option S
 LooksForTurn state_of step m found m' =
     (m.0.ticket ≡ Some found → GetsTurn state_of m m') × (m.0.ticket ≢ Some found → m' ≡ m)
 
+-- the ticket that was kept serves for one more call, whose turn has come
+abbrev pub GoesOn : {S : Type 0} → (S → BoardState) → Step (Option S) → Me (Option S) View → ℕ
+    → Me (Option S) View → Type 0
+GoesOn state_of step m found m' = GetsTurn state_of (with_ticket m.0 found, m.1) m'
+
 -- the entry is the one to come
 abbrev pub MarksEntry : {S : Type 0} → Entry → Step (Option S) → Me (Option S) View → ℕ → Me (Option S) View → Type 0
 MarksEntry e step m found m' = m' ≡ (with_coming m.0 e, m.1)
@@ -52,6 +57,14 @@ MarksEntry e step m found m' = m' ≡ (with_coming m.0 e, m.1)
 -- the entry to come joined the history
 abbrev pub FinishesTurn : {S : Type 0} → Step (Option S) → Me (Option S) View → ℕ → Me (Option S) View → Type 0
 FinishesTurn step m found m' = (e : Entry) → m.0.coming ≡ Some e → m' ≡ (with_entry m.0 e, rest m.1)
+
+-- the entry to come joined the history, and the ticket is kept
+abbrev pub KeepsTicket : {S : Type 0} → Step (Option S) → Me (Option S) View → ℕ → Me (Option S) View → Type 0
+KeepsTicket step m found m' = (e : Entry) → m.0.coming ≡ Some e → m' ≡ (with_kept_ticket m.0 e, rest m.1)
+
+-- the ticket that was kept was given up
+abbrev pub GivesTicketUp : {S : Type 0} → Step (Option S) → Me (Option S) View → ℕ → Me (Option S) View → Type 0
+GivesTicketUp step m found m' = m' ≡ (without_ticket m.0, m.1)
 
 -- A whole turn
 
@@ -69,11 +82,24 @@ pub record InTurn (v w : View) (now : BoardState) : Type 0 where
 abbrev pub view_after_turn : View → ℕ → List Entry → Entry → View
 view_after_turn v k history e = with_entry (with_coming (with_turn (with_ticket v k) history) e) e
 
+-- the view at the end of a call that keeps its ticket
+abbrev pub view_after_kept_turn : View → ℕ → List Entry → Entry → View
+view_after_kept_turn v k history e = with_kept_ticket (with_coming (with_turn (with_ticket v k) history) e) e
+
 -- a turn has ended, in which the entry came
 pub record EndsTurn (v w : View) (e : Entry) : Type 0 where
   pub ticket : ℕ
   pub history : List Entry
   pub view : w ≡ view_after_turn v ticket history e
+  pub knows : KnowsHistory v history
+  pub next : IsNext (board_after v.start.value history) e
+  pub bound : w.left < 2 ^ 62
+
+-- the entry came, and the ticket was kept
+pub record KeepsTurn (v w : View) (e : Entry) : Type 0 where
+  pub ticket : ℕ
+  pub history : List Entry
+  pub view : w ≡ view_after_kept_turn v ticket history e
   pub knows : KnowsHistory v history
   pub next : IsNext (board_after v.start.value history) e
   pub bound : w.left < 2 ^ 62

@@ -1,5 +1,5 @@
 -- What a seat of the board's table knows, its view, and what each step makes of it.
-use Rattle.std.specs.Prelude.{◌≡◌, ℕ, ◌+◌, ◌-◌, ◌^◌, ◌<◌, true, false, Option, None, Some, List, [], ◌∷◌, ◌++◌, length, nat_lt, if◌then◌else◌}
+use Rattle.std.specs.Prelude.{◌≡◌, ℕ, ◌+◌, ◌-◌, ◌^◌, ◌<◌, Bool, true, false, Option, None, Some, List, [], ◌∷◌, ◌++◌, length, nat_lt, if◌then◌else◌}
 use Rattle.std.specs.Option.{unwrap_or}
 use Rattle.std.specs.declared.snapshot.Snapshot.{Snapshot}
 use Rattle.farm_model.specs.State.{start, standard_settings}
@@ -20,6 +20,7 @@ opening_view start = record {
   left = 2 ^ 62;
   ticket = None;
   turn = false;
+  kept = false;
   coming = None;
   to_give = None;
   taken_in = None;
@@ -31,9 +32,9 @@ opening_view start = record {
 
 -- Turns
 
--- a ticket was drawn
+-- a ticket was drawn, or the one that was kept serves for one more call
 abbrev pub with_ticket : View → ℕ → View
-with_ticket v k = record v { left = v.left - 1; ticket = Some k }
+with_ticket v k = record v { left = v.left - 1; ticket = Some k; kept = false }
 
 -- the ticket's turn has come
 abbrev pub with_turn : View → List Entry → View
@@ -62,6 +63,7 @@ with_entry v e = record v {
   spare = spare_after v.spare e;
   ticket = None;
   turn = false;
+  kept = false;
   coming = None;
   to_give = to_give_after e;
   taken_in = None;
@@ -69,6 +71,14 @@ with_entry v e = record v {
   taken_in_seen = [];
   seen_before = [];
 }
+
+-- the entry joined the history, and the ticket is kept
+abbrev pub with_kept_ticket : View → Entry → View
+with_kept_ticket v e = record (with_entry v e) { ticket = v.ticket; kept = true }
+
+-- the kept ticket was given up
+abbrev pub without_ticket : View → View
+without_ticket v = record v { ticket = None; kept = false }
 
 -- what a view needs for the entry: only one that joins has taken a number in
 abbrev pub Suits : Entry → View → Type 0
@@ -118,6 +128,7 @@ ended_view = record (opening_view nowhere) { left = 0; ended = true }
 pub record IsResting (v : View) : Type 0 where
   pub ticket : v.ticket ≡ None
   pub turn : v.turn ≡ false
+  pub kept : v.kept ≡ false
   pub coming : v.coming ≡ None
   pub live : v.ended ≡ false
 
@@ -126,3 +137,17 @@ pub record IsFree (v : View) : Type 0 where
   pub resting : IsResting v
   pub to_give : v.to_give ≡ None
   pub taken_in : v.taken_in ≡ None
+
+-- it is between two calls, and has kept the ticket of the first, so that no other pass's call comes between them
+pub record IsKeeping (v : View) : Type 0 where
+  pub turn : v.turn ≡ false
+  pub kept : v.kept ≡ true
+  pub coming : v.coming ≡ None
+  pub live : v.ended ≡ false
+  pub to_give : v.to_give ≡ None
+  pub taken_in : v.taken_in ≡ None
+
+-- it is between two calls, and has kept a ticket or not
+abbrev pub IsBetween : Bool → View → Type 0
+IsBetween false v = IsFree v
+IsBetween true v = IsKeeping v

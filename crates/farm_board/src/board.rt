@@ -3,11 +3,12 @@ ghost use Rattle.farm_board.specs.Histories.{opening_board, IsAlone, effective_c
 ghost use Rattle.farm_board.specs.Passes.{Calls, SplitsOff, TakesIn, opening_pass, board_seen};
 ghost use Rattle.farm_board.specs.Trusts.{IsAdmitted, AreBacked, AreAdmitted, AdmitsOne, NeverDiffers};
 
-use crate::calls::{call, join, split};
+use crate::calls::{call, call_and_keep, join, split};
 use crate::contents::{Contents, TrustedContents};
 use crate::entries::History;
 use crate::rule::{BoardRule, Slot};
 use crate::trust::{Admission, Trust};
+use crate::turn::let_go;
 use crate::view::View;
 use atomic_table::{Refused, Seat, Table, TableRule};
 use farm_core::Farm;
@@ -52,6 +53,8 @@ pub struct PassOf<S> {
     spare: u16,
     left: u64,
     seats: u16,
+    /// It has kept the ticket of its last call, whose turn goes on.
+    kept: bool,
 }
 
 impl<S> Model for PassOf<S> {
@@ -60,12 +63,12 @@ impl<S> Model for PassOf<S> {
     ghost Value = { PassValue };
 
     ghost use Rattle.std.specs.Prelude.{◌≡◌, []};
-    ghost use Rattle.farm_board.specs.Views.{IsFree};
+    ghost use Rattle.farm_board.specs.Views.{IsBetween};
     ghost use Rattle.farm_board.specs.Passes.{IsSoundView};
 
     ghost view = { λ p. pass_of p.seat.table_id p.seat.me.0 };
 
-    ghost invariant = { λ p. (p.seat.me.1 ≡ []) × IsFree p.seat.me.0 × IsSoundView p.seat.me.0
+    ghost invariant = { λ p. (p.seat.me.1 ≡ []) × IsBetween p.kept p.seat.me.0 × IsSoundView p.seat.me.0
         × ((p.number ≡ p.seat.me.0.number) × (p.spare ≡ p.seat.me.0.spare) × (p.left ≡ p.seat.me.0.left)
         × (p.seats ≡ p.seat.me.0.start.value.seats)) };
 }
@@ -104,6 +107,7 @@ impl<R: Trust + Drop, A: Admission> Board<R, A> {
                     spare: seats - 1,
                     left: 1 << 62,
                     seats,
+                    kept: false,
                 },
             )),
             Err(Refused { slots: _ }) => Err(NoMemory),
@@ -127,9 +131,36 @@ impl<R: Trust + Drop, A: Admission> Board<R, A> {
         ensures call { Calls pass.old pass.new event.now result }
         ensures agrees { AdmitsOne (R.admits self.now.trust) → NeverDiffers event.now result }
     {
-        let reply = call(rt, &self.table.shared, &mut pass.seat, pass.number, event);
+        let shared = &self.table.shared;
+        let reply = call(rt, shared, &mut pass.seat, pass.number, event, pass.kept);
+        pass.kept = false;
         pass.left -= 1;
         reply
+    }
+
+    /// Answers an event as `step` does, and keeps the turn: no other pass is answered, or split off or taken in, before
+    /// this one's next call or `let_go`. A host that posts a result and claims next does both in one turn then.
+    pub fn step_and_keep<W: Wait>(&self, rt: &W, pass: &mut Pass<A>, event: &Event) -> Reply
+        requires board { pass.old.board ≡ self.now.id }
+        requires left { 0 < pass.old.left }
+        requires admitted { IsAdmitted (R.admits self.now.trust) event.now }
+        ensures call { Calls pass.old pass.new event.now result }
+        ensures agrees { AdmitsOne (R.admits self.now.trust) → NeverDiffers event.now result }
+    {
+        let shared = &self.table.shared;
+        let reply = call_and_keep(rt, shared, &mut pass.seat, pass.number, event, pass.kept);
+        pass.kept = true;
+        pass.left -= 1;
+        reply
+    }
+
+    /// Lets the other passes have their turns again, where this one has kept its own.
+    pub fn let_go(&self, pass: &mut Pass<A>)
+        requires board { pass.old.board ≡ self.now.id }
+        ensures { pass.new ≡ pass.old }
+    {
+        let_go(&self.table.shared, &mut pass.seat, pass.kept);
+        pass.kept = false;
     }
 
     /// Splits off a pass with the next number, which may make `share` of the calls that are left.
@@ -139,7 +170,10 @@ impl<R: Trust + Drop, A: Admission> Board<R, A> {
         requires left { share < pass.old.left }
         ensures split { SplitsOff pass.old pass.new result share }
     {
-        let (seat, number) = split(rt, &self.table.shared, &mut pass.seat, pass.number, share);
+        let shared = &self.table.shared;
+        let_go(shared, &mut pass.seat, pass.kept);
+        let (seat, number) = split(rt, shared, &mut pass.seat, pass.number, share);
+        pass.kept = false;
         pass.spare -= 1;
         pass.left -= share + 1;
         PassOf {
@@ -148,6 +182,7 @@ impl<R: Trust + Drop, A: Admission> Board<R, A> {
             spare: 0,
             left: share,
             seats: pass.seats,
+            kept: false,
         }
     }
 
@@ -158,20 +193,18 @@ impl<R: Trust + Drop, A: Admission> Board<R, A> {
         ensures join { TakesIn into.old from into.new }
     {
         let PassOf {
-            seat,
+            mut seat,
             number,
             spare,
             left,
             seats: _,
+            kept,
         } = from;
-        join(
-            rt,
-            &self.table.shared,
-            &mut into.seat,
-            into.number,
-            seat,
-            number,
-        );
+        let shared = &self.table.shared;
+        let_go(shared, &mut seat, kept);
+        let_go(shared, &mut into.seat, into.kept);
+        join(rt, shared, &mut into.seat, into.number, seat, number);
+        into.kept = false;
         into.spare += spare + 1;
         into.left += left;
         into.left -= 1;
@@ -186,8 +219,9 @@ impl<R: Trust + Drop, A: Admission> Board<R, A> {
         ensures backed { AreBacked (R.admits self.trust) result.0 }
         ensures admitted { AreAdmitted (R.admits self.trust) result.1 }
     {
-        let PassOf { seat, .. } = pass;
+        let PassOf { mut seat, kept, .. } = pass;
         let BoardOf { table, .. } = self;
+        let_go(&table.shared, &mut seat, kept);
         let mut closed = table.close_with(seat);
         let held = closed.take(0);
         closed.free();

@@ -1,6 +1,6 @@
 ghost use Rattle.std.specs.Prelude.{◌≡◌, ◌+◌, ◌<◌, ◌≤◌, true, false, []};
 ghost use Rattle.farm_board.specs.Histories.{board_after, IsNext};
-ghost use Rattle.farm_board.specs.Views.{with_coming, split_left, split_right, Suits, IsFree};
+ghost use Rattle.farm_board.specs.Views.{with_coming, split_left, split_right, Suits, IsBetween, IsFree, IsKeeping};
 ghost use Rattle.farm_board.specs.Steps.{EndsTurn};
 ghost use Rattle.farm_board.specs.Passes.{pass_of, call_of, IsSeated, IsGiving, IsSoundView, Calls, SplitsOff, TakesIn};
 ghost use Rattle.farm_board.specs.Trusts.{IsAdmitted, AdmitsOne, NeverDiffers};
@@ -8,7 +8,7 @@ ghost use Rattle.farm_board.specs.declared.entries.Entry.TheVariants as entry;
 
 use crate::rule::{BoardSeat, JoinSeat, MarkEntry, PicksEntry, PicksShare, SharedBoard, SplitSeat};
 use crate::trust::Admission;
-use crate::turn::{end_turn, take_turn};
+use crate::turn::{end_turn, have_turn, keep_ticket, take_turn};
 use farm_kinds::{Event, Reply};
 use std::marker::Brand;
 use std::sync::Wait;
@@ -89,16 +89,17 @@ fn split_off<A: Admission, G: PicksShare>(
     shared.split_seat::<SplitSeat<G>>(seat)
 }
 
-/// Takes a turn, in which the farm answers the event.
+/// Has the farm answer the event, in the turn whose ticket was kept or in a new one, and ends the turn.
 pub(crate) fn call<W: Wait, A: Admission>(
     rt: &W,
     shared: &SharedBoard<A>,
     seat: &mut BoardSeat<A>,
     number: u64,
     event: &Event,
+    kept: bool,
 ) -> Reply
     requires table { IsSeated seat.old.table_id shared.now.table_id }
-    requires free { IsFree seat.old.me.0 × (seat.old.me.1 ≡ []) }
+    requires between { IsBetween kept seat.old.me.0 × (seat.old.me.1 ≡ []) }
     requires number { number ≡ seat.old.me.0.number }
     requires left { 0 < seat.old.me.0.left }
     requires admitted { IsAdmitted A.admits event.now }
@@ -108,10 +109,37 @@ pub(crate) fn call<W: Wait, A: Admission>(
     ensures keeps { IsSoundView seat.new.me.0 }
     ensures agrees { AdmitsOne A.admits → NeverDiffers event.now result }
 {
-    let mut held = take_turn(rt, shared, seat);
+    let mut held = have_turn(rt, shared, seat, kept);
     let reply = held.call(number, event);
     mark_call::<A, Brand>(shared, seat, number, event, &reply);
     end_turn(shared, seat, held);
+    reply
+}
+
+/// The same, but keeps the ticket, so that the turn goes on.
+pub(crate) fn call_and_keep<W: Wait, A: Admission>(
+    rt: &W,
+    shared: &SharedBoard<A>,
+    seat: &mut BoardSeat<A>,
+    number: u64,
+    event: &Event,
+    kept: bool,
+) -> Reply
+    requires table { IsSeated seat.old.table_id shared.now.table_id }
+    requires between { IsBetween kept seat.old.me.0 × (seat.old.me.1 ≡ []) }
+    requires number { number ≡ seat.old.me.0.number }
+    requires left { 0 < seat.old.me.0.left }
+    requires admitted { IsAdmitted A.admits event.now }
+    ensures table { seat.new.table_id ≡ seat.old.table_id }
+    ensures keeping { IsKeeping seat.new.me.0 × (seat.new.me.1 ≡ []) }
+    ensures calls { Calls (pass_of seat.old.table_id seat.old.me.0) (pass_of seat.new.table_id seat.new.me.0) event.now result }
+    ensures keeps { IsSoundView seat.new.me.0 }
+    ensures agrees { AdmitsOne A.admits → NeverDiffers event.now result }
+{
+    let mut held = have_turn(rt, shared, seat, kept);
+    let reply = held.call(number, event);
+    mark_call::<A, Brand>(shared, seat, number, event, &reply);
+    keep_ticket(shared, seat, held);
     reply
 }
 

@@ -80,7 +80,12 @@ impl<'a, W: Wait, C: Cases + Drop, A: Admission> LocalBench<'a, W, C, A> {
         ensures board { result.board ≡ self.entry.board.now.id }
         ensures own { list_all (is_host_entry (λ task kind. is_value_of (C.case_at self.entry.board.now.trust.cases task) kind) self.entry.host) result.mine ≡ true }
     {
-        let LocalBench { pass, .. } = self;
+        let LocalBench {
+            board,
+            mut pass,
+            ..
+        } = self;
+        board.let_go(&mut pass);
         pass
     }
 }
@@ -142,6 +147,7 @@ impl<'a, W: Wait, C: Cases + Drop, A: Admission> Bench for LocalBench<'a, W, C, 
     }
 
     /// Posts a result to the board: one call of it, whose reply is answered. That another kind is kept is no answer.
+    /// The next claim is made in the same turn: until then, or until the bench ends, no other pass is answered.
     fn post(&mut self, done: Done) -> Result<Reply, BenchFault>
         requires value { (c : TestCase) × (pending_case (C.case_at self.old.board.now.trust.cases) self.old.pending ≡ Some (done.task, c)) × (done.kind ≡ case_value c) }
         ensures once { PostsOnce self.old.host done.task done.kind self.old.pass self.new.pass result }
@@ -161,7 +167,7 @@ impl<'a, W: Wait, C: Cases + Drop, A: Admission> Bench for LocalBench<'a, W, C, 
         ensures spare { self.new.pass.spare ≡ self.old.pass.spare }
     {
         let task = done.task();
-        let reply = self.board.step(
+        let reply = self.board.step_and_keep(
             self.rt,
             &mut self.pass,
             &Event::Result {

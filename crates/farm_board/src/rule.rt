@@ -3,7 +3,7 @@ ghost use Rattle.farm_board.specs.declared.entries.Entry.{Entry};
 ghost use Rattle.farm_board.specs.declared.entries.Entry.TheVariants as entry;
 ghost use Rattle.farm_board.specs.Views.{opening_view, split_left, split_right, joined_view, ended_view};
 ghost use Rattle.farm_board.specs.Rules.{IsConsistent};
-ghost use Rattle.farm_board.specs.Steps.{DrawsTicket, LooksForTurn, MarksEntry, FinishesTurn};
+ghost use Rattle.farm_board.specs.Steps.{DrawsTicket, LooksForTurn, GoesOn, MarksEntry, FinishesTurn, KeepsTicket, GivesTicketUp};
 
 use crate::contents::{Contents, TrustedContents};
 use crate::trust::Admission;
@@ -46,6 +46,13 @@ impl<A: Admission> Play<Slot<A>, View> for LookForTurn {
     ghost then = { LooksForTurn (λ held. held.contents) };
 }
 
+/// The ticket that was kept serves for one more call, and the slot is taken.
+pub struct GoOn;
+
+impl<A: Admission> Play<Slot<A>, View> for GoOn {
+    ghost then = { GoesOn (λ held. held.contents) };
+}
+
 /// The entry that is to come. The function that marks it picks it.
 pub trait PicksEntry {
     ghost entry: { Entry };
@@ -69,6 +76,20 @@ pub struct FinishTurn;
 
 impl<A: Admission> Play<Slot<A>, View> for FinishTurn {
     ghost then = { FinishesTurn };
+}
+
+/// The entry to come joins the history, and the ticket is kept: its turn goes on.
+pub struct KeepTicket;
+
+impl<A: Admission> Play<Slot<A>, View> for KeepTicket {
+    ghost then = { KeepsTicket };
+}
+
+/// The ticket that was kept is given up, by adding to word 1.
+pub struct GiveTicketUp;
+
+impl<A: Admission> Play<Slot<A>, View> for GiveTicketUp {
+    ghost then = { GivesTicketUp };
 }
 
 /// How many calls a new pass is given. The function that splits it off picks it.

@@ -19,6 +19,8 @@ pub struct View {
     pub ticket: Option<u64>,
     /// It is the ticket's turn.
     pub turn: bool,
+    /// An entry joined the history in the ticket's turn, which goes on.
+    pub kept: bool,
     /// The entry that is about to join the history.
     pub coming: Option<Entry>,
     /// The number that it has to give to a new pass.

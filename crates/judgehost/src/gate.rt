@@ -9,7 +9,8 @@ pub enum Point {
     AfterClaim,
     /// The task was run, and its result is not posted yet.
     BeforePost,
-    /// The result was posted.
+    /// The result was posted. A bench may keep all others from the farm until this host's next claim, so a gate must not
+    /// wait here for another host.
     AfterPost,
 }
 

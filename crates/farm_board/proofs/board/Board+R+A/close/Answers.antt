@@ -12,19 +12,19 @@ use Rattle.farm_board.proofs.board.Board+R+A.close.Goals as goal
 
 pub unreachable-requires : goal.unreachable-requires
 unreachable-requires g c =
-    let known = c.pass.view_is in
-    let i = c.pass.invariant in
+    let known = c.let_go.ensures.same ∙ c.pass.view_is in
+    let i = c.let_go.ensures in
     let alone = subst (λ (p : PassValue). IsAlone p.number (board_seen p)) (sym known) c.requires.alone in
-    let t = closes _ _ _ _ _ c.pass.inside.seat.me.0 i.1.resting i.2.own alone (third c.close_with-closed.ensures.values) in
+    let t = closes _ _ _ _ _ c.let_go.new.seat.me.0 i.free.0.resting i.keeps.own alone (third c.close_with-closed.ensures.values) in
     let found : Some t.0 ≡ c.take-held.result = some-injective _ _ (sym t.1 ∙ c.take-held.ensures.value) in
     let none_is = c.in-None.is in absurd (cc (found, none_is))
 
 pub returns-clause-farm : goal.returns-clause-farm
 returns-clause-farm g c =
-    let known = c.pass.view_is in
-    let i = c.pass.invariant in
+    let known = c.let_go.ensures.same ∙ c.pass.view_is in
+    let i = c.let_go.ensures in
     let alone = subst (λ (p : PassValue). IsAlone p.number (board_seen p)) (sym known) c.requires.alone in
-    let t = closes _ _ _ _ _ c.pass.inside.seat.me.0 i.1.resting i.2.own alone (third c.close_with-closed.ensures.values) in
+    let t = closes _ _ _ _ _ c.let_go.new.seat.me.0 i.free.0.resting i.keeps.own alone (third c.close_with-closed.ensures.values) in
     let found : Some t.0 ≡ c.take-held.result = some-injective _ _ (sym t.1 ∙ c.take-held.ensures.value) in
     let some_is = c.in-Some.is in
     let same : t.0 ≡ c.in-Some.held = cc (found, some_is) in
@@ -32,11 +32,11 @@ returns-clause-farm g c =
 
 pub returns-clause-journal : goal.returns-clause-journal
 returns-clause-journal g c =
-    let known = c.pass.view_is in
-    let i = c.pass.invariant in
+    let known = c.let_go.ensures.same ∙ c.pass.view_is in
+    let i = c.let_go.ensures in
     let alone = subst (λ (p : PassValue). IsAlone p.number (board_seen p)) (sym known) c.requires.alone in
-    let v = c.pass.inside.seat.me.0 in
-    let t = closes _ _ _ _ _ v i.1.resting i.2.own alone (third c.close_with-closed.ensures.values) in
+    let v = c.let_go.new.seat.me.0 in
+    let t = closes _ _ _ _ _ v i.free.0.resting i.keeps.own alone (third c.close_with-closed.ensures.values) in
     let found : Some t.0 ≡ c.take-held.result = some-injective _ _ (sym t.1 ∙ c.take-held.ensures.value) in
     let some_is = c.in-Some.is in
     let same : t.0 ≡ c.in-Some.held = cc (found, some_is) in

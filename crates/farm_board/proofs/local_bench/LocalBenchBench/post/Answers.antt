@@ -21,8 +21,8 @@ admitted case_at pending done task given kind v t k =
     subst (λ (q : Task). is_value_of (case_at q) kind ≡ true) t
     (subst (λ (q : Kind). is_value_of (case_at done) q ≡ true) k (value_is_admitted case_at done v.0 given (pending_is case_at pending done v.0 v.1) v.2))
 
-pub step-reply-requires-clause-admitted : goal.step-reply-requires-clause-admitted
-step-reply-requires-clause-admitted g c task kind is =
+pub step_and_keep-reply-requires-clause-admitted : goal.step_and_keep-reply-requires-clause-admitted
+step_and_keep-reply-requires-clause-admitted g c task kind is =
     let self = c.args.self.now in
     let given : ◌≡◌ {A = Task × Kind} (task_of c.task-task.result.judging c.task-task.result.test, c.kind.result) (task, kind) = cc is in
     admitted (g.C.Cases.case_at self.board.now.trust.cases) self.pending c.args.done.task task c.args.done.kind kind c.requires.value
@@ -33,13 +33,13 @@ invariant_of-self-clause-own g c =
     let self = c.args.self.now in
     let number = self.pass.number in
     let task = c.task-task.result in
-    own_more (λ task kind. is_value_of (g.C.Cases.case_at self.board.now.trust.cases task) kind) self.host self.pass c.step-reply.new.pass
-    (entry.Call (call_of number (event.Result self.host task.judging task.test c.kind.result) c.step-reply.result)) c.step-reply.ensures.call.grows.mine self.own
-    (result_is_own (λ task kind. is_value_of (g.C.Cases.case_at self.board.now.trust.cases task) kind) self.host number task.judging task.test c.kind.result c.step-reply.result
+    own_more (λ task kind. is_value_of (g.C.Cases.case_at self.board.now.trust.cases task) kind) self.host self.pass c.step_and_keep-reply.new.pass
+    (entry.Call (call_of number (event.Result self.host task.judging task.test c.kind.result) c.step_and_keep-reply.result)) c.step_and_keep-reply.ensures.call.grows.mine self.own
+    (result_is_own (λ task kind. is_value_of (g.C.Cases.case_at self.board.now.trust.cases task) kind) self.host number task.judging task.test c.kind.result c.step_and_keep-reply.result
     (admitted (g.C.Cases.case_at self.board.now.trust.cases) self.pending c.args.done.task task c.args.done.kind c.kind.result c.requires.value (sym c.task-task.ensures) (sym c.kind.ensures)))
 
 pub returns-clause-agrees : goal.returns-clause-agrees
 returns-clause-agrees g c kept given is =
     let self = c.args.self.now in
-    c.step-reply.ensures.agrees (admits_one_value (g.C.Cases.case_at self.board.now.trust.cases)) (task_of c.task-task.result.judging c.task-task.result.test) c.kind.result kept given refl
-    (posted_is c.step-reply.result (replies.Differs kept given) (sym c.answer_to_result-answered.ensures ∙ is))
+    c.step_and_keep-reply.ensures.agrees (admits_one_value (g.C.Cases.case_at self.board.now.trust.cases)) (task_of c.task-task.result.judging c.task-task.result.test) c.kind.result kept given refl
+    (posted_is c.step_and_keep-reply.result (replies.Differs kept given) (sym c.answer_to_result-answered.ensures ∙ is))
