@@ -279,7 +279,13 @@ keeping_after_call {v} {y} {call} z live = subst (λ (u : View). IsKeeping u) (s
 
 pub calls_after_kept : {board board' : BoardId} → board' ≡ board → {v y : View} {n : ℕ} {event : Event} {reply : Reply} → KeepsTurn v y (entry.Call (call_of n event reply)) → n ≡ v.number → 0 < v.left → Calls (pass_of board v) (pass_of board' y) event reply
 calls_after_kept {board} {board'} same_board {v} {y} {n} {event} {reply} z same some_left =
-    subst (λ (u : View). Calls (pass_of board v) (pass_of board' u) event reply) (sym z.view) (calls_after_turn same_board (as_if_ended z) same some_left)
+    let q = calls_after_turn same_board (as_if_ended z) same some_left in
+    let g = q.grows in
+    subst (λ (u : View). Calls (pass_of board v) (pass_of board' u) event reply) (sym z.view) record {
+      grows = record { between = g.between; seen = g.seen; legal = g.legal; mine = g.mine; own = g.own; board = g.board; number = g.number; start = g.start };
+      left = q.left;
+      spare = q.spare;
+    }
 
 pub sound_after_kept : {v y : View} {e : Entry} → KeepsTurn v y e → pass_number e ≡ v.number → Suits e v → IsSoundView y
 sound_after_kept {v} {y} {e} z own suits =

@@ -1,5 +1,5 @@
 -- Passes of a board, and what each call of the board does to them.
-use Rattle.std.specs.Prelude.{◌≡◌, ◌≢◌, ℕ, ◌+◌, ◌-◌, ◌^◌, ◌<◌, ◌≤◌, Some, None, List, [], ◌∷◌, ◌++◌, length}
+use Rattle.std.specs.Prelude.{◌≡◌, ◌≢◌, ℕ, ◌+◌, ◌-◌, ◌^◌, ◌<◌, ◌≤◌, Bool, false, Some, None, List, [], ◌∷◌, ◌++◌, length}
 use mathlib.Core.List.{IsPrefix}
 use Rattle.atomic_table.specs.Seated.{TableId}
 use Rattle.farm_kinds.specs.declared.events.Event.{Event}
@@ -39,6 +39,8 @@ pub record PassValue : Type 0 where
   pub spare : ℕ
   -- how many calls it may still make
   pub left : ℕ
+  -- it has kept its turn: no other pass is answered
+  pub kept : Bool
 
 -- the opening pass has seen nothing
 abbrev pub opening_pass : BoardId → BoardState → PassValue
@@ -50,7 +52,12 @@ opening_pass board start = record {
   mine = [];
   spare = start.seats - 1;
   left = 2 ^ 62;
+  kept = false;
 }
+
+-- the pass without a turn of its own
+abbrev pub at_rest : PassValue → PassValue
+at_rest pass = record pass { kept = false }
 
 -- the board after what the pass has seen
 abbrev pub board_seen : PassValue → BoardState
@@ -129,6 +136,7 @@ pass_of board v = record {
   mine = v.mine;
   spare = v.spare;
   left = v.left;
+  kept = v.kept;
 }
 
 -- what is kept of a view between the calls of its pass

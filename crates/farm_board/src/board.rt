@@ -1,6 +1,6 @@
-ghost use Rattle.std.specs.Prelude.{◌≡◌, ◌≢◌, ◌+◌, ◌<◌, ◌≤◌, IfOk, IsTrue};
+ghost use Rattle.std.specs.Prelude.{◌≡◌, ◌≢◌, ◌+◌, ◌<◌, ◌≤◌, IfOk, IsTrue, true, false};
 ghost use Rattle.farm_board.specs.Histories.{opening_board, IsAlone, effective_calls, journal_with_calls};
-ghost use Rattle.farm_board.specs.Passes.{Calls, SplitsOff, TakesIn, opening_pass, board_seen};
+ghost use Rattle.farm_board.specs.Passes.{Calls, SplitsOff, TakesIn, at_rest, opening_pass, board_seen};
 ghost use Rattle.farm_board.specs.Trusts.{IsAdmitted, AreBacked, AreAdmitted, AdmitsOne, NeverDiffers};
 
 use crate::calls::{call, call_and_keep, join, split};
@@ -129,6 +129,7 @@ impl<R: Trust + Drop, A: Admission> Board<R, A> {
         requires left { 0 < pass.old.left }
         requires admitted { IsAdmitted (R.admits self.now.trust) event.now }
         ensures call { Calls pass.old pass.new event.now result }
+        ensures turn { pass.new.kept ≡ false }
         ensures agrees { AdmitsOne (R.admits self.now.trust) → NeverDiffers event.now result }
     {
         let shared = &self.table.shared;
@@ -145,6 +146,7 @@ impl<R: Trust + Drop, A: Admission> Board<R, A> {
         requires left { 0 < pass.old.left }
         requires admitted { IsAdmitted (R.admits self.now.trust) event.now }
         ensures call { Calls pass.old pass.new event.now result }
+        ensures turn { pass.new.kept ≡ true }
         ensures agrees { AdmitsOne (R.admits self.now.trust) → NeverDiffers event.now result }
     {
         let shared = &self.table.shared;
@@ -157,7 +159,7 @@ impl<R: Trust + Drop, A: Admission> Board<R, A> {
     /// Lets the other passes have their turns again, where this one has kept its own.
     pub fn let_go(&self, pass: &mut Pass<A>)
         requires board { pass.old.board ≡ self.now.id }
-        ensures { pass.new ≡ pass.old }
+        ensures { pass.new ≡ at_rest pass.old }
     {
         let_go(&self.table.shared, &mut pass.seat, pass.kept);
         pass.kept = false;
@@ -169,6 +171,7 @@ impl<R: Trust + Drop, A: Admission> Board<R, A> {
         requires spare { 0 < pass.old.spare }
         requires left { share < pass.old.left }
         ensures split { SplitsOff pass.old pass.new result share }
+        ensures turn { (pass.new.kept ≡ false) × (result.kept ≡ false) }
     {
         let shared = &self.table.shared;
         let_go(shared, &mut pass.seat, pass.kept);
@@ -191,6 +194,7 @@ impl<R: Trust + Drop, A: Admission> Board<R, A> {
         requires board { (into.old.board ≡ self.now.id) × (from.board ≡ self.now.id) }
         requires left { 0 < into.old.left + from.left }
         ensures join { TakesIn into.old from into.new }
+        ensures turn { into.new.kept ≡ false }
     {
         let PassOf {
             mut seat,

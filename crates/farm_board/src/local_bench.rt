@@ -1,4 +1,4 @@
-ghost use Rattle.std.specs.Prelude.{◌≡◌, ◌≢◌, ◌≤◌, ◌<◌, ◌+◌, ◌^◌, ℕ, List, [], None, Some, Ok, Err, true, unwrap_or};
+ghost use Rattle.std.specs.Prelude.{◌≡◌, ◌≢◌, ◌≤◌, ◌<◌, ◌+◌, ◌^◌, ℕ, List, [], None, Some, Ok, Err, true, false, unwrap_or};
 ghost use Rattle.std.specs.Option.{option_map};
 ghost use Rattle.std.specs.List.{list_all};
 ghost use Rattle.farm_kinds.specs.declared.kinds.Kind.{Kind as KindValue};
@@ -7,6 +7,7 @@ ghost use Rattle.farm_io.specs.Streams.{Rose};
 ghost use Rattle.case_run.specs.Cases.{TestCase};
 ghost use Rattle.case_run.specs.Values.{case_value};
 ghost use Rattle.judgehost.specs.Benches.{IsPending, heard_at_claim, heard_at_post, tasks_in};
+ghost use Rattle.farm_board.specs.Passes.{at_rest};
 ghost use Rattle.farm_board.specs.Benches.{is_host_entry, pending_case, claimed_by, posted_by, link_faults, ClaimsOnce, PostsOnce};
 ghost use Rattle.farm_board.specs.Trusts.{is_value_of};
 
@@ -76,7 +77,7 @@ impl<'a, W: Wait, C: Cases + Drop, A: Admission> LocalBench<'a, W, C, A> {
 
     /// The pass, whose entries are claims of the host, and results of it that are the values of their cases.
     pub fn end(self) -> Pass<A>
-        ensures pass { result ≡ self.entry.pass }
+        ensures pass { result ≡ at_rest self.entry.pass }
         ensures board { result.board ≡ self.entry.board.now.id }
         ensures own { list_all (is_host_entry (λ task kind. is_value_of (C.case_at self.entry.board.now.trust.cases task) kind) self.entry.host) result.mine ≡ true }
     {
@@ -113,6 +114,7 @@ impl<'a, W: Wait, C: Cases + Drop, A: Admission> Bench for LocalBench<'a, W, C, 
     fn claim(&mut self) -> Claimed
         requires room { self.old.claims < 2 ^ 32 }
         ensures once { ClaimsOnce (C.case_at self.old.board.now.trust.cases) self.old.host self.old.pass self.new.pass result }
+        ensures turn { self.new.pass.kept ≡ false }
         ensures claims { self.new.claims ≡ self.old.claims + 1 }
         ensures tasks { self.new.tasks ≡ self.old.tasks + tasks_in result }
         ensures posts { self.new.posts ≡ self.old.posts }
@@ -151,6 +153,7 @@ impl<'a, W: Wait, C: Cases + Drop, A: Admission> Bench for LocalBench<'a, W, C, 
     fn post(&mut self, done: Done) -> Result<Reply, BenchFault>
         requires value { (c : TestCase) × (pending_case (C.case_at self.old.board.now.trust.cases) self.old.pending ≡ Some (done.task, c)) × (done.kind ≡ case_value c) }
         ensures once { PostsOnce self.old.host done.task done.kind self.old.pass self.new.pass result }
+        ensures turn { self.new.pass.kept ≡ true }
         ensures agrees { (kept given : KindValue) → result ≢ Ok (replies.Differs kept given) }
         ensures claims { self.new.claims ≡ self.old.claims }
         ensures tasks { self.new.tasks ≡ self.old.tasks }

@@ -2,7 +2,7 @@ ghost use Rattle.std.specs.Prelude.{◌≡◌, ◌<◌, true, false, [], ◌∷�
 ghost use Rattle.farm_board.specs.Histories.{board_after};
 ghost use Rattle.farm_board.specs.Views.{with_entry, with_kept_ticket, without_ticket, IsBetween, IsFree, IsKeeping, IsResting};
 ghost use Rattle.farm_board.specs.Steps.{GetsTurn, InTurn};
-ghost use Rattle.farm_board.specs.Passes.{pass_of, IsSeated, IsSoundView};
+ghost use Rattle.farm_board.specs.Passes.{at_rest, pass_of, IsSeated, IsSoundView};
 ghost use Rattle.farm_board.specs.declared.entries.Call.{Call};
 ghost use Rattle.farm_board.specs.declared.entries.Entry.{Entry};
 ghost use Rattle.farm_board.specs.declared.entries.Entry.TheVariants as entry;
@@ -170,7 +170,7 @@ pub(crate) fn let_go<A: Admission>(shared: &SharedBoard<A>, seat: &mut BoardSeat
     requires sound { IsSoundView seat.old.me.0 }
     ensures table { seat.new.table_id ≡ seat.old.table_id }
     ensures free { IsFree seat.new.me.0 × (seat.new.me.1 ≡ []) }
-    ensures same { pass_of seat.new.table_id seat.new.me.0 ≡ pass_of seat.old.table_id seat.old.me.0 }
+    ensures same { pass_of seat.new.table_id seat.new.me.0 ≡ at_rest (pass_of seat.old.table_id seat.old.me.0) }
     ensures keeps { IsSoundView seat.new.me.0 }
 {
     if kept {

@@ -4,7 +4,7 @@ use Rattle.farm_board.specs.BoardState.{BoardState}
 use Rattle.farm_kinds.specs.declared.kinds.Kind.{Kind}
 use Rattle.farm_kinds.specs.declared.outcomes.Task.{Task}
 use Rattle.farm_board.specs.Histories.{effective_calls, journal_with_calls, IsAlone}
-use Rattle.farm_board.specs.Passes.{BoardValue, PassValue, board_seen}
+use Rattle.farm_board.specs.Passes.{BoardValue, PassValue, at_rest, board_seen}
 use Rattle.farm_board.specs.Trusts.{AreBacked, AreAdmitted}
 use Rattle.farm_board.proofs.Histories.{journal_after}
 use Rattle.farm_board.proofs.Ends.{closes, third}
@@ -12,7 +12,7 @@ use Rattle.farm_board.proofs.board.Board+R+A.close.Goals as goal
 
 pub unreachable-requires : goal.unreachable-requires
 unreachable-requires g c =
-    let known = c.let_go.ensures.same ∙ c.pass.view_is in
+    let known = c.let_go.ensures.same ∙ ap (λ (p : PassValue). at_rest p) c.pass.view_is in
     let i = c.let_go.ensures in
     let alone = subst (λ (p : PassValue). IsAlone p.number (board_seen p)) (sym known) c.requires.alone in
     let t = closes _ _ _ _ _ c.let_go.new.seat.me.0 i.free.0.resting i.keeps.own alone (third c.close_with-closed.ensures.values) in
@@ -21,7 +21,7 @@ unreachable-requires g c =
 
 pub returns-clause-farm : goal.returns-clause-farm
 returns-clause-farm g c =
-    let known = c.let_go.ensures.same ∙ c.pass.view_is in
+    let known = c.let_go.ensures.same ∙ ap (λ (p : PassValue). at_rest p) c.pass.view_is in
     let i = c.let_go.ensures in
     let alone = subst (λ (p : PassValue). IsAlone p.number (board_seen p)) (sym known) c.requires.alone in
     let t = closes _ _ _ _ _ c.let_go.new.seat.me.0 i.free.0.resting i.keeps.own alone (third c.close_with-closed.ensures.values) in
@@ -32,7 +32,7 @@ returns-clause-farm g c =
 
 pub returns-clause-journal : goal.returns-clause-journal
 returns-clause-journal g c =
-    let known = c.let_go.ensures.same ∙ c.pass.view_is in
+    let known = c.let_go.ensures.same ∙ ap (λ (p : PassValue). at_rest p) c.pass.view_is in
     let i = c.let_go.ensures in
     let alone = subst (λ (p : PassValue). IsAlone p.number (board_seen p)) (sym known) c.requires.alone in
     let v = c.let_go.new.seat.me.0 in
