@@ -3,9 +3,9 @@
 
     bench/gate/costs.py
 
-Every run of `rt ci` proves everything from nothing. Printed are, for each crate, the processor time of its own proofs, of its tests and of its
-must-fail edits, and their sums, and how long the run took. The times are read from /proc twice a second, so that of a
-process that lives for less than half a second is missing.
+It is `rt ci --anew`, which takes nothing that earlier runs on this machine have proved. Printed are, for each crate, the
+processor time of its own proofs, of its tests and of its must-fail edits, and their sums, and how long the run took. The
+times are read from /proc twice a second, so that of a process that lives for less than half a second is missing.
 """
 
 import os
@@ -67,7 +67,7 @@ def watch(child):
 
 def main():
     start = time.time()
-    child = subprocess.Popen(["rt", "ci"], cwd=TOP)
+    child = subprocess.Popen(["rt", "ci", "--anew"], cwd=TOP)
     costs = watch(child)
     crates = sorted({crate for crate, _ in costs}, key=lambda crate: -sum(costs[crate, part] for part in PARTS))
     print(f"\n{'minutes of a processor':24}" + "".join(f"{part:>9}" for part in PARTS) + f"{'all':>9}")

@@ -8,9 +8,10 @@ without an end, whose runs are as long as the limit lets them be. Each is run th
 The C interpreters are those of `bench/machine` that decode pages whole. They run the same tests, of the raw form of each
 submission, and stop a submission where `farm` does; they check no output and run no validators. Printed are submissions
 and tests a second, the ratio to the faster interpreter (over 1: `farm judge` is faster), the most memory beside the
-contest's bytes, also without the pages of files (the program's and those of libraries, which processes share), and how long reading and the table take at most: that is the whole time of the same contest where each
-run is given one instruction. Last comes the most memory with a problem of 50 MiB more. Rates are by the time of the
-processor, whose worst round is printed too.
+contest's bytes, also with a page that n processes have in common counted as an n-th (the PSS of Linux: most of libc's
+pages are other processes' as well), and how long reading and the table take at most: that is the whole time of the same
+contest where each run is given one instruction. Last comes the most memory with a problem of 50 MiB more. Rates are by
+the time of the processor, whose worst round is printed too.
 """
 
 import os
@@ -52,13 +53,16 @@ def timed(command, stdin=subprocess.DEVNULL):
     return wrote, seconds, after.ru_utime + after.ru_stime - before.ru_utime - before.ru_stime, memory
 
 
-def shared_pages(command):
-    """The most bytes of files, the program's own and those of libraries, that lay in a command's memory: looked at every 10 ms."""
+def most_proportional(command):
+    """The most bytes that a command took, looked at every 10 ms, where a page that n processes have counts as an n-th."""
     most = 0
     with subprocess.Popen(command, stdin=subprocess.DEVNULL, stdout=subprocess.DEVNULL) as process:
         while process.poll() is None:
-            with open(f"/proc/{process.pid}/status") as file:
-                most = max([most, *(1024 * int(line.split()[1]) for line in file if line.startswith("RssFile:"))])
+            try:
+                with open(f"/proc/{process.pid}/smaps_rollup") as file:
+                    most = max([most, *(1024 * int(line.split()[1]) for line in file if line.startswith("Pss:"))])
+            except ProcessLookupError:
+                pass  # it has ended, and is not waited for yet
             time.sleep(0.01)
     return most
 
@@ -142,10 +146,9 @@ def measure(program, name, folder):
 
 
 def print_memory(program, memory, folder):
-    contest, machine, shared = bytes_of(folder), 4096 * PAGES, shared_pages([program, "judge", folder, "--hosts", "0"])
-    print(f"  most memory {memory / 2**20:.2f} MiB, of which {shared / 2**20:.2f} MiB are pages of the program's file and of libraries; the contest's "
-          f"bytes {contest / 2**20:.2f} MiB and one machine's pages {machine / 2**20:.2f} MiB: {memory / (contest + machine):.3f} of their sum, "
-          f"{(memory - shared) / (contest + machine):.3f} without the pages of files")
+    contest, machine, part = bytes_of(folder), 4096 * PAGES, most_proportional([program, "judge", folder, "--hosts", "0"])
+    print(f"  most memory {memory / 2**20:.2f} MiB, {part / 2**20:.2f} MiB with common pages in parts; the contest's bytes {contest / 2**20:.2f} MiB "
+          f"and one machine's pages {machine / 2**20:.2f} MiB: {memory / (contest + machine):.3f} and {part / (contest + machine):.3f} of their sum")
 
 
 def main():

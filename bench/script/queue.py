@@ -7,7 +7,7 @@ PROGRAM is the built program, `crates/farm/out/farm` of this repository if none 
 each wait (or as many as are said), and hosts claim 50,000 of them and send a result for each, one pair after the other
 (or as many pairs as are said). SQLite, by Python's `sqlite3` in memory, does the same in two statements a pair over a
 table with an index on what is open: an update that claims the least open row, and one that enters the result. The time
-of the farm is that of the whole script less that of the same script without the pairs.
+of the farm is that of the whole script less that of the same script without the pairs, the best of nine each, in turn.
 """
 
 import sqlite3
@@ -19,21 +19,20 @@ sys.dont_write_bytecode = True
 from run import path, run, write  # noqa: E402
 from place import program_and_numbers  # noqa: E402
 
-RUNS = 3
+RUNS = 9
 
 
-def least(program, source):
-    """The least seconds by the clock of some runs, and the status."""
-    results = [run(program, source, path("out", ".out")) for _ in range(RUNS)]
-    return min(result[0] for result in results), max(result[2] for result in results)
+def least(program, sources):
+    """For each source the least seconds by the clock of some runs, in turn with the others, and the status."""
+    results = [[run(program, source, path("out", ".out")) for source in sources] for _ in range(RUNS)]
+    return [(min(result[0] for result in column), max(result[2] for result in column)) for column in zip(*results)]
 
 
 def farm_seconds(program, submissions, pairs):
     """What the pairs take, and whether every claim was handed its task and every result counted."""
     lines = ["problem p 1", "host h"] + ["submit p"] * submissions
     both = [line for n in range(1, pairs + 1) for line in ("claim h", f"result h {n} 1 correct")]
-    without, first = least(program, write("queue", lines))
-    whole, second = least(program, write("queue pairs", lines + both))
+    (without, first), (whole, second) = least(program, [write("queue", lines), write("queue pairs", lines + both)])
     with open(path("out", ".out")) as out:
         replies = out.read().splitlines()[len(lines):]
     wanted = [reply for n in range(1, pairs + 1) for reply in (f"task {n} 1 until 60", "counted")]
