@@ -3,12 +3,13 @@
 
     bench/judge/hosts.py [PROGRAM] [LONG [SHORT]]
 
-Two contests are judged, each by every number of hosts in turn, three times, and the best counts: LONG submissions (48 if
-none are said) that run for 50 million instructions, and SHORT submissions (200) that read a line and write it, in 100
-tests each. Every table must be the one without hosts. Printed are tests a second by the clock, the ratio to no hosts, and for the short
-runs how much longer a test takes with one host than with none, a half of which is what a turn on the board costs besides
-the farm's own work. Then as many submissions as there may be hosts, each of which takes 64 MiB, are judged with 0, 1, 4
-and 16 hosts: the most memory, in pages of machines (64 MiB each).
+Three contests are judged, each by every number of hosts in turn, five times, and the best counts: LONG submissions (48 if
+none are said) that run for 50 million instructions; SHORT submissions (200) of a program of the example contest, which reads a
+few numbers and writes two, in 100 tests each; and as many of the shortest program that is right at all, ten instructions that
+read a line and write it. Every table must be the one without hosts. Printed are tests a second by the clock, the ratio to no
+hosts, and for the shortest runs how much longer a test takes with one host than with none, which is what a turn on the board
+costs besides the farm's own work. Then as many submissions as there may be hosts, each of which takes 64 MiB, are judged with
+0, 1, 4 and 16 hosts: the most memory, in pages of machines (64 MiB each).
 """
 
 import os
@@ -26,15 +27,16 @@ from judge import write  # noqa: E402
 from place import program_and_numbers  # noqa: E402
 
 OUT = os.path.join(TOP, "bench", "out", "judge")
-ROUNDS = 3
+EXAMPLE = os.path.join(TOP, "examples", "contest")
+ROUNDS = 5
 # Takes a page after the other, 16,384 of them, which is 64 MiB, and then loops.
 WIDE = model.program("lui x11,0x100; lui x15,1; lui x16,0x4100; sb x0,0(x11); add x11,x11,x15; bltu x11,x16,-8; jal x0,0")
 
 
-def contest(name, image, count, seconds, memory=1, tests=1):
+def contest(name, image, count, seconds, memory=1, tests=1, texts=("7\n", "7\n")):
     folder = os.path.join(OUT, name)
     shutil.rmtree(folder, ignore_errors=True)
-    data = {f"problems/one/data/secret/{test}.{end}": "7\n" for test in range(1, tests + 1) for end in ("in", "ans")}
+    data = {f"problems/one/data/secret/{test}.{end}": text for test in range(1, tests + 1) for end, text in zip(("in", "ans"), texts)}
     write(folder, data | {
         "farm.json": '{"instructions_per_second": 100000000}',
         "problems/one/problem.yaml": f"name: One\nlimits:\n  memory: {memory}\n",
@@ -43,6 +45,11 @@ def contest(name, image, count, seconds, memory=1, tests=1):
         "submissions.txt": "".join(f"{number} team one image.rv32\n" for number in range(1, count + 1)),
     })
     return folder
+
+
+def read(path):
+    with open(path, "rb") as file:
+        return file.read()
 
 
 def judged(program, folder, hosts):
@@ -83,8 +90,10 @@ def main():
         return 0
     os.makedirs(OUT, exist_ok=True)
     compare(program, "long runs", contest("long", model.LOOP, long, 0.5), long)
-    best = compare(program, "short runs", contest("short", model.ECHO, short, 1, tests=100), 100 * short)
-    print(f"  with one host a test takes {(best[1] - best[0]) / (100 * short) * 1e6:.2f} microseconds more than with none: two turns on the board")
+    image, *texts = (read(os.path.join(EXAMPLE, part)) for part in ["submissions/pair_right.rv32", "problems/pair/data/sample/1.in", "problems/pair/data/sample/1.ans"])
+    compare(program, "short runs", contest("short", image, short, 1, tests=100, texts=texts), 100 * short)
+    best = compare(program, "the shortest runs", contest("shortest", model.ECHO, short, 1, tests=100), 100 * short)
+    print(f"  with one host a test takes {(best[1] - best[0]) / (100 * short) * 1e6:.2f} microseconds more than with none: a turn on the board")
     subprocess.run(["cc", "-O2", "-o", os.path.join(OUT, "peak"), os.path.join(TOP, "bench", "machine", "peak.c")], check=True)
     folder = contest("wide", WIDE, 16, 0.05, memory=66)
     for hosts in [0, 1, 4, 16]:
