@@ -1,16 +1,15 @@
-ghost use Rattle.std.specs.Prelude.{true};
-
 use crate::farm_cli_tests::{end_of, words};
+use crate::gates::{DeathGate, Meeting, MeetingGate, RecordingGate, SeededGate};
 use farm_cli::Exit;
 use farm_io::{ReliableSink, ReliableSource, Sink};
 use farm_kinds::Text;
 use farm_tree::{MemoryTree, ReliableTree, Tree, TreeFile, TreeFiles};
-use judgehost::{AlwaysOn, Gate, Go, Point};
+use judgehost::{AlwaysOn, Gate, Point};
 use std::alloc::{AllocError, Global};
+use std::str;
 use std::sync::{Mutex, Wait};
 use std::test::Fail;
 use std::thread::Threads;
-use std::{str, thread};
 
 /// How many bytes a sink of these tests holds.
 const ROOM: usize = 8192;
@@ -163,129 +162,6 @@ fn put(alloc: Global, files: &mut TreeFiles, path: &str, content: &str) -> Resul
         files.push(TreeFile::new(String::from_str(alloc, path)?, bytes))?;
     }
     Ok(())
-}
-
-/// A point of a turn of a host.
-type Moment = (u32, Point, u64);
-
-/// Lets a host die at one moment, or none.
-#[derive(Clone, Copy)]
-struct DeathGate {
-    death: Option<Moment>,
-}
-
-impl Gate for DeathGate {
-    ghost may_answer = { λ gate host point turn go. true };
-
-    fn pass(&self, host: u32, point: Point, turn: u64) -> Go {
-        if self.death == Some((host, point, turn)) {
-            Go::Die
-        } else {
-            Go::On
-        }
-    }
-}
-
-/// Lets every host go on, and writes down when it is asked.
-#[derive(Drop)]
-struct RecordingGate<'a, R: Wait> {
-    rt: &'a R,
-    moments: Mutex<Vec<Moment>>,
-}
-
-impl<'a, R: Wait> Gate for RecordingGate<'a, R> {
-    ghost may_answer = { λ gate host point turn go. true };
-
-    fn pass(&self, host: u32, point: Point, turn: u64) -> Go {
-        // A test whose list has no room fails, since a moment is missing.
-        let _room = self.moments.lock(self.rt).push((host, point, turn));
-        Go::On
-    }
-}
-
-/// How often a gate looks whether another host has come.
-const LOOKS: u64 = 10_000_000;
-
-/// What is known of two hosts that wait for each other.
-#[derive(Drop)]
-struct Meeting {
-    one_came: bool,
-    two_came: bool,
-    gave_up: bool,
-}
-
-/// Holds hosts 1 and 2, each before its first post, until the other has claimed a task.
-#[derive(Drop)]
-struct MeetingGate<'a, R: Wait> {
-    rt: &'a R,
-    meeting: Mutex<Meeting>,
-}
-
-impl<'a, R: Wait> MeetingGate<'a, R> {
-    fn come(&self, host: u32) {
-        let mut meeting = self.meeting.lock(self.rt);
-        meeting.one_came |= host == 1;
-        meeting.two_came |= host == 2;
-    }
-
-    fn has_met(&self, host: u32) -> bool {
-        let meeting = self.meeting.lock(self.rt);
-        if host == 1 {
-            meeting.two_came
-        } else {
-            meeting.one_came
-        }
-    }
-
-    fn wait_for_other(&self, host: u32) {
-        for _ in 0..LOOKS {
-            if self.has_met(host) {
-                return;
-            }
-            thread::yield_now();
-        }
-        self.meeting.lock(self.rt).gave_up = true;
-    }
-}
-
-impl<'a, R: Wait> Gate for MeetingGate<'a, R> {
-    ghost may_answer = { λ gate host point turn go. true };
-
-    fn pass(&self, host: u32, point: Point, turn: u64) -> Go {
-        if turn == 1 {
-            match point {
-                Point::AfterClaim => self.come(host),
-                Point::BeforePost => self.wait_for_other(host),
-                Point::AfterPost => (),
-            }
-        }
-        Go::On
-    }
-}
-
-/// Lets hosts die, each at the first of its moments that the seed picks out.
-#[derive(Clone, Copy)]
-struct SeededGate {
-    seed: u64,
-}
-
-impl Gate for SeededGate {
-    ghost may_answer = { λ gate host point turn go. true };
-
-    fn pass(&self, host: u32, point: Point, turn: u64) -> Go {
-        let point = match point {
-            Point::AfterClaim => 0,
-            Point::BeforePost => 1,
-            Point::AfterPost => 2,
-        };
-        let moment = self
-            .seed
-            .wrapping_mul(1_000_003)
-            .wrapping_add(host as u64 * 101 + point)
-            .wrapping_add(turn.wrapping_mul(7));
-        let drawn = moment.wrapping_mul(6_364_136_223_846_793_005) >> 60;
-        if drawn < 2 { Go::Die } else { Go::On }
-    }
 }
 
 /// How `farm judge c` ends with these options, which writes to `out`.

@@ -5,6 +5,7 @@
 mod contest_folder_tests;
 #[cfg(test)]
 mod farm_cli_tests;
+pub mod gates;
 #[cfg(test)]
 mod judging_tests;
 #[cfg(test)]

@@ -19,8 +19,7 @@ mod lazy_stop_tests;
 mod lease_book_tests;
 #[cfg(test)]
 mod lease_tree_tests;
-#[cfg(test)]
-mod recording;
+pub mod recording;
 #[cfg(test)]
 mod rejudge_book_tests;
 #[cfg(test)]

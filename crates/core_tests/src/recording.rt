@@ -21,7 +21,7 @@ const LIMITS: Limits = Limits {
 
 /// What a host does.
 #[derive(Clone, Copy, Debug, PartialEq, Eq)]
-pub(crate) enum Step {
+pub enum Step {
     /// It claims a task.
     Claim,
     /// It asks its gate at this point, as this host and in this turn.
@@ -30,7 +30,7 @@ pub(crate) enum Step {
     Post(Task, Kind),
 }
 
-pub(crate) type Steps = RefCell<Vec<Step>>;
+pub type Steps = RefCell<Vec<Step>>;
 
 /// Writes a step down. A test whose steps have no room fails, since some are missing.
 fn write_down(steps: &Steps, step: Step) {
@@ -40,11 +40,11 @@ fn write_down(steps: &Steps, step: Step) {
 }
 
 /// Which call is refused, counted from 1, and why.
-pub(crate) type Refusal = Option<(u64, BenchFault)>;
+pub type Refusal = Option<(u64, BenchFault)>;
 
 /// A bench with some tests of judging 1, all of one case.
 #[derive(Drop)]
-pub(crate) struct MemoryBench<'a> {
+pub struct MemoryBench<'a> {
     steps: &'a Steps,
     image: &'a [u8],
     flags: Flags,
@@ -66,7 +66,7 @@ pub(crate) struct MemoryBench<'a> {
 
 impl<'a> MemoryBench<'a> {
     /// A bench with so many tests, of which the claim and the post with these numbers are refused.
-    pub(crate) fn new(
+    pub fn new(
         steps: &'a Steps,
         image: &'a [u8],
         flags: Flags,
@@ -189,9 +189,9 @@ fn refused(refusal: Refusal, number: u64) -> Option<BenchFault> {
 
 /// A gate that lets a host die at one point of one turn, or nowhere.
 #[derive(Drop)]
-pub(crate) struct RecordingGate<'a> {
-    pub(crate) steps: &'a Steps,
-    pub(crate) death: Option<(Point, u64)>,
+pub struct RecordingGate<'a> {
+    pub steps: &'a Steps,
+    pub death: Option<(Point, u64)>,
 }
 
 impl<'a> Gate for RecordingGate<'a> {

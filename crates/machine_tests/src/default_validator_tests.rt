@@ -1,5 +1,6 @@
+use crate::verdicts::verdict;
 use decimal_compare::Tolerance;
-use default_validator::{FlagFault, Flags, accepts, wide_token};
+use default_validator::{FlagFault, Flags, wide_token};
 use std::test::Fail;
 
 const UNIT: i128 = 1_000_000_000_000;
@@ -115,17 +116,6 @@ fn reads_flags(rt: HostRuntime) {
     for (text, want) in rows {
         assert_eq!(rt; Flags::read(text), want, "at {text:?}");
     }
-}
-
-/// What the validator says, where the flags are good and the answer has no wide token.
-fn verdict(flags: &[u8], answer: &[u8], output: &[u8]) -> Option<bool> {
-    let Ok(flags) = Flags::read(flags) else {
-        return None;
-    };
-    if wide_token(&flags, answer).is_some() {
-        return None;
-    }
-    Some(accepts(&flags, answer, output))
 }
 
 #[test]

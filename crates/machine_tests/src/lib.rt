@@ -15,3 +15,4 @@ mod rv_machine_tests;
 mod rv_memory_tests;
 #[cfg(test)]
 mod rv_word_tests;
+pub mod verdicts;

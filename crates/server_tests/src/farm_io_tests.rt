@@ -1,7 +1,5 @@
-ghost use Rattle.std.specs.Prelude.{◌≡◌, List, [], ◌∷◌, Some, codes};
-ghost use Rattle.farm_io.specs.Lines.{Whole, Long, lines_of, through_last_feed};
-ghost use Rattle.farm_io.specs.Beside.{one_sided};
-
+use crate::computed::computed_lines;
+use crate::slow::Slow;
 use farm_io::{
     Line, LineReader, MemorySink, MemorySource, PutEnd, ReadSource, ReliableSink, ReliableSource,
     Sink, Source, Taken, WriteSink,
@@ -10,36 +8,9 @@ use std::alloc::{AllocError, Global};
 use std::process::Abort;
 use std::test::Fail;
 
-/// The lines of some bytes, as the checker computes them.
-fn computed_lines()
-    ensures ends { lines_of (codes "a\r\n\nb") ≡ Whole (codes "a") ∷ (Whole [] ∷ (Whole (codes "b") ∷ [])) }
-    ensures one_return { lines_of (codes "a\r\r\n\r") ≡ Whole (codes "a\r") ∷ (Whole [] ∷ []) }
-    ensures none { lines_of [] ≡ [] }
-    ensures whole { through_last_feed (codes "a\n\nb") ≡ codes "a\n\n" }
-    ensures unfed { through_last_feed (codes "ab") ≡ [] }
-{}
-
 #[test]
 fn computes_lines() {
     computed_lines();
-}
-
-/// A source that gives a byte at a time.
-#[derive(Drop)]
-struct Slow {
-    inner: ReliableSource,
-}
-
-impl Source for Slow {
-    ghost left = { λ s. Some s.inner };
-
-    ghost faults = { λ _. 0 };
-
-    ghost beside = { λ _. one_sided };
-
-    fn take(&mut self, room: &mut [u8]) -> Taken {
-        self.inner.take(&mut room[..1])
-    }
 }
 
 /// The lines of the source, each with a bar behind it, of a long one its length, and why no more came.

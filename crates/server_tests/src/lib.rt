@@ -3,6 +3,7 @@
 
 #[cfg(test)]
 mod board_tests;
+pub mod computed;
 #[cfg(test)]
 mod contest_server_tests;
 #[cfg(test)]
@@ -19,3 +20,4 @@ mod loopback_tests;
 mod meeting_tests;
 #[cfg(test)]
 mod serving_tests;
+pub mod slow;

@@ -1,26 +1,14 @@
+use crate::names::name;
+use crate::written::read_and_written;
 use command_text::{
     push_bad_line, push_reply, push_too_long, read_line, write_event, write_event_words,
     write_reply, write_table,
 };
 use farm_kinds::{
-    Answer, Answers, Class, Event, Few, How, Kind, LineFault, MatrixRow, MatrixRows, Name,
-    NoMemory, Reply, TableRow, TableRows, Task, Text, Verdict,
+    Answer, Answers, Class, Event, Few, How, Kind, LineFault, MatrixRow, MatrixRows, NoMemory,
+    Reply, TableRow, TableRows, Task, Verdict,
 };
-use std::alloc::Global;
 use std::test::Fail;
-
-/// What the line is read as, written again. Empty where the line gives no event.
-fn read_and_written(alloc: Global, line: &[u8]) -> Result<Text, NoMemory> {
-    match read_line(alloc, line) {
-        Ok(Some(event)) => write_event(alloc, &event),
-        _ => Ok(Text::new(alloc)),
-    }
-}
-
-/// A name that is known to be one.
-fn name(word: &[u8]) -> Name {
-    Name::read(word).unwrap_or(Name::jury())
-}
 
 #[test]
 fn each_line_is_read_and_written_again(rt: HostRuntime) -> Result<(), Fail> {

@@ -7,7 +7,9 @@ mod command_line_tests;
 mod command_text_tests;
 #[cfg(test)]
 mod farm_settings_tests;
+pub mod names;
 #[cfg(test)]
 mod problem_settings_tests;
 #[cfg(test)]
 mod wire_json_tests;
+pub mod written;
