@@ -90,19 +90,25 @@ fn changed(
     Ok(entries)
 }
 
+/// Whether the entry is that of the case.
+fn is_entry(entry: &Entry, case: Case) -> bool {
+    entry.text.as_slice() == case.2.as_bytes() && is_digest(&entry.digest, case.3)
+}
+
 #[test]
 fn digests_are_chained(rt: HostRuntime) -> Result<(), Fail> {
     let mut audit = Audit::new(rt.alloc());
     assert!(rt; is_digest(&audit.head(), EMPTY));
     for case in CASES {
-        assert!(rt; add(&mut audit, case));
-        assert!(rt; is_digest(&audit.head(), case.3), "at {}", case.2);
+        let added = add(&mut audit, case) && is_digest(&audit.head(), case.3);
+        assert!(rt; added, "at {}", case.2);
     }
-    assert_eq!(rt; audit.len(), CASES.len());
-    assert_eq!(rt; audit.entries().len(), CASES.len());
+    assert_eq!(rt;
+        (audit.len(), audit.entries().len()),
+        (CASES.len(), CASES.len())
+    );
     for (entry, case) in audit.entries().iter().zip(CASES) {
-        assert_eq!(rt; entry.text.as_slice(), case.2.as_bytes());
-        assert!(rt; is_digest(&entry.digest, case.3), "at {}", case.2);
+        assert!(rt; is_entry(entry, case), "at {}", case.2);
     }
     Ok(())
 }

@@ -7,7 +7,7 @@ ghost use Rattle.farm_board.specs.Trusts.{is_value_of};
 
 use case_run::{Case, Cases, Check, image_ok, run_case};
 use default_validator::{Flags, wide_token};
-use farm_board::{Admission, Anyone, Board, LocalBench, Pass, Proved};
+use farm_board::{Admission, Anyone, Board, History, LocalBench, Pass, Proved};
 use farm_core::Farm;
 use farm_kinds::{Answer, Class, Event, Kind, Limits, Name, NoMemory, Reply, Task, Verdict};
 use farm_settings::Settings;
@@ -68,6 +68,32 @@ fn submit_and_wait<W: Wait, A: Admission>(
     (pass, false)
 }
 
+/// The journal of a board, where the pass is the only one.
+fn journal_of<A: Admission>(board: Board<Anyone, A>, pass: Pass<A>) -> Option<History>
+    requires { pass.board ≡ board.id }
+{
+    if !pass.is_alone() {
+        return None;
+    }
+    let (_, history) = board.close(pass);
+    history
+}
+
+/// By which passes the calls were made, in order.
+fn are_made_by(history: &History, passes: &[u64]) -> bool {
+    let numbers = history.as_slice().iter().map(|call| call.number);
+    numbers.eq(passes.iter().copied())
+}
+
+/// Whether the last call is the first submission.
+fn ends_with_submission(history: &History) -> bool {
+    let Some(last) = history.as_slice().last() else {
+        return false;
+    };
+    matches!(last.event, Event::Submit { broken, .. } if !broken)
+        && matches!(last.reply, Reply::Submitted { judging, .. } if judging == 1)
+}
+
 #[test]
 fn journal_is_read_back(rt: HostRuntime) -> Result<(), Fail> {
     let farm = Farm::new(rt.alloc(), Settings::standard(rt.alloc()));
@@ -77,21 +103,11 @@ fn journal_is_read_back(rt: HostRuntime) -> Result<(), Fail> {
     };
     board.step(&rt, &mut pass, &problem());
     board.step(&rt, &mut pass, &submission());
-    if !pass.is_alone() {
-        return Err(Fail::new("not alone"));
-    }
-    let (_, history) = board.close(pass);
-    let Some(history) = history else {
-        return Err(Fail::new("no journal"));
+    let Some(history) = journal_of(board, pass) else {
+        return Err(Fail::new("not alone, or no journal"));
     };
-    let calls = history.as_slice();
-    assert!(rt; calls.len() == 2);
-    let Some(last) = calls.last() else {
-        return Err(Fail::new("no last call"));
-    };
-    assert!(rt; last.number == 0);
-    assert!(rt; matches!(last.event, Event::Submit { broken, .. } if !broken));
-    assert!(rt; matches!(last.reply, Reply::Submitted { judging, .. } if judging == 1));
+    assert!(rt; are_made_by(&history, &[0, 0]));
+    assert!(rt; ends_with_submission(&history));
     Ok(())
 }
 
@@ -225,17 +241,10 @@ fn a_kept_turn_is_let_go(rt: HostRuntime) -> Result<(), Fail> {
     board.step_and_keep(&rt, &mut other, &submission());
     board.join(&rt, &mut pass, other);
     board.step_and_keep(&rt, &mut pass, &submission());
-    if !pass.is_alone() {
-        return Err(Fail::new("not alone"));
-    }
-    let (_, history) = board.close(pass);
-    let Some(history) = history else {
-        return Err(Fail::new("no journal"));
+    let Some(history) = journal_of(board, pass) else {
+        return Err(Fail::new("not alone, or no journal"));
     };
-    let calls = history.as_slice();
-    assert!(rt; calls.len() == 5);
-    let numbers = calls.iter().map(|call| call.number);
-    assert!(rt; numbers.eq([0, 0, 1, 1, 0]));
+    assert!(rt; are_made_by(&history, &[0, 0, 1, 1, 0]));
     Ok(())
 }
 

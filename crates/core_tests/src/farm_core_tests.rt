@@ -96,27 +96,25 @@ fn seen(farm: &Farm, answer: Answer) -> u32 {
     count
 }
 
-/// Has 10,000 submissions to an empty farm judged anew, and closes that rejudging.
-fn rejudge_and_close(
-    alloc: Global,
-    farm: &mut Farm,
-    event: &Event,
-) -> Result<Option<(How, u32)>, NoMemory> {
+/// How a rejudging was closed and how many members it had, and how many submissions are seen as wrong then.
+type Closed = (Option<(How, u32)>, u32);
+
+/// Has 10,000 submissions to an empty farm judged anew, and closes that rejudging by the event.
+fn rejudge_and_close(alloc: Global, farm: &mut Farm, event: &Event) -> Result<Closed, NoMemory> {
     let name = Name::jury();
     add_problem(farm, name);
     submit_all(farm, name, 10_000);
     rejudge(alloc, farm, 10_000)?;
     enter_all(farm, 10_001, 20_000, Kind::WrongAnswer);
-    Ok(close(farm, event))
+    let closed = close(farm, event);
+    Ok((closed, seen(farm, WRONG_ANSWER)))
 }
 
-/// How a rejudging of 10,000 submissions is closed by the event, how many members it had, and how many submissions are seen
-/// as wrong then. No other function here owns a farm: each way out of one that does has to be proved to drop it, and so
-/// all that it holds.
-fn closed_by(alloc: Global, event: &Event) -> Result<(Option<(How, u32)>, u32), NoMemory> {
+/// What comes of it in a farm of its own. No other function here owns a farm: each way out of one that does has to be
+/// proved to drop it, and so all that it holds.
+fn closed_by(alloc: Global, event: &Event) -> Result<Closed, NoMemory> {
     let mut farm = Farm::new(alloc, Settings::standard(alloc));
-    let closed = rejudge_and_close(alloc, &mut farm, event)?;
-    Ok((closed, seen(&farm, WRONG_ANSWER)))
+    rejudge_and_close(alloc, &mut farm, event)
 }
 
 #[test]

@@ -88,21 +88,36 @@ fn take_first_with<L: Ledger>(tree: &mut TaskTree, blank: Blank) -> Option<Task>
     Some(task)
 }
 
+/// Does what the words say.
+fn change_all(tree: &mut TaskTree, words: &str) -> Result<(), NoMemory> {
+    for word in words.split(' ') {
+        change(tree, word)?;
+    }
+    Ok(())
+}
+
+/// Whether these tasks are found in this order, and no other.
+fn are_found(tree: &mut TaskTree, tasks: &str) -> bool {
+    for word in tasks.split(' ') {
+        if !word.is_empty() && take_first(tree) != Some(task_of(word)) {
+            return false;
+        }
+    }
+    take_first(tree).is_none()
+}
+
+/// Whether what the row says of a tree is so.
+fn is_right(tree: &mut TaskTree, row: &str) -> Result<bool, NoMemory> {
+    let (words, tasks) = row.split_once(" => ").unwrap_or((row, ""));
+    change_all(tree, words)?;
+    Ok(are_found(tree, tasks))
+}
+
 #[test]
 fn tasks_are_found_by_class_judging_and_test(rt: HostRuntime) -> Result<(), Fail> {
     for row in ROWS.lines() {
-        let (words, expected) = row.split_once(" => ").unwrap_or((row, ""));
-        let mut tree = TaskTree::new(rt.alloc());
-        for word in words.split(' ') {
-            change(&mut tree, word)?;
-        }
-        for word in expected.split(' ') {
-            if !word.is_empty() {
-                let task = take_first(&mut tree);
-                assert_eq!(rt; task, Some(task_of(word)), "{row}");
-            }
-        }
-        assert_eq!(rt; take_first(&mut tree), None, "{row}");
+        let right = is_right(&mut TaskTree::new(rt.alloc()), row)?;
+        assert!(rt; right, "{row}");
     }
     Ok(())
 }
@@ -110,8 +125,8 @@ fn tasks_are_found_by_class_judging_and_test(rt: HostRuntime) -> Result<(), Fail
 #[test]
 fn judgings_are_numbered_from_1(rt: HostRuntime) -> Result<(), Fail> {
     let mut tree = TaskTree::new(rt.alloc());
-    assert_eq!(rt; tree.add(Class::Low, 1_000), Ok(1));
-    assert_eq!(rt; tree.add(Class::High, 0), Ok(2));
-    assert_eq!(rt; tree.judging_count(), 2);
+    let numbers = (tree.add(Class::Low, 1_000), tree.add(Class::High, 0));
+    let count = tree.judging_count();
+    assert_eq!(rt; (numbers, count), ((Ok(1), Ok(2)), 2));
     Ok(())
 }
