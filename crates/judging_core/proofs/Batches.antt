@@ -1,11 +1,10 @@
 -- The open tasks of one judging, before and after one of them is handed out.
-use Rattle.std.proofs.Common.{ℕ, zero, suc, ◌≡◌, ◌+◌, ◌-◌, ◌<◌, ◌≤◌, ◌⊎◌, List, [], ◌∷◌, ◌++◌, Option, Some, None, Bool, true, false, not, cond, leb, ltb, ◌&&◌, refl, sym, ap, subst, ◌∙◌, arith, inl, inr, length, map, slice_get, take, filter, find, unwrap_or}
+use Rattle.std.proofs.Common.{ℕ, zero, suc, ◌≡◌, ◌+◌, ◌<◌, ◌≤◌, ◌⊎◌, List, [], ◌∷◌, ◌++◌, Option, Some, None, Bool, true, false, not, cond, leb, ◌&&◌, refl, sym, ap, subst, ◌∙◌, arith, inl, inr, length, map, slice_get, take, filter, find, unwrap_or}
 use Rattle.std.specs.Option.{is_none, option_map}
 use Rattle.std.specs.List.{flat_map, range_with_len, enumerate_from}
 use Rattle.std.proofs.lemmas.Bool.Decides.{nat_tests}
 use Rattle.std.proofs.lemmas.List.{append_assoc, append-nil, length_push}
 use Rattle.std.proofs.lemmas.List.Elements.{filter-append}
-use Rattle.std.proofs.lemmas.Option.{slice_get-map}
 use Rattle.farm_kinds.specs.declared.outcomes.Class.{Class}
 use Rattle.farm_kinds.specs.declared.outcomes.Class.TheVariants.{High, Normal, Low}
 use Rattle.farm_kinds.specs.declared.outcomes.Fetched.TheVariants as fetch
@@ -20,7 +19,7 @@ use Rattle.farm_model.specs.Judge.{JudgeState, first_open, hand_out, hand_out_al
 use Rattle.lease_book.proofs.Counts.{one_if, count_push}
 use Rattle.lease_book.proofs.Singly.{same_self}
 use Rattle.judging_core.specs.Batches.{ComesFirst}
-use Rattle.judging_core.proofs.Items.{kept_seen}
+use Rattle.judging_core.proofs.Items.{item_seen, kept_seen}
 use Rattle.judging_core.proofs.OpenTasks.{fused, item_next, open_from}
 
 -- ---- one lease more
@@ -106,10 +105,6 @@ at_unmarked rule ls j (Some judging) = refl
 at_leased : (rule : RuleValue) (ls : List Lease) (host until : ℕ) (t : Task) (j : ℕ) (o : Option Judging) → open_at rule (with_lease ls host t until) j o ≡ filter (other_task t) (open_at rule ls j o)
 at_leased rule ls host until t j None = refl
 at_leased rule ls host until t j (Some judging) = leased rule ls host until t (j, judging)
-
-item_seen : {X Y : Type 0} (v : X → Y) (xs : List X) (n : ℕ) → item_of (map v xs) n ≡ option_map v (item_of xs n)
-item_seen v xs zero = refl
-item_seen v xs (suc n) = let yes : ltb 0 (suc n) ≡ true = grind (arith, nat_tests) in rw yes (slice_get-map v xs (suc n - 1))
 
 own_handed : (s : JudgeState) (host : ℕ) (t : Task) (j : ℕ) → open_of (hand_out s host t) j ≡ filter (other_task t) (open_of s j)
 own_handed s host t j =

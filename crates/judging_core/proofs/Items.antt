@@ -1,7 +1,14 @@
 -- Lists whose items are numbered from 1, as they are after a change.
 use Rattle.std.proofs.Common.{ℕ, zero, suc, ◌≡◌, ◌≢◌, ◌+◌, ◌-◌, ◌<◌, ◌≤◌, List, [], ◌∷◌, ◌++◌, Option, Some, None, true, cond, ltb, refl, sym, ap, ◌∙◌, arith, length, map, set, slice_get}
+use Rattle.std.specs.Option.{option_map}
 use Rattle.std.proofs.lemmas.Bool.Decides.{nat_tests}
+use Rattle.std.proofs.lemmas.Option.{slice_get-map}
 use Rattle.farm_model.specs.Numbered.{item_of, change_item, with_change}
+
+-- an item that is seen through a view
+pub item_seen : {X Y : Type 0} (v : X → Y) (xs : List X) (n : ℕ) → item_of (map v xs) n ≡ option_map v (item_of xs n)
+item_seen v xs zero = refl
+item_seen v xs (suc n) = let yes : ltb 0 (suc n) ≡ true = grind (arith, nat_tests) in rw yes (slice_get-map v xs (suc n - 1))
 
 pub item_at : {X : Type 0} (xs : List X) (n : ℕ) (x : X) → item_of xs n ≡ Some x → (0 < n) × (slice_get xs (n - 1) ≡ Some x)
 item_at xs zero x h = cc

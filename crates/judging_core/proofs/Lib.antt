@@ -1,6 +1,7 @@
 pub mod Bits
 pub mod Changed
 pub mod Items
+pub mod Reported
 pub mod Held
 pub mod MadeAhead
 pub mod Shown

@@ -4,7 +4,7 @@ use Rattle.farm_model.specs.Limits.{max_hosts, max_judgings}
 use Rattle.farm_model.specs.Judge.{JudgeState}
 use Rattle.lease_book.specs.Book.{room}
 use Rattle.judging_core.specs.JudgeValue.{JudgeValue}
-use Rattle.judging_core.specs.JudgeShape.{judging_values, AreWellKept, AreRuledBy, cells_in, reserved_of, ArePrepared}
+use Rattle.judging_core.specs.JudgeShape.{judging_values, answers_by, AreWellKept, AreRuledBy, cells_in, reserved_of, ArePrepared}
 use Rattle.judging_core.specs.Holding.{IsHeldWell, AreOnEmptyCells, most_held}
 use Rattle.judging_core.specs.Listed.{IsListed}
 use Rattle.judging_core.specs.declared.judge.Judge.TheInside.{Inside}
@@ -30,6 +30,8 @@ pub record IsJudgeLayout (a : Inside) : Type 0 where
   pub rows : AreWellKept a.judgings.items
   -- each row is judged by the judge's rule
   pub ruled : AreRuledBy a.rule a.judgings.items
+  -- what is reported of each judging
+  pub answered : a.answers.items ≡ answers_by a.rule (judging_values a.judgings.items)
   pub few_hosts : a.hosts ≤ max_hosts
   pub held : IsHeldWell a.hosts a.leases.leases
   pub cells : AreOnEmptyCells (judging_values a.judgings.items) a.leases.leases
@@ -42,6 +44,7 @@ pub record IsJudgeLayout (a : Inside) : Type 0 where
   pub prepared_ruled : AreRuledBy a.rule a.prepared.items
   -- room for all that is made ahead
   pub spare : vec_len a.judgings + vec_len a.prepared ≤ vec_capacity a.judgings
+  pub spare_answers : vec_len a.answers + vec_len a.prepared ≤ vec_capacity a.answers
   -- each open task is listed
   pub listed : IsListed a.rule (judging_values a.judgings.items) a.leases.leases a.tasks
   -- the list has room for all that is made ahead, as far as there can be judgings

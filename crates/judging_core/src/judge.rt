@@ -8,12 +8,13 @@ ghost use Rattle.farm_model.specs.Judgings.{cell_of, is_asked, is_dropped};
 ghost use Rattle.judging_core.specs.JudgeValue.{first_judge, in_state, with_judging, starts_with};
 ghost use Rattle.judging_core.specs.Batches.{is_open_task, ComesFirst};
 
+use crate::answers::{answer_of, keep_answer, make_answer_room};
 use crate::judgings::{
-    KeptJudging, answer_of, ask_refusal, cell_at, empty_judging, entry_refusal, fill, judging_at,
-    mark_asked, mark_dropped, mark_handed, result_refusal, test_count,
+    KeptJudging, ask_refusal, cell_at, empty_judging, entry_refusal, fill, judging_at, mark_asked,
+    mark_dropped, mark_handed, result_refusal, test_count,
 };
 use crate::listing::{
-    end_due, end_host, end_in_vain, list_judging, make_room, show_tests, unlist_judging,
+    end_counted, end_due, end_host, list_judging, make_room, show_tests, unlist_judging,
 };
 use crate::open::first_open;
 use crate::prepared::{is_next, prepared_judgings, take_prepared};
@@ -22,6 +23,7 @@ use farm_kinds::{
     Answer, AskEnd, Claim, Class, Count, Fetched, Few, Kind, MAX_BATCH, MAX_HELD, Mode, NoMemory,
     Numbers, Renewed, Rule, Task,
 };
+use farm_model::item_of;
 use lazy_stop::remapped_is_possible;
 use lease_book::LeaseBook;
 use std::alloc::Global;
@@ -40,6 +42,8 @@ pub struct Judge {
     lease: u64,
     moment: u64,
     judgings: Vec<KeptJudging>,
+    /// What is reported of each judging. It is asked for far more often than a result comes.
+    answers: Vec<Answer>,
     prepared: Vec<KeptJudging>,
     /// How many tests the judgings have together.
     cells: u32,
@@ -74,6 +78,7 @@ impl Judge {
             lease,
             moment: 0,
             judgings: Vec::new(alloc),
+            answers: Vec::new(alloc),
             prepared: Vec::new(alloc),
             cells: 0,
             hosts: 0,
@@ -98,6 +103,7 @@ impl Judge {
     {
         let prepared = prepared_judgings(self.alloc, self.rule, tests.as_slice())?;
         self.judgings.reserve(prepared.len()).map_err(|_| NoMemory)?;
+        make_answer_room(&mut self.answers, prepared.len())?;
         make_room(&mut self.tasks, self.judgings.len() + prepared.len())?;
         let all = tests_with(self.cells, &prepared);
         make_lease_room(&mut self.leases, self.hosts, all)?;
@@ -130,7 +136,10 @@ impl Judge {
         make_room(&mut self.tasks, number)?;
         let cells = self.cells + u32::from(tests);
         make_lease_room(&mut self.leases, self.hosts, cells)?;
+        make_answer_room(&mut self.answers, 1)?;
+        let answer = answer_of(&judging);
         self.judgings.push(judging).map_err(|_| NoMemory)?;
+        self.answers.push_reserved(answer);
         self.prepared = Vec::new(self.alloc);
         self.cells = cells;
         list_judging(&mut self.tasks, class, number as u32, tests, asked);
@@ -148,7 +157,9 @@ impl Judge {
         let Some(judging) = take_prepared(&mut self.prepared, class, tests, mode, asked) else {
             return 0;
         };
+        let answer = answer_of(&judging);
         self.judgings.push_reserved(judging);
+        self.answers.push_reserved(answer);
         self.cells += u32::from(tests);
         let number = self.judgings.len() as u32;
         list_judging(&mut self.tasks, class, number, tests, asked);
@@ -327,12 +338,12 @@ impl Judge {
         ensures answer { result ≡ Count.Counted }
     {
         fill(&mut self.judgings, judging, test, given);
+        keep_answer(&mut self.answers, &self.judgings, judging);
         let task = Task {
             judging,
             test: test as u16,
         };
-        self.leases.end(task);
-        end_in_vain(&self.judgings, &mut self.leases, judging);
+        end_counted(&self.judgings, &mut self.leases, task);
         self.tasks.hide_task(task);
         Count::Counted
     }
@@ -440,8 +451,7 @@ impl Judge {
     pub fn answer(&self, judging: u32) -> Option<Answer>
         ensures { result ≡ answer_of_judging self.now.state judging }
     {
-        let kept = judging_at(&self.judgings, judging)?;
-        Some(answer_of(kept))
+        item_of(&self.answers, judging).copied()
     }
 }
 

@@ -1,7 +1,6 @@
 ghost use Rattle.farm_model.specs.Limits.{max_tests};
 ghost use Rattle.std.specs.Prelude.{◌≡◌, ◌≤◌, ◌-◌, length, slice_get, slice_set, vec_len, vec_capacity, IfOk, IfNone, IfSome, OnSome, None, Some, IsSome};
 ghost use Rattle.farm_kinds.specs.RuleValue.{RuleValue};
-ghost use Rattle.farm_model.specs.Rows.{answer_of};
 ghost use Rattle.farm_model.specs.Numbered.{item_of};
 ghost use Rattle.farm_model.specs.Judge.{ask_refusal};
 ghost use Rattle.farm_model.specs.Judgings.{kept_count, cell_of, entry_refusal, result_refusal, with_result, with_handed, with_asked, with_dropped, empty_judging};
@@ -11,7 +10,7 @@ ghost use Rattle.std.specs.Option.{option_map};
 ghost use Rattle.judging_core.specs.JudgeShape.{judging_value, judging_values, row_length, IsWellKept, AreWellKept, IsRuledBy, AreRuledBy, CanAllHold};
 
 use crate::marks::Marks;
-use farm_kinds::{Answer, AskEnd, Class, Count, Kind, Mode, NoMemory, Rule, Task, Verdict};
+use farm_kinds::{AskEnd, Class, Count, Kind, Mode, NoMemory, Rule, Task};
 use lazy_stop::Row;
 use std::alloc::Global;
 
@@ -269,15 +268,4 @@ pub fn mark_dropped(judgings: &mut Vec<KeptJudging>, judging: u32)
 {
     let kept = &mut judgings[judging as usize - 1];
     kept.dropped = true;
-}
-
-/// What is reported of a judging. One of no tests is of a broken submission.
-pub fn answer_of(kept: &KeptJudging) -> Answer
-    requires { IsWellKept kept.now }
-    ensures { result ≡ answer_of kept.now.row.rule kept.now.mode kept.now.row.cells }
-{
-    if kept.handed.is_empty() {
-        return Answer::Final(Verdict::CompilerError);
-    }
-    kept.row.answer(kept.mode)
 }

@@ -7,6 +7,7 @@
 //! judging is final once every cell is filled, and hosts are given the task of each empty cell.
 #![tactic(auto)]
 
+mod answers;
 mod judge;
 mod judgings;
 mod listing;

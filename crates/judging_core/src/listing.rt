@@ -134,9 +134,25 @@ pub fn end_host(leases: &mut LeaseBook, tasks: &mut TaskTree, judgings: usize, h
     held - leases.len()
 }
 
+/// Ends the lease on a task whose cell was filled, and those on cells of its judging that are not to be judged any
+/// more. Each lease is on an empty cell, but for the one on the task.
+pub fn end_counted(judgings: &[KeptJudging], leases: &mut LeaseBook, task: Task)
+    requires short { AreWellKept judgings.now }
+    requires cells { AreOnEmptyCells (judging_values judgings.now) (without_task leases.old.leases task) }
+    ensures leases { (rule : RuleValue) → AreRuledBy rule judgings.now → leases.new.leases
+        ≡ without_vain rule (judging_values judgings.now) task.judging (without_task leases.old.leases task) }
+    ensures room { room leases.new ≡ room leases.old }
+{
+    if leases.is_empty() {
+        return;
+    }
+    leases.end(task);
+    end_in_vain(judgings, leases, task.judging);
+}
+
 /// Ends the leases on cells of the judging that are not to be judged any more: lazily those behind the last one
 /// that matters. Each lease is on an empty cell.
-pub fn end_in_vain(judgings: &[KeptJudging], leases: &mut LeaseBook, judging: u32)
+fn end_in_vain(judgings: &[KeptJudging], leases: &mut LeaseBook, judging: u32)
     requires short { AreWellKept judgings.now }
     requires cells { AreOnEmptyCells (judging_values judgings.now) leases.old.leases }
     ensures leases { (rule : RuleValue) → AreRuledBy rule judgings.now

@@ -4,18 +4,21 @@ use Rattle.std.proofs.lemmas.List.{length_push, length-map, map_push, map-append
 use Rattle.std.proofs.lemmas.List.Elements.{All-push}
 use Rattle.farm_model.specs.declared.records.Lease.{Lease}
 use Rattle.farm_model.specs.Judge.{add_judging}
+use Rattle.farm_kinds.specs.RuleValue.{RuleValue}
+use Rattle.farm_model.specs.Rows.{answer_of}
 use Rattle.farm_model.specs.Judgings.{Judging, task_of, empty_judging}
 use Rattle.lease_book.specs.Book.{room}
 use Rattle.judging_core.specs.JudgeValue.{JudgeValue, with_judging, starts_with}
 use Rattle.judging_core.specs.JudgeLayout.{judge_value}
 use Rattle.judging_core.specs.declared.judgings.KeptJudging.{KeptJudging}
-use Rattle.judging_core.specs.JudgeShape.{judging_value, judging_values, IsWellKept, AreWellKept, IsRuledBy, AreRuledBy, cells_in, reserved_of}
+use Rattle.judging_core.specs.JudgeShape.{judging_value, judging_values, answer_by, answers_by, IsWellKept, AreWellKept, IsRuledBy, AreRuledBy, cells_in, reserved_of}
 use Rattle.judging_core.specs.Holding.{IsHeldWell, AreOnEmptyCells, most_held}
 use Rattle.judging_core.specs.Listed.{IsListed}
 use Rattle.judging_core.proofs.Listed.{count_is, ahead_kept}
 use Rattle.judging_core.proofs.MadeAhead.{none_left}
 use Rattle.judging_core.proofs.Cells.{added_cells}
 use Rattle.judging_core.proofs.CellCount.{cells_few, cells_pushed}
+use Rattle.judging_core.proofs.Reported.{answers_pushed}
 use Rattle.judging_core.proofs.judge.Judge.add_judging.Goals as goal
 
 -- whether or not the item was pushed
@@ -50,6 +53,19 @@ invariant_of-self-in_err-make_lease_room c =
     ahead_kept (length at.judgings.items + length at.prepared.items) (length at.judgings.items + length at.prepared.items) (length at.tasks) (length c.make_room.new.tasks) c.self.invariant.ahead (omega arith) c.make_room.ensures.grows in
     search rules
 
+pub invariant_of-self-in_err-make_answer_room : goal.invariant_of-self-in_err-make_answer_room
+invariant_of-self-in_err-make_answer_room c =
+    let at = c.self.inside in
+    let leases = c.make_lease_room.new.leases in
+    let same = c.make_lease_room.ensures.leases in
+    let held : IsHeldWell at.hosts leases.leases = rw same c.self.invariant.held in
+    let cells : AreOnEmptyCells (judging_values at.judgings.items) leases.leases = rw same c.self.invariant.cells in
+    let listed : IsListed at.rule (judging_values at.judgings.items) leases.leases c.make_room.new.tasks = rw same (c.make_room.ensures.listed at.rule (judging_values at.judgings.items) at.leases.leases c.self.invariant.listed) in
+    let ahead : (k : ℕ) → k ≤ length at.judgings.items + length at.prepared.items → k ≤ 400000 → k ≤ length c.make_room.new.tasks =
+    ahead_kept (length at.judgings.items + length at.prepared.items) (length at.judgings.items + length at.prepared.items) (length at.tasks) (length c.make_room.new.tasks) c.self.invariant.ahead (omega arith) c.make_room.ensures.grows in
+    let answered : c.make_answer_room.new.answers.items ≡ answers_by at.rule (judging_values at.judgings.items) = c.make_answer_room.ensures.items ∙ c.self.invariant.answered in
+    search rules
+
 pub overflow_add-cells : goal.overflow_add-cells
 overflow_add-cells c = omega (arith, c.from.ensures, c.requires.short, c.self.invariant.counted, cells_few c.self.inside.judgings.items c.self.invariant.rows, c.self.invariant.few)
 
@@ -69,6 +85,7 @@ invariant_of-self-in_err-map_err c =
     let few : length c.push.new.self.items ≤ 400000 = omega (arith, size, c.self.invariant.few) in
     let cells : AreOnEmptyCells (judging_values c.push.new.self.items) leases.leases = rw (same, c.make_lease_room.ensures.leases) c.self.invariant.cells in
     let counted : at.cells ≡ cells_in c.push.new.self.items = c.self.invariant.counted ∙ sym (ap cells_in same) in
+    let answered : c.make_answer_room.new.answers.items ≡ answers_by at.rule (judging_values c.push.new.self.items) = c.make_answer_room.ensures.items ∙ c.self.invariant.answered ∙ sym (ap (λ xs. answers_by at.rule (judging_values xs)) same) in
     search rules
 
 pub list_judging-requires-clause-known : goal.list_judging-requires-clause-known
@@ -117,6 +134,10 @@ invariant_of-self-2 c =
     let none_ahead : cells_in c.new.result.items ≡ 0 = ap cells_in c.new.ensures.items in
     let roomy : most_held inside.hosts (inside.cells + c.from.result + cells_in c.new.result.items) ≤ room leases =
     omega (arith, none_ahead, c.in_ok-make_lease_room.ensures.enough) in
+    let empty = empty_judging c.args.class c.args.tests c.args.mode c.args.asked in
+    let answer : c.answer_of-answer.result ≡ answer_by inside.rule empty = c.answer_of-answer.ensures ∙ ap (λ (r : RuleValue). answer_of r judging.mode judging.row.cells) c.in_ok-judging.ensures.ruled ∙ ap (answer_by inside.rule) c.in_ok-judging.ensures.value in
+    let answered : c.push_reserved.new.self.items ≡ answers_by inside.rule (judging_values c.push.new.self.items) =
+    c.push_reserved.ensures.items ∙ answers_pushed inside.rule (judging_values at) (judging_values c.push.new.self.items) empty c.make_answer_room.new.answers.items c.answer_of-answer.result (c.make_answer_room.ensures.items ∙ c.self.invariant.answered) value answer in
     let size = c.list_judging.ensures.count in
     let more : length c.push.new.self.items ≡ length at + 1 = ap length pushed ∙ length_push at judging in
     let none : length c.new.result.items ≡ 0 = ap length c.new.ensures.items in

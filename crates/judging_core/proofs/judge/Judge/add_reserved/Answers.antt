@@ -1,16 +1,19 @@
 use Rattle.std.proofs.Common.{ℕ, ◌≡◌, ◌≤◌, ◌<◌, ◌+◌, ◌∙◌, rules, ap, arith, List, ◌++◌, ◌∷◌, [], Bool, true, false, if◌then◌else◌, length}
 use Rattle.std.proofs.lemmas.List.{length_push, length-map, map_push}
 use Rattle.std.proofs.lemmas.List.Elements.{All-push}
+use Rattle.farm_kinds.specs.RuleValue.{RuleValue}
+use Rattle.farm_model.specs.Rows.{answer_of}
 use Rattle.farm_model.specs.Judgings.{Judging, task_of, empty_judging}
 use Rattle.lease_book.specs.Book.{room}
 use Rattle.judging_core.specs.JudgeValue.{JudgeValue}
-use Rattle.judging_core.specs.JudgeShape.{judging_value, judging_values, IsWellKept, AreWellKept, IsRuledBy, AreRuledBy, cells_in, ArePrepared}
+use Rattle.judging_core.specs.JudgeShape.{judging_value, judging_values, answer_by, answers_by, IsWellKept, AreWellKept, IsRuledBy, AreRuledBy, cells_in, ArePrepared}
 use Rattle.judging_core.specs.Holding.{AreOnEmptyCells, most_held}
 use Rattle.judging_core.specs.Listed.{IsListed}
 use Rattle.judging_core.specs.declared.judgings.KeptJudging.{KeptJudging}
 use Rattle.judging_core.proofs.Listed.{count_is, ahead_kept}
 use Rattle.judging_core.proofs.Cells.{added_cells}
 use Rattle.judging_core.proofs.CellCount.{cells_few, cells_pushed, cells_taken}
+use Rattle.judging_core.proofs.Reported.{answers_pushed}
 use Rattle.judging_core.proofs.judge.Judge.add_reserved.Goals as goal
 
 one_more : {X : Type 0} (n : ℕ) (pushed : Bool) (xs : List X) (x : X) → length xs < n → length (if pushed then xs ++ x ∷ [] else xs) ≤ n
@@ -67,6 +70,11 @@ invariant_of-self-2 c =
     omega (arith, c.from.ensures, c.self.invariant.counted, ap cells_in c.push_reserved.ensures.items, cells_pushed at judging c.args.class c.args.tests c.args.mode c.args.asked c.in-Some.ensures.value) in
     let roomy : most_held inside.hosts (inside.cells + c.from.result + cells_in c.take_prepared.new.prepared.items) ≤ room inside.leases =
     omega (arith, c.from.ensures, tests, c.self.invariant.roomy) in
+    let empty = empty_judging c.args.class c.args.tests c.args.mode c.args.asked in
+    let by : judging.row.rule ≡ inside.rule = c.in-Some.ensures.ruled_itself inside.rule c.self.invariant.prepared_ruled in
+    let answer : c.answer_of-answer.result ≡ answer_by inside.rule empty = c.answer_of-answer.ensures ∙ ap (λ (r : RuleValue). answer_of r judging.mode judging.row.cells) by ∙ ap (answer_by inside.rule) c.in-Some.ensures.value in
+    let answered : c.push_reserved-2.new.self.items ≡ answers_by inside.rule (judging_values c.push_reserved.new.self.items) =
+    c.push_reserved-2.ensures.items ∙ answers_pushed inside.rule (judging_values at) (judging_values c.push_reserved.new.self.items) empty inside.answers.items c.answer_of-answer.result c.self.invariant.answered value answer in
     let size = c.list_judging.ensures.count in
     let ahead : (k : ℕ) → k ≤ length c.push_reserved.new.self.items + length c.take_prepared.new.prepared.items → k ≤ 400000 → k ≤ length c.list_judging.new.tasks =
     ahead_kept (length at + length inside.prepared.items) (length c.push_reserved.new.self.items + length c.take_prepared.new.prepared.items) (length inside.tasks) (length c.list_judging.new.tasks) c.self.invariant.ahead less (omega (arith, size)) in

@@ -8,6 +8,7 @@ use Rattle.judging_core.specs.Listed.{IsListed}
 use Rattle.judging_core.proofs.Listed.{asked_listed, asked_row, count_is, ahead_kept}
 use Rattle.judging_core.proofs.Cells.{asked_cells}
 use Rattle.judging_core.proofs.CellCount.{cells_changed}
+use Rattle.judging_core.proofs.Reported.{answers_kept}
 use Rattle.judging_core.proofs.judge.Judge.ask.Goals as goal
 
 pub show_tests-requires-clause-known : goal.show_tests-requires-clause-known
@@ -32,6 +33,7 @@ invariant_of-self c =
     rw c.mark_asked.ensures.value (asked_listed at.rule js at.leases.leases at.tasks c.show_tests.new.tasks c.args.judging c.test_count-tests.result c.self.invariant.listed known tests c.show_tests.ensures.shown) in
     let cells : AreOnEmptyCells (judging_values c.mark_asked.new.judgings.items) at.leases.leases = rw c.mark_asked.ensures.value (asked_cells js at.leases.leases c.args.judging c.self.invariant.cells) in
     let counted : at.cells ≡ cells_in c.mark_asked.new.judgings.items = c.self.invariant.counted ∙ sym (cells_changed at.judgings.items c.mark_asked.new.judgings.items c.args.judging mark_asked c.mark_asked.ensures.value (λ x. refl)) in
+    let answered = answers_kept at.rule js (judging_values c.mark_asked.new.judgings.items) c.args.judging mark_asked at.answers.items c.self.invariant.answered c.mark_asked.ensures.value (λ x. refl) in
     let size = c.show_tests.ensures.count in
     let ahead : (k : ℕ) → k ≤ length c.mark_asked.new.judgings.items + length at.prepared.items → k ≤ 400000 → k ≤ length c.show_tests.new.tasks = ahead_kept (length at.judgings.items + length at.prepared.items) (length c.mark_asked.new.judgings.items + length at.prepared.items) (length at.tasks) (length c.show_tests.new.tasks) c.self.invariant.ahead (omega (arith, c.mark_asked.ensures.count)) (omega (arith, size)) in
     search rules

@@ -10,7 +10,7 @@ use Rattle.judging_core.proofs.Shown.{size_shown}
 use Rattle.lazy_stop.specs.Matters.{IsPossible}
 use Rattle.judging_core.specs.JudgeValue.{JudgeValue, in_state}
 use Rattle.judging_core.specs.JudgeLayout.{judge_value}
-use Rattle.judging_core.specs.JudgeShape.{judging_values, AreRuledBy, cells_in}
+use Rattle.judging_core.specs.JudgeShape.{judging_values, answers_by, AreRuledBy, cells_in}
 use Rattle.judging_core.specs.Listed.{IsListed}
 use Rattle.judging_core.proofs.Listed.{cell_there, result_listed, result_closed, closed_hidden, cell_in_room, ahead_kept}
 use Rattle.judging_core.proofs.Items.{item_within}
@@ -47,11 +47,11 @@ ended_in_vain rule seen js values old left new j e v l ended ruled =
     ∙ ap (λ (xs : List Judging). without_vain rule xs j old) v
     ∙ ap (without_vain rule values j) l
 
-pub end_in_vain-requires-clause-cells : goal.end_in_vain-requires-clause-cells
-end_in_vain-requires-clause-cells c =
+pub end_counted-requires-clause-cells : goal.end_counted-requires-clause-cells
+end_counted-requires-clause-cells c =
     let at = c.self.inside in
     let empty = seen_empty at.judgings.items c.args.self.now c.args.judging c.args.test (ap (λ (v : JudgeValue). v.state.judgings) c.self.view_is) c.requires.empty in
-    rw (c.deref.ensures.value, c.fill.ensures.value, c.end.ensures.leases) (filled_cells (judging_values at.judgings.items) at.leases.leases c.args.judging c.args.test c.args.given (test_from_1 (judging_values at.judgings.items) c.args.judging c.args.test empty) c.self.invariant.cells)
+    rw (c.deref-2.ensures.value, c.fill.ensures.value) (filled_cells (judging_values at.judgings.items) at.leases.leases c.args.judging c.args.test c.args.given (test_from_1 (judging_values at.judgings.items) c.args.judging c.args.test empty) c.self.invariant.cells)
 
 pub invariant_of-self : goal.invariant_of-self
 invariant_of-self c =
@@ -63,19 +63,23 @@ invariant_of-self c =
     let empty = seen_empty at.judgings.items c.args.self.now c.args.judging c.args.test (ap (λ (v : JudgeValue). v.state.judgings) c.self.view_is) c.requires.empty in
     let possible : IsPossible at.rule c.args.given = subst (λ (v : JudgeValue). IsPossible v.state.rule c.args.given) (sym c.self.view_is) c.requires.possible in
     let ruled : AreRuledBy at.rule c.fill.new.judgings.items = c.fill.ensures.ruled at.rule c.self.invariant.ruled in
-    let vain : c.end_in_vain.new.leases.leases ≡ without_vain at.rule new c.args.judging left =
-    ended_in_vain at.rule c.deref.result.now c.fill.new.judgings.items new c.end.new.self.leases left c.end_in_vain.new.leases.leases c.args.judging c.deref.ensures.value c.fill.ensures.value c.end.ensures.leases c.end_in_vain.ensures.leases
+    let vain : c.end_counted.new.leases.leases ≡ without_vain at.rule new c.args.judging left =
+    ended_in_vain at.rule c.deref-2.result.now c.fill.new.judgings.items new left left c.end_counted.new.leases.leases c.args.judging c.deref-2.ensures.value c.fill.ensures.value refl c.end_counted.ensures.leases
     (c.fill.ensures.ruled at.rule c.self.invariant.ruled) in
-    let held : IsHeldWell at.hosts c.end_in_vain.new.leases.leases =
+    let held : IsHeldWell at.hosts c.end_counted.new.leases.leases =
     rw vain (vain_held at.hosts at.rule new c.args.judging left (some_held at.hosts (λ lease. not (same_task lease.task task)) at.leases.leases c.self.invariant.held)) in
-    let cells : AreOnEmptyCells (judging_values c.fill.new.judgings.items) c.end_in_vain.new.leases.leases =
+    let cells : AreOnEmptyCells (judging_values c.fill.new.judgings.items) c.end_counted.new.leases.leases =
     rw (c.fill.ensures.value, vain) (vain_cells at.rule new c.args.judging left (filled_cells js at.leases.leases c.args.judging c.args.test c.args.given (test_from_1 js c.args.judging c.args.test empty) c.self.invariant.cells)) in
     let counted : at.cells ≡ cells_in c.fill.new.judgings.items = c.self.invariant.counted ∙ sym (cells_changed at.judgings.items c.fill.new.judgings.items c.args.judging (fill_cell c.args.test c.args.given) c.fill.ensures.value (λ x. length-set x.row (c.args.test - 1) (Some c.args.given))) in
-    let room : room c.end_in_vain.new.leases ≡ room at.leases = c.end_in_vain.ensures.room ∙ c.end.ensures.room in
+    let room : room c.end_counted.new.leases ≡ room at.leases = c.end_counted.ensures.room in
     let there : HasTask at.tasks task = cell_in_room at.judgings.items at.tasks c.args.judging c.args.test c.self.invariant.rows c.self.invariant.listed.wide (c.self.invariant.ahead (length at.judgings.items) (omega arith) c.self.invariant.few) empty in
     let closed = result_closed at.rule js (without_vain at.rule new c.args.judging left) c.args.judging c.args.test c.args.given empty in
+    let seen : AreRuledBy at.rule c.deref.result.now = subst (AreRuledBy at.rule) (sym c.deref.ensures.value) ruled in
+    let changed : judging_values c.deref.result.now ≡ new = ap judging_values c.deref.ensures.value ∙ c.fill.ensures.value in
+    let answered : c.keep_answer.new.answers.items ≡ answers_by at.rule (judging_values c.fill.new.judgings.items) =
+    c.keep_answer.ensures.answers at.rule js (fill_cell c.args.test c.args.given) seen changed c.self.invariant.answered ∙ ap (λ xs. answers_by at.rule (judging_values xs)) c.deref.ensures.value in
     let size : length c.hide_task.new.self ≡ length at.tasks = ap length c.hide_task.ensures ∙ size_shown at.tasks task false in
-    let listed : IsListed at.rule (judging_values c.fill.new.judgings.items) c.end_in_vain.new.leases.leases c.hide_task.new.self =
+    let listed : IsListed at.rule (judging_values c.fill.new.judgings.items) c.end_counted.new.leases.leases c.hide_task.new.self =
     rw (c.fill.ensures.value, vain, c.hide_task.ensures) (closed_hidden at.rule new (without_vain at.rule new c.args.judging left) at.tasks task
     (vain_listed at.rule new c.args.judging left at.tasks (result_listed at.rule js at.leases.leases at.tasks c.args.judging c.args.test c.args.given c.self.invariant.listed empty possible)) there closed) in
     let ahead : (k : ℕ) → k ≤ length c.fill.new.judgings.items + length at.prepared.items → k ≤ 400000 → k ≤ length c.hide_task.new.self = ahead_kept (length at.judgings.items + length at.prepared.items) (length c.fill.new.judgings.items + length at.prepared.items) (length at.tasks) (length c.hide_task.new.self) c.self.invariant.ahead (omega (arith, c.fill.ensures.count)) (omega (arith, size)) in
@@ -87,9 +91,9 @@ returns-clause-state c =
     let new = with_result (judging_values at.judgings.items) c.args.judging c.args.test c.args.given in
     let left = without_task at.leases.leases (task_of c.args.judging c.args.test) in
     let start : JudgeValue = judge_value at in
-    let vain : c.end_in_vain.new.leases.leases ≡ without_vain at.rule new c.args.judging left =
-    ended_in_vain at.rule c.deref.result.now c.fill.new.judgings.items new c.end.new.self.leases left c.end_in_vain.new.leases.leases c.args.judging c.deref.ensures.value c.fill.ensures.value c.end.ensures.leases c.end_in_vain.ensures.leases
+    let vain : c.end_counted.new.leases.leases ≡ without_vain at.rule new c.args.judging left =
+    ended_in_vain at.rule c.deref-2.result.now c.fill.new.judgings.items new left left c.end_counted.new.leases.leases c.args.judging c.deref-2.ensures.value c.fill.ensures.value refl c.end_counted.ensures.leases
     (c.fill.ensures.ruled at.rule c.self.invariant.ruled) in
-    ap (λ (js : List Judging). record start { state = record start.state { judgings = js; leases = c.end_in_vain.new.leases.leases } }) c.fill.ensures.value
+    ap (λ (js : List Judging). record start { state = record start.state { judgings = js; leases = c.end_counted.new.leases.leases } }) c.fill.ensures.value
     ∙ ap (λ (leases : List Lease). record start { state = record start.state { judgings = new; leases = leases } }) vain
     ∙ ap (λ (v : JudgeValue). in_state v (counted v.state c.args.judging c.args.test c.args.given).0) c.self.view_is

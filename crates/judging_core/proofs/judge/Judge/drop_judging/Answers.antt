@@ -10,6 +10,7 @@ use Rattle.judging_core.specs.Holding.{IsHeldWell, AreOnEmptyCells}
 use Rattle.judging_core.proofs.Held.{some_held}
 use Rattle.judging_core.proofs.Cells.{some_cells, dropped_cells}
 use Rattle.judging_core.proofs.CellCount.{cells_changed}
+use Rattle.judging_core.proofs.Reported.{answers_kept}
 use Rattle.judging_core.proofs.judge.Judge.drop_judging.Goals as goal
 
 within : (judgings : List KeptJudging) (judge : JudgeValue) (n : ℕ) → judging_values judgings ≡ judge.state.judgings → n ≤ length judge.state.judgings → n ≤ length judgings
@@ -35,6 +36,7 @@ invariant_of-self c =
     let cells : AreOnEmptyCells (judging_values c.mark_dropped.new.judgings.items) c.end_judging.new.self.leases =
     rw (c.mark_dropped.ensures.value, c.end_judging.ensures.leases) (dropped_cells (judging_values at.judgings.items) (without_judging at.leases.leases c.args.judging) c.args.judging (some_cells (judging_values at.judgings.items) (λ x. not (eqb x.task.judging c.args.judging)) at.leases.leases c.self.invariant.cells)) in
     let counted : at.cells ≡ cells_in c.mark_dropped.new.judgings.items = c.self.invariant.counted ∙ sym (cells_changed at.judgings.items c.mark_dropped.new.judgings.items c.args.judging mark_dropped c.mark_dropped.ensures.value (λ x. refl)) in
+    let answered = answers_kept at.rule (judging_values at.judgings.items) (judging_values c.mark_dropped.new.judgings.items) c.args.judging mark_dropped at.answers.items c.self.invariant.answered c.mark_dropped.ensures.value (λ x. refl) in
     let size = c.unlist_judging.ensures.count in
     let ahead : (k : ℕ) → k ≤ length c.mark_dropped.new.judgings.items + length at.prepared.items → k ≤ 400000 → k ≤ length c.unlist_judging.new.tasks = ahead_kept (length at.judgings.items + length at.prepared.items) (length c.mark_dropped.new.judgings.items + length at.prepared.items) (length at.tasks) (length c.unlist_judging.new.tasks) c.self.invariant.ahead (omega (arith, c.mark_dropped.ensures.count)) (omega (arith, size)) in
     search rules

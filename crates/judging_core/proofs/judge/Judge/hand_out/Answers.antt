@@ -16,6 +16,7 @@ use Rattle.judging_core.proofs.Listed.{handed_hidden, open_there, short_rows, co
 use Rattle.judging_core.proofs.Held.{one_held, few_in_all, fewer_in_all}
 use Rattle.judging_core.proofs.Cells.{open_cell, open_free, handed_cells}
 use Rattle.judging_core.proofs.CellCount.{cells_changed, fewer_on_cells}
+use Rattle.judging_core.proofs.Reported.{answers_kept}
 use Rattle.judging_core.proofs.judge.Judge.hand_out.Goals as goal
 
 -- what is asked of the judge's value holds of its fields
@@ -69,6 +70,7 @@ invariant_of-self c =
     let listed : IsListed at.rule (judging_values c.mark_handed.new.judgings.items) c.grant.new.self.leases c.hide_task.new.self =
     rw (c.mark_handed.ensures.value, c.grant.ensures.leases, c.hide_task.ensures) (handed_hidden at.rule js at.leases.leases at.tasks task c.args.host until c.self.invariant.listed (has_room at task c.self.invariant opened)) in
     let counted : at.cells ≡ cells_in c.mark_handed.new.judgings.items = c.self.invariant.counted ∙ sym (cells_changed at.judgings.items c.mark_handed.new.judgings.items task.judging (mark_handed task.test) c.mark_handed.ensures.value (λ x. refl)) in
+    let answered = answers_kept at.rule js (judging_values c.mark_handed.new.judgings.items) task.judging (mark_handed task.test) at.answers.items c.self.invariant.answered c.mark_handed.ensures.value (λ x. refl) in
     let size : length c.hide_task.new.self ≡ length at.tasks = ap length c.hide_task.ensures ∙ size_shown at.tasks task false in
     let ahead : (k : ℕ) → k ≤ length c.mark_handed.new.judgings.items + length at.prepared.items → k ≤ 400000 → k ≤ length c.hide_task.new.self = ahead_kept (length at.judgings.items + length at.prepared.items) (length c.mark_handed.new.judgings.items + length at.prepared.items) (length at.tasks) (length c.hide_task.new.self) c.self.invariant.ahead (omega (arith, c.mark_handed.ensures.count)) (omega (arith, size)) in
     search rules
