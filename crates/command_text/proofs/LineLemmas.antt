@@ -1,17 +1,19 @@
 -- Lines that give an event.
-use Rattle.std.proofs.Common.{ℕ, ◌≡◌, ◌<◌, List, [], ◌∷◌, Option, Some, None, Ok, true, false, cond, refl, sym, ap, ◌∙◌, subst, length, arith}
+use Rattle.std.proofs.Common.{ℕ, ◌≡◌, List, [], ◌∷◌, Option, Some, None, true, false, cond, refl, sym, ap, ◌∙◌, subst}
 use Rattle.std.specs.Prelude.{codes}
 use Rattle.std.specs.Str.{bytes_eq}
 use Rattle.std.specs.Option.{option_map, option_or, is_some}
 use Rattle.farm_kinds.specs.declared.events.Event.{Event}
-use Rattle.std.proofs.lemmas.Bool.{cond-false}
+use Rattle.farm_kinds.specs.declared.events.Event.TheVariants as event
 use Rattle.std.proofs.lemmas.Slice.Eq.{bytes_eq-Decides}
+use Rattle.farm_kinds.specs.declared.kinds.Kind.{Kind}
+use Rattle.farm_kinds.specs.Kinds.{kind_named}
 use Rattle.farm_kinds.specs.Names.{name_read, jury}
 use Rattle.farm_model.specs.Numbers.{number_of}
 use Rattle.farm_model.specs.Words.{words}
-use Rattle.farm_model.specs.Grammar.{◌>>=◌, name_line, number_line, jury_event_of, host_event_of, other_event_of, unnamed_event_of, event_of, is_comment, event_or_bad, read_of_words, line_read}
+use Rattle.farm_model.specs.Grammar.{◌>>=◌, name_line, number_line, record_line, jury_event_of, host_event_of, other_event_of, unnamed_event_of, event_or_bad, read_of_words, line_read}
 use Rattle.command_text.specs.Alone.{name_alone, number_alone}
-use Rattle.command_text.specs.Listed.{listed, ListsSome}
+use Rattle.command_text.specs.Recorded.{recorded_of, entry_of}
 
 of_read : {A : Type 0} (e : A → Event) (read : Option A) → (read >>= (λ x. Some (e x))) ≡ option_map e read
 of_read e None = refl
@@ -28,18 +30,6 @@ pub number_line_by : (e : ℕ → Event) (ws : List (List ℕ)) → number_line 
 number_line_by e [] = refl
 number_line_by e (number ∷ []) = of_read e (number_of number)
 number_line_by e (number ∷ more ∷ ws) = refl
-
--- Lines that list something
-
-event_lists : (o : Option Event) → 0 < length (listed o) → ListsSome (event_or_bad o)
-event_lists None h = absurd (omega arith)
-event_lists (Some e) h = h
-
--- a line that is no comment
-pub line_lists : (text word : List ℕ) (ws : List (List ℕ)) → words text ≡ word ∷ ws → false ≡ is_comment word → 0 < length (listed (event_of word ws)) → ListsSome (line_read text)
-line_lists text word ws first plain h =
-    let read : line_read text ≡ event_or_bad (event_of word ws) = ap read_of_words first ∙ cond-false (is_comment word) (Ok None) (event_or_bad (event_of word ws)) (sym plain) in
-    subst ListsSome (sym read) (event_lists (event_of word ws) h)
 
 -- Each word begins the lines of one kind
 
@@ -104,3 +94,37 @@ pub jury_last : (word : List ℕ) (ws : List (List ℕ)) → false ≡ is_some (
 jury_last word ws other host =
     sym (ap (λ o. option_or (jury_event_of jury word ws) (option_or o (other_event_of word ws))) (is_none (host_event_of word ws) host)
     ∙ ap (λ o. option_or (jury_event_of jury word ws) o) (is_none (other_event_of word ws) other) ∙ or_none (jury_event_of jury word ws))
+
+-- The lines that are read first
+
+or_nones : (o : Option Event) → option_or None (option_or None o) ≡ o
+or_nones None = refl
+or_nones (Some e) = refl
+
+entry_read : (j t : Option ℕ) (k : Option Kind) → (j >>= (λ x. t >>= (λ y. k >>= (λ z. Some (event.Entry x y z))))) ≡ option_map entry_of (j >>= (λ x. t >>= (λ y. k >>= (λ z. Some (record { judging = x; test = y; kind = z })))))
+entry_read None t k = refl
+entry_read (Some x) None k = refl
+entry_read (Some x) (Some y) None = refl
+entry_read (Some x) (Some y) (Some z) = refl
+
+-- a line of a judging, a test and a kind
+pub record_line_by : (ws : List (List ℕ)) → record_line ws ≡ option_map entry_of (recorded_of ws)
+record_line_by [] = refl
+record_line_by (j ∷ []) = refl
+record_line_by (j ∷ t ∷ []) = refl
+record_line_by (j ∷ t ∷ k ∷ []) = entry_read (number_of j) (number_of t) (kind_named k)
+record_line_by (j ∷ t ∷ k ∷ more ∷ ws) = refl
+
+-- a line that begins with `record`
+pub record_first : (text word : List ℕ) (ws : List (List ℕ)) → words text ≡ word ∷ ws → true ≡ bytes_eq word (codes "record") → line_read text ≡ event_or_bad (option_map entry_of (recorded_of ws))
+record_first text word ws first same =
+    ap read_of_words first
+    ∙ ap (λ w. read_of_words (w ∷ ws)) ((bytes_eq-Decides word (codes "record")).0 (sym same))
+    ∙ ap event_or_bad (or_nones (record_line ws) ∙ record_line_by ws)
+
+-- a line that begins with `show`
+pub show_first : (text word : List ℕ) (ws : List (List ℕ)) → words text ≡ word ∷ ws → true ≡ bytes_eq word (codes "show") → line_read text ≡ event_or_bad (option_map event.Show (number_alone ws))
+show_first text word ws first same =
+    ap read_of_words first
+    ∙ ap (λ w. read_of_words (w ∷ ws)) ((bytes_eq-Decides word (codes "show")).0 (sym same))
+    ∙ ap event_or_bad (or_nones (number_line event.Show ws) ∙ number_line_by event.Show ws)

@@ -6,3 +6,4 @@ pub mod NextWord
 pub mod Parts
 pub mod WordList
 pub mod WordGroups
+pub mod Recorded

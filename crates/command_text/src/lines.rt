@@ -3,7 +3,8 @@ ghost use Rattle.farm_kinds.specs.Names.{jury};
 ghost use Rattle.farm_kinds.specs.declared.events.Event.TheVariants as event;
 ghost use Rattle.farm_kinds.specs.declared.events.LineFault.TheVariants as fault;
 ghost use Rattle.farm_model.specs.Words.{words};
-ghost use Rattle.farm_model.specs.Grammar.{class_named, broken_words, submit_words, submit_line, record_line, tick_line, number_line, host_event_of, other_event_of, unnamed_event_of, named_event_of, event_of, is_comment, line_read};
+ghost use Rattle.farm_model.specs.Grammar.{class_named, broken_words, submit_words, submit_line, record_line, tick_line, number_line, host_event_of, other_event_of, unnamed_event_of, named_event_of, event_of, is_comment, event_or_bad, line_read};
+ghost use Rattle.command_text.specs.Recorded.{recorded_of, entry_of};
 ghost use Rattle.command_text.specs.Listed.{listed, ListsSome};
 
 use crate::alone::{bare_line, number_alone};
@@ -73,9 +74,30 @@ fn submit_line(rest: &[u8]) -> Option<Event>
     })
 }
 
-/// What `record J T KIND` asks.
-fn record_line(rest: &[u8]) -> Option<Event>
-    ensures { result ≡ record_line (words rest.now) }
+/// A result from outside.
+#[derive(Clone, Copy)]
+struct Recorded {
+    judging: u32,
+    test: u32,
+    kind: Kind,
+}
+
+impl Recorded {
+    /// The event that it is.
+    fn event(self) -> Event
+        ensures { result ≡ entry_of self }
+    {
+        Event::Entry {
+            judging: self.judging,
+            test: self.test,
+            kind: self.kind,
+        }
+    }
+}
+
+/// What `record J T KIND` says.
+fn read_recorded(rest: &[u8]) -> Option<Recorded>
+    ensures { result ≡ recorded_of (words rest.now) }
 {
     let (judging, rest) = next_word(rest)?;
     let (test, rest) = next_word(rest)?;
@@ -86,11 +108,20 @@ fn record_line(rest: &[u8]) -> Option<Event>
     let judging = read_number(judging)?;
     let test = read_number(test)?;
     let kind = Kind::read(kind)?;
-    Some(Event::Entry {
+    Some(Recorded {
         judging,
         test,
         kind,
     })
+}
+
+/// What `record J T KIND` asks.
+#[tactic(auto, using(crate::proofs::LineLemmas::record_line_by))]
+fn record_line(rest: &[u8]) -> Option<Event>
+    ensures { result ≡ record_line (words rest.now) }
+{
+    let said = read_recorded(rest)?;
+    Some(said.event())
 }
 
 /// What `tick N` asks.
@@ -212,9 +243,22 @@ fn is_comment(word: &[u8]) -> bool
     }
 }
 
-/// What the line asks: None for an empty line or a comment.
+/// What a line asks that begins with this word, and is no comment.
+fn read_event(alloc: Global, word: &[u8], rest: &[u8]) -> Result<Option<Event>, LineFault>
+    ensures read { result ≢ Err fault.NoMemory → result ≡ event_or_bad (event_of word.now (words rest.now)) }
+    ensures wanted { result ≡ Err fault.NoMemory → 0 < length (listed (event_of word.now (words rest.now))) }
+{
+    match event_of(alloc, word, rest) {
+        Ok(Some(event)) => Ok(Some(event)),
+        Ok(None) => Err(LineFault::BadLine),
+        Err(NoMemory) => Err(LineFault::NoMemory),
+    }
+}
+
+/// What the line asks: None for an empty line or a comment. The most frequent lines are read first.
 ///
 /// Memory is taken for the list of a rejudging only, once each of its numbers is read.
+#[tactic(auto, using(crate::proofs::LineLemmas::record_first, crate::proofs::LineLemmas::show_first))]
 pub fn read_line(alloc: Global, text: &[u8]) -> Result<Option<Event>, LineFault>
     ensures read { result ≢ Err fault.NoMemory → result ≡ line_read text.now }
     ensures wanted { result ≡ Err fault.NoMemory → ListsSome (line_read text.now) }
@@ -222,12 +266,20 @@ pub fn read_line(alloc: Global, text: &[u8]) -> Result<Option<Event>, LineFault>
     let Some((word, rest)) = next_word(text) else {
         return Ok(None);
     };
+    if word == b"record".as_slice() {
+        return match read_recorded(rest) {
+            Some(said) => Ok(Some(said.event())),
+            None => Err(LineFault::BadLine),
+        };
+    }
+    if word == b"show".as_slice() {
+        return match number_alone(rest) {
+            Some(judging) => Ok(Some(Event::Show { judging })),
+            None => Err(LineFault::BadLine),
+        };
+    }
     if is_comment(word) {
         return Ok(None);
     }
-    match event_of(alloc, word, rest) {
-        Ok(Some(event)) => Ok(Some(event)),
-        Ok(None) => Err(LineFault::BadLine),
-        Err(NoMemory) => Err(LineFault::NoMemory),
-    }
+    read_event(alloc, word, rest)
 }
