@@ -2,25 +2,36 @@ ghost use Rattle.std.specs.Prelude.{◌≡◌, ◌++◌, ◌∷◌, [], ℕ, Lis
 ghost use Rattle.std.specs.Fmt.{decimal};
 ghost use Rattle.std.specs.List.{join_with_byte};
 ghost use Rattle.hex.specs.Hex.{encode_lower};
+ghost use Rattle.farm_kinds.specs.declared.outcomes.Answer.TheVariants as answers;
 ghost use Rattle.farm_model.specs.Texts.{shown_words, list_words, how_text, reply_words, rows_text, reply_text, line_of, bad_line_words, too_long_words};
 ghost use Rattle.command_text.specs.WordGroups.{host_words, refusal_words};
 ghost use Rattle.command_text.specs.WordList.{spaced, commas};
 
 use crate::rows::{push_rows, verdict_text};
 use crate::texts::{end_line, push, push_decimal, push_number, push_spaced, push_words};
-use farm_kinds::{Answer, How, Name, NoMemory, Reply, Task, Text};
+use farm_kinds::{Answer, How, Name, NoMemory, Reply, Task, Text, Verdict};
 use itoa::Buffer;
 use std::alloc::Global;
 
-/// Puts what is reported of a judging.
+/// Puts a verdict that is final. At `NoMemory` a part of it may be there.
+fn push_final(out: &mut Vec<u8>, verdict: Verdict) -> Result<(), NoMemory>
+    ensures ok { OnOk result (out.new.items ≡ out.old.items
+        ++ join_with_byte 32 (shown_words (answers.Final verdict))) }
+    ensures err { OnErr result (take (length out.old.items) out.new.items ≡ out.old.items) }
+{
+    push(out, b"final ")?;
+    push(out, verdict_text(verdict).as_bytes())
+}
+
+/// Puts what is reported of a judging. At `NoMemory` a part of it may be there.
 fn push_shown(out: &mut Vec<u8>, answer: Answer) -> Result<(), NoMemory>
     ensures ok { OnOk result (out.new.items ≡ out.old.items
         ++ join_with_byte 32 (shown_words answer)) }
-    ensures err { OnErr result (out.new.items ≡ out.old.items) }
+    ensures err { OnErr result (take (length out.old.items) out.new.items ≡ out.old.items) }
 {
     match answer {
-        Answer::Final(verdict) => push_words(out, &[b"final", verdict_text(verdict).as_bytes()]),
-        Answer::Pending => push_words(out, &[b"pending"]),
+        Answer::Final(verdict) => push_final(out, verdict),
+        Answer::Pending => push(out, b"pending"),
     }
 }
 
@@ -222,9 +233,9 @@ fn push_refusal_words(out: &mut Vec<u8>, reply: &Reply) -> Result<(), NoMemory>
         Reply::Holding { limit } => push_number(out, b"holding", u64::from(*limit)),
         Reply::NoJudging { judging } => push_number(out, b"no-judging", u64::from(*judging)),
         Reply::NoTest { test } => push_number(out, b"no-test", u64::from(*test)),
-        Reply::NotHanded => push_words(out, &[b"not-handed"]),
-        Reply::NoLease => push_words(out, &[b"no-lease"]),
-        Reply::EmptySet => push_words(out, &[b"empty-set"]),
+        Reply::NotHanded => push(out, b"not-handed"),
+        Reply::NoLease => push(out, b"no-lease"),
+        Reply::EmptySet => push(out, b"empty-set"),
         Reply::NoSubmission { submission } => {
             push_number(out, b"no-submission", u64::from(*submission))
         }
@@ -257,8 +268,8 @@ fn push_host_words(out: &mut Vec<u8>, reply: &Reply) -> Result<(), NoMemory>
             tests,
             until,
         } => push_batch(out, *judging, tests.as_slice(), *until),
-        Reply::Nothing => push_words(out, &[b"nothing"]),
-        Reply::Counted => push_words(out, &[b"counted"]),
+        Reply::Nothing => push(out, b"nothing"),
+        Reply::Counted => push(out, b"counted"),
         Reply::Repeat { kept } => push_words(out, &[b"repeat", kept.name().as_bytes()]),
         Reply::Differs { kept, given } => {
             push_words(
@@ -266,7 +277,7 @@ fn push_host_words(out: &mut Vec<u8>, reply: &Reply) -> Result<(), NoMemory>
                 &[b"differs", kept.name().as_bytes(), given.name().as_bytes()],
             )
         }
-        Reply::Dropped => push_words(out, &[b"dropped"]),
+        Reply::Dropped => push(out, b"dropped"),
         Reply::Until { until } => push_number(out, b"until", *until),
         Reply::Ended { count } => push_number(out, b"ended", u64::from(*count)),
         _ => push_refusal_words(out, reply),
