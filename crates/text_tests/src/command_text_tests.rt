@@ -1,4 +1,5 @@
 use crate::names::name;
+use crate::rows::parts_of;
 use crate::written::read_and_written;
 use command_text::{
     push_bad_line, push_reply, push_too_long, read_line, write_event, write_event_words,
@@ -6,65 +7,74 @@ use command_text::{
 };
 use farm_kinds::{
     Answer, Answers, Class, Event, Few, How, Kind, LineFault, MatrixRow, MatrixRows, NoMemory,
-    Reply, TableRow, TableRows, Task, Verdict,
+    Reply, TableRow, TableRows, Task, Text, Verdict,
 };
+use std::alloc::Global;
+use std::process::Abort;
 use std::test::Fail;
+
+/// Lines that are written as they are read.
+const LINES: &str = concat!(
+    "problem A 2\n",
+    "replace A 4294967295\n",
+    "host h1\n",
+    "submit A\n",
+    "submit A high\n",
+    "submit A low broken\n",
+    "submit A broken\n",
+    "claim h1\n",
+    "fetch h1 1\n",
+    "fetch h1 16\n",
+    "result h1 1 2 wrong-answer\n",
+    "record 1 2 run-error\n",
+    "renew h1 1 2\n",
+    "tick 999999999999999999\n",
+    "down h1\n",
+    "show 0\n",
+    "owner 4294967295\n",
+    "board\n",
+    "rejudge\n",
+    "rejudge 7\n",
+    "rejudge 3,4294967295,0\n",
+    "matrix 1\n",
+    "apply 1\n",
+    "cancel 2\n",
+    "verify 3\n",
+    "ask 3\n",
+    "audit\n",
+    "@ann problem A 2\n",
+    "@ann replace A 3\n",
+    "@ann rejudge\n",
+    "@ann rejudge 2,1\n",
+    "@ann apply 1\n",
+    "@ann cancel 2\n",
+    "@ann verify 1\n",
+    "@ann ask 1\n",
+);
 
 #[test]
 fn each_line_is_read_and_written_again(rt: HostRuntime) -> Result<(), Fail> {
-    for line in [
-        b"problem A 2".as_slice(),
-        b"replace A 4294967295",
-        b"host h1",
-        b"submit A",
-        b"submit A high",
-        b"submit A low broken",
-        b"submit A broken",
-        b"claim h1",
-        b"fetch h1 1",
-        b"fetch h1 16",
-        b"result h1 1 2 wrong-answer",
-        b"record 1 2 run-error",
-        b"renew h1 1 2",
-        b"tick 999999999999999999",
-        b"down h1",
-        b"show 0",
-        b"owner 4294967295",
-        b"board",
-        b"rejudge",
-        b"rejudge 7",
-        b"rejudge 3,4294967295,0",
-        b"matrix 1",
-        b"apply 1",
-        b"cancel 2",
-        b"verify 3",
-        b"ask 3",
-        b"audit",
-        b"@ann problem A 2",
-        b"@ann replace A 3",
-        b"@ann rejudge",
-        b"@ann rejudge 2,1",
-        b"@ann apply 1",
-        b"@ann cancel 2",
-        b"@ann verify 1",
-        b"@ann ask 1",
-    ] {
-        let text = read_and_written(rt.alloc(), line)?;
-        assert!(rt; text.as_slice() == line);
+    for line in LINES.lines() {
+        let text = read_and_written(rt.alloc(), line.as_bytes())?;
+        assert!(rt; text.as_slice() == line.as_bytes(), "{line}");
     }
     Ok(())
 }
 
+/// Lines, and how they are written again.
+const SHORTER_LINES: &str = concat!(
+    "  tick   60   => tick 60\n",
+    "submit A normal => submit A\n",
+    "submit A normal broken => submit A broken\n",
+    "@jury verify 1 => verify 1\n",
+);
+
 #[test]
 fn spaces_a_normal_class_and_the_jury_are_left_out(rt: HostRuntime) -> Result<(), Fail> {
-    for (line, want) in [
-        (b"  tick   60  ".as_slice(), b"tick 60".as_slice()),
-        (b"submit A normal", b"submit A"),
-        (b"submit A normal broken", b"submit A broken"),
-        (b"@jury verify 1", b"verify 1"),
-    ] {
-        let text = read_and_written(rt.alloc(), line)?;
-        assert!(rt; text.as_slice() == want);
+    for row in SHORTER_LINES.lines() {
+        let (line, want) = parts_of(row);
+        let text = read_and_written(rt.alloc(), line.as_bytes())?;
+        assert!(rt; text.as_slice() == want.as_bytes(), "{line}");
     }
     Ok(())
 }
@@ -106,66 +116,75 @@ fn no_line_gives_no_event(rt: HostRuntime) {
     }
 }
 
+/// Lines that are none of the grammar's.
+const BAD_LINES: &str = concat!(
+    "problem A\n",
+    "problem A 02\n",
+    "replace A 4294967296\n",
+    "replace A.B 2\n",
+    "host\n",
+    "host h1 h2\n",
+    "submit\n",
+    "submit A high low\n",
+    "submit A broken low\n",
+    "submit A low broken broken\n",
+    "claim\n",
+    "fetch h1\n",
+    "fetch h1 0\n",
+    "fetch h1 17\n",
+    "fetch h1 02\n",
+    "fetch h1 1 1\n",
+    "@ann fetch h1 1\n",
+    "owner\n",
+    "result h1 1 2\n",
+    "result h1 1 2 good\n",
+    "record 1 2\n",
+    "record 1 -2 correct\n",
+    "renew h1 1\n",
+    "tick 1000000000000000000\n",
+    "tick\n",
+    "down h1 h1\n",
+    "show x\n",
+    "show 1 #\n",
+    "Show 1\n",
+    "@jury show 1\n",
+    "@\n",
+    "@ verify 1\n",
+    "@ann\n",
+    "@a.b verify 1\n",
+    "@ann claim h1\n",
+    "@ann submit A\n",
+    "@ann board\n",
+    "@ann @ann verify 1\n",
+    "board 1\n",
+    "audit 1\n",
+    "matrix\n",
+    "matrix 1 2\n",
+    "apply\n",
+    "verify -1\n",
+    "ask\n",
+    "ask 1 2\n",
+    "rejudge 1 2\n",
+    "rejudge ,\n",
+    "rejudge 1,\n",
+    "rejudge ,1\n",
+    "rejudge 1,,2\n",
+    "rejudge 1,02\n",
+    "rejudge 1,x\n",
+    "rejudge 1;2\n",
+    "rejudge 4294967296\n",
+);
+
 #[test]
 fn other_lines_are_bad(rt: HostRuntime) {
-    for line in [
-        b"problem A".as_slice(),
-        b"problem A 02",
-        b"replace A 4294967296",
-        b"replace A.B 2",
-        b"host",
-        b"host h1 h2",
-        b"submit",
-        b"submit A high low",
-        b"submit A broken low",
-        b"submit A low broken broken",
-        b"claim",
-        b"fetch h1",
-        b"fetch h1 0",
-        b"fetch h1 17",
-        b"fetch h1 02",
-        b"fetch h1 1 1",
-        b"@ann fetch h1 1",
-        b"owner",
-        b"result h1 1 2",
-        b"result h1 1 2 good",
-        b"record 1 2",
-        b"record 1 -2 correct",
-        b"renew h1 1",
-        b"tick 1000000000000000000",
-        b"tick",
-        b"down h1 h1",
-        b"show x",
-        b"show 1 #",
-        b"Show 1",
-        b"@jury show 1",
-        b"@",
-        b"@ verify 1",
-        b"@ann",
-        b"@a.b verify 1",
-        b"@ann claim h1",
-        b"@ann submit A",
-        b"@ann board",
-        b"@ann @ann verify 1",
-        b"board 1",
-        b"audit 1",
-        b"matrix",
-        b"matrix 1 2",
-        b"apply",
-        b"verify -1",
-        b"ask",
-        b"ask 1 2",
-        b"rejudge 1 2",
-        b"rejudge ,",
-        b"rejudge 1,",
-        b"rejudge ,1",
-        b"rejudge 1,,2",
-        b"rejudge 1,02",
-        b"rejudge 1,x",
-        b"rejudge 1;2",
-        b"rejudge 4294967296",
-    ] {
-        assert!(rt; matches!(read_line(rt.alloc(), line), Err(LineFault::BadLine)));
+    for line in BAD_LINES.lines() {
+        assert!(rt;
+            matches!(
+                read_line(rt.alloc(), line.as_bytes()),
+                Err(LineFault::BadLine)
+            ),
+            "{line}"
+        );
     }
 }
 
@@ -213,130 +232,149 @@ fn who_acts_is_written_where_it_is_not_the_jury(rt: HostRuntime) -> Result<(), F
     Ok(())
 }
 
-#[test]
-fn each_reply_has_its_words(rt: HostRuntime) -> Result<(), Fail> {
-    let task = Task {
-        judging: 1,
-        test: 1,
-    };
-    let mut tests = Few::of(1);
-    tests.push(1_000);
-    let cases = [
-        (
-            Reply::Problem {
-                name: name(b"A"),
-                version: 2,
-            },
-            b"problem A version 2".as_slice(),
-        ),
-        (Reply::Host { name: name(b"h1") }, b"host h1"),
-        (
-            Reply::Submitted {
-                submission: 1,
-                judging: 3,
-            },
-            b"submission 1 judging 3",
-        ),
-        (Reply::Handed { task, until: 60 }, b"task 1 1 until 60"),
-        (
-            Reply::Batch {
-                judging: 1,
-                tests,
-                until: 60,
-            },
-            b"batch 1 1,1000 until 60",
-        ),
-        (Reply::Owned { submission: 7 }, b"owner 7"),
-        (Reply::Nothing, b"nothing"),
-        (Reply::Counted, b"counted"),
-        (
-            Reply::Repeat {
-                kept: Kind::Correct,
-            },
-            b"repeat correct",
-        ),
-        (
-            Reply::Differs {
-                kept: Kind::Correct,
-                given: Kind::NoOutput,
-            },
-            b"differs correct no-output",
-        ),
-        (Reply::Dropped, b"dropped"),
-        (Reply::Until { until: 120 }, b"until 120"),
-        (Reply::Ended { count: 2 }, b"ended 2"),
-        (Reply::Shown(Answer::Pending), b"pending"),
-        (
-            Reply::Shown(Answer::Final(Verdict::CompilerError)),
-            b"final compiler-error",
-        ),
-        (
-            Reply::Rejudging {
-                number: 1,
-                first: 4,
-                last: 6,
-            },
-            b"rejudging 1 judgings 4 to 6",
-        ),
-        (Reply::Applied { members: 3 }, b"applied 3"),
-        (Reply::Cancelled { members: 2 }, b"cancelled 2"),
-        (Reply::Verified { judging: 5 }, b"verified 5"),
-        (
-            Reply::Audit {
-                count: 2,
-                head: [0xaf; 32],
-            },
-            b"audit 2 afafafafafafafafafafafafafafafafafafafafafafafafafafafafafafafaf",
-        ),
-    ];
-    for (reply, want) in cases {
-        let text = write_reply(rt.alloc(), &reply)?;
-        assert!(rt; text.as_slice() == want);
+/// The lines that are written for a reply.
+fn text_of(alloc: Global, reply: Reply) -> Result<Text, NoMemory> {
+    write_reply(alloc, &reply)
+}
+
+/// Checks that these are the lines that are written for a reply.
+fn check_reply<R: Abort + AllocGlobal>(rt: &R, reply: Reply, want: &str) {
+    match text_of(rt.alloc(), reply) {
+        Ok(text) => assert_eq!(rt; text.as_slice(), want.as_bytes(), "{want}"),
+        Err(NoMemory) => panic!(rt; "no memory for {want}"),
     }
-    Ok(())
 }
 
 #[test]
-fn each_refusal_has_its_words(rt: HostRuntime) -> Result<(), Fail> {
-    let cases = [
-        (Reply::BadTests { tests: 0 }, b"bad-tests 0".as_slice()),
-        (Reply::Known { name: name(b"A") }, b"known A"),
-        (Reply::NoProblem { name: name(b"B") }, b"no-problem B"),
-        (Reply::NoHost { name: name(b"h1") }, b"no-host h1"),
-        (Reply::Full { limit: 64 }, b"full 64"),
-        (Reply::Holding { limit: 64 }, b"holding 64"),
-        (Reply::NoJudging { judging: 9 }, b"no-judging 9"),
-        (Reply::NoTest { test: 3 }, b"no-test 3"),
-        (Reply::NotHanded, b"not-handed"),
-        (Reply::NoLease, b"no-lease"),
-        (Reply::EmptySet, b"empty-set"),
-        (Reply::NoSubmission { submission: 9 }, b"no-submission 9"),
-        (Reply::Twice { submission: 1 }, b"twice 1"),
-        (Reply::NotFinal { number: 2 }, b"not-final 2"),
-        (
-            Reply::Busy {
-                submission: 3,
-                rejudging: 1,
+fn each_reply_has_its_words(rt: HostRuntime) {
+    let mut tests = Few::of(1);
+    tests.push(1_000);
+    check_reply(
+        &rt,
+        Reply::Problem {
+            name: name(b"A"),
+            version: 2,
+        },
+        "problem A version 2",
+    );
+    check_reply(&rt, Reply::Host { name: name(b"h1") }, "host h1");
+    check_reply(
+        &rt,
+        Reply::Submitted {
+            submission: 1,
+            judging: 3,
+        },
+        "submission 1 judging 3",
+    );
+    check_reply(
+        &rt,
+        Reply::Handed {
+            task: Task {
+                judging: 1,
+                test: 1,
             },
-            b"busy 3 1",
-        ),
-        (Reply::NoRejudging { rejudging: 8 }, b"no-rejudging 8"),
-        (Reply::Closed { how: How::Applied }, b"closed applied"),
-        (
-            Reply::Closed {
-                how: How::Cancelled,
-            },
-            b"closed cancelled",
-        ),
-        (Reply::Unfinished { judging: 4 }, b"unfinished 4"),
-        (Reply::Already { judging: 5 }, b"already 5"),
-        (Reply::NoMemory, b""),
-    ];
-    for (reply, want) in cases {
-        let text = write_reply(rt.alloc(), &reply)?;
-        assert!(rt; text.as_slice() == want);
-    }
-    Ok(())
+            until: 60,
+        },
+        "task 1 1 until 60",
+    );
+    check_reply(
+        &rt,
+        Reply::Batch {
+            judging: 1,
+            tests,
+            until: 60,
+        },
+        "batch 1 1,1000 until 60",
+    );
+    check_reply(&rt, Reply::Owned { submission: 7 }, "owner 7");
+    check_reply(&rt, Reply::Nothing, "nothing");
+    check_reply(&rt, Reply::Counted, "counted");
+    check_reply(
+        &rt,
+        Reply::Repeat {
+            kept: Kind::Correct,
+        },
+        "repeat correct",
+    );
+    check_reply(
+        &rt,
+        Reply::Differs {
+            kept: Kind::Correct,
+            given: Kind::NoOutput,
+        },
+        "differs correct no-output",
+    );
+    check_reply(&rt, Reply::Dropped, "dropped");
+    check_reply(&rt, Reply::Until { until: 120 }, "until 120");
+    check_reply(&rt, Reply::Ended { count: 2 }, "ended 2");
+    check_reply(&rt, Reply::Shown(Answer::Pending), "pending");
+    check_reply(
+        &rt,
+        Reply::Shown(Answer::Final(Verdict::CompilerError)),
+        "final compiler-error",
+    );
+    check_reply(
+        &rt,
+        Reply::Rejudging {
+            number: 1,
+            first: 4,
+            last: 6,
+        },
+        "rejudging 1 judgings 4 to 6",
+    );
+    check_reply(&rt, Reply::Applied { members: 3 }, "applied 3");
+    check_reply(&rt, Reply::Cancelled { members: 2 }, "cancelled 2");
+    check_reply(&rt, Reply::Verified { judging: 5 }, "verified 5");
+    check_reply(
+        &rt,
+        Reply::Audit {
+            count: 2,
+            head: [0xaf; 32],
+        },
+        "audit 2 afafafafafafafafafafafafafafafafafafafafafafafafafafafafafafafaf",
+    );
+}
+
+#[test]
+fn each_refusal_has_its_words(rt: HostRuntime) {
+    check_reply(&rt, Reply::BadTests { tests: 0 }, "bad-tests 0");
+    check_reply(&rt, Reply::Known { name: name(b"A") }, "known A");
+    check_reply(&rt, Reply::NoProblem { name: name(b"B") }, "no-problem B");
+    check_reply(&rt, Reply::NoHost { name: name(b"h1") }, "no-host h1");
+    check_reply(&rt, Reply::Full { limit: 64 }, "full 64");
+    check_reply(&rt, Reply::Holding { limit: 64 }, "holding 64");
+    check_reply(&rt, Reply::NoJudging { judging: 9 }, "no-judging 9");
+    check_reply(&rt, Reply::NoTest { test: 3 }, "no-test 3");
+    check_reply(&rt, Reply::NotHanded, "not-handed");
+    check_reply(&rt, Reply::NoLease, "no-lease");
+    check_reply(&rt, Reply::EmptySet, "empty-set");
+    check_reply(
+        &rt,
+        Reply::NoSubmission { submission: 9 },
+        "no-submission 9",
+    );
+    check_reply(&rt, Reply::Twice { submission: 1 }, "twice 1");
+    check_reply(&rt, Reply::NotFinal { number: 2 }, "not-final 2");
+    check_reply(
+        &rt,
+        Reply::Busy {
+            submission: 3,
+            rejudging: 1,
+        },
+        "busy 3 1",
+    );
+    check_reply(&rt, Reply::NoRejudging { rejudging: 8 }, "no-rejudging 8");
+    check_reply(&rt, Reply::Closed { how: How::Applied }, "closed applied");
+    check_reply(
+        &rt,
+        Reply::Closed {
+            how: How::Cancelled,
+        },
+        "closed cancelled",
+    );
+    check_reply(&rt, Reply::Unfinished { judging: 4 }, "unfinished 4");
+    check_reply(&rt, Reply::Already { judging: 5 }, "already 5");
+    check_reply(&rt, Reply::NoMemory, "");
 }
 
 #[test]
@@ -366,11 +404,9 @@ fn a_board_has_a_line_for_each_submission(rt: HostRuntime) -> Result<(), Fail> {
 }
 
 #[test]
-fn an_empty_board_has_its_last_line_alone(rt: HostRuntime) -> Result<(), Fail> {
+fn an_empty_board_has_its_last_line_alone(rt: HostRuntime) {
     let rows = Answers::new(rt.alloc());
-    let text = write_reply(rt.alloc(), &Reply::Board { rows })?;
-    assert!(rt; text.as_slice() == b"board 0".as_slice());
-    Ok(())
+    check_reply(&rt, Reply::Board { rows }, "board 0");
 }
 
 #[test]
@@ -386,10 +422,10 @@ fn a_matrix_has_the_old_answer_before_the_new_one(rt: HostRuntime) -> Result<(),
         new: Answer::Pending,
         count: 1,
     })?;
-    let reply = Reply::Matrix { rows, members: 3 };
-    let text = write_reply(rt.alloc(), &reply)?;
-    assert!(rt;
-        text.as_slice() == b"wrong-answer correct 2\ncorrect pending 1\nmatrix 3".as_slice()
+    check_reply(
+        &rt,
+        Reply::Matrix { rows, members: 3 },
+        "wrong-answer correct 2\ncorrect pending 1\nmatrix 3",
     );
     Ok(())
 }

@@ -1,4 +1,5 @@
-use farm_kinds::{Kind, Mode, NoMemory, ProblemMode, Rule};
+use crate::rows::{bytes_of, parts_of, text_of};
+use farm_kinds::{Kind, NamedMode, NoMemory, Rule};
 use farm_settings::{
     Setting, Settings, SettingsErr, SettingsFault, read_settings, worked_faults, worked_texts,
     worked_values,
@@ -22,133 +23,102 @@ fn fault_text(alloc: Global, text: &[u8]) -> Result<Vec<u8>, AllocError> {
         Err(SettingsErr::Bad(SettingsFault::UnknownKey { key })) => (b"unknown ".as_slice(), key),
         Err(SettingsErr::Bad(SettingsFault::BadValue { key })) => (b"bad ".as_slice(), key),
     };
-    let mut shown = word.to_vec(alloc)?;
-    shown.extend_from_slice(key.as_slice())?;
-    Ok(shown)
+    text_of(alloc, &[(word, 1), (key.as_slice(), 1)])
 }
 
-const FAULTS: [(&[u8], &[u8]); 57] = [
-    (b"", b"not json"),
-    (b" ", b"not json"),
-    (b"lease", b"not json"),
-    (b"{\"lease\":60", b"not json"),
-    (b"{\"lease\":60,}", b"not json"),
-    (b"{\"lease\":060}", b"not json"),
-    (b"{} {}", b"not json"),
-    (b"[]", b"not json"),
-    (b"60", b"not json"),
-    (b"null", b"not json"),
-    (b"\xef\xbb\xbf{}", b"not json"),
-    (b"{\"\xff\":1}", b"not json"),
-    (b"{}", b"none"),
-    (b" {\n\t} \r\n", b"none"),
-    (b"{\"leases\":60}", b"unknown leases"),
-    (b"{\"Lease\":60}", b"unknown Lease"),
-    (b"{\"\":60}", b"unknown "),
-    (
-        b"{\"results_prio\":{\"compiler-error\":1}}",
-        b"unknown compiler-error",
-    ),
-    (
-        b"{\"results_remap\":{\"Correct\":\"correct\"}}",
-        b"unknown Correct",
-    ),
-    (b"{\"lease\":0}", b"bad lease"),
-    (b"{\"lease\":1}", b"none"),
-    (b"{\"lease\":1000000}", b"none"),
-    (b"{\"lease\":1000001}", b"bad lease"),
-    (b"{\"lease\":-1}", b"bad lease"),
-    (b"{\"lease\":-0}", b"bad lease"),
-    (b"{\"lease\":60.0}", b"bad lease"),
-    (b"{\"lease\":6e1}", b"bad lease"),
-    (b"{\"lease\":18446744073709551676}", b"bad lease"),
-    (b"{\"lease\":\"60\"}", b"bad lease"),
-    (b"{\"lease\":null}", b"bad lease"),
-    (
-        b"{\"instructions_per_second\":999}",
-        b"bad instructions_per_second",
-    ),
-    (b"{\"instructions_per_second\":1000}", b"none"),
-    (b"{\"instructions_per_second\":100000000}", b"none"),
-    (
-        b"{\"instructions_per_second\":100000001}",
-        b"bad instructions_per_second",
-    ),
-    (b"{\"lazy_eval_results\":1}", b"bad lazy_eval_results"),
-    (b"{\"lazy_eval_results\":null}", b"bad lazy_eval_results"),
-    (
-        b"{\"verification_required\":\"true\"}",
-        b"bad verification_required",
-    ),
-    (b"{\"results_prio\":[]}", b"bad results_prio"),
-    (
-        b"{\"results_prio\":{\"correct\":0,\"timelimit\":999}}",
-        b"none",
-    ),
-    (b"{\"results_prio\":{\"correct\":1000}}", b"bad correct"),
-    (b"{\"results_prio\":{\"run-error\":null}}", b"bad run-error"),
-    (b"{\"results_remap\":null}", b"bad results_remap"),
-    (
-        b"{\"results_remap\":{\"run-error\":\"wrong-answer\"}}",
-        b"none",
-    ),
-    (
-        b"{\"results_remap\":{\"run-error\":\"fine\"}}",
-        b"bad run-error",
-    ),
-    (b"{\"results_remap\":{\"run-error\":1}}", b"bad run-error"),
-    (b"{\"problem_modes\":[]}", b"bad problem_modes"),
-    (
-        b"{\"problem_modes\":{\"A\":\"on-demand\",\"b-2\":\"full\",\"c_\":\"lazy\"}}",
-        b"none",
-    ),
-    (b"{\"problem_modes\":{\"A\":\"ondemand\"}}", b"bad A"),
-    (b"{\"problem_modes\":{\"A\":null}}", b"bad A"),
-    (b"{\"problem_modes\":{\"A b\":\"lazy\"}}", b"unknown A b"),
-    (b"{\"problem_modes\":{\"\":\"lazy\"}}", b"unknown "),
-    (b"{\"lease\":0,\"lease\":60}", b"none"),
-    (b"{\"lease\":60,\"lease\":0}", b"bad lease"),
-    (
-        b"{\"results_prio\":{\"correct\":1000,\"correct\":1}}",
-        b"none",
-    ),
-    (b"{\"results_prio\":{\"fine\":1},\"lease\":0}", b"bad lease"),
-    (
-        b"{\"results_prio\":{\"z\":1,\"correct\":-1},\"z\":0}",
-        b"bad correct",
-    ),
-    (
-        b"{\"lease\":0,\"instructions_per_second\":0,\"a\":1}",
-        b"unknown a",
-    ),
-];
+/// Texts, as `bytes_of` reads them, and their faults.
+const FAULTS: &str = concat!(
+    " => not json\n",
+    "  => not json\n",
+    "lease => not json\n",
+    "{\"lease\":60 => not json\n",
+    "{\"lease\":60,} => not json\n",
+    "{\"lease\":060} => not json\n",
+    "{} {} => not json\n",
+    "[] => not json\n",
+    "60 => not json\n",
+    "null => not json\n",
+    "\u{feff}{} => not json\n",
+    "{\"^\":1} => not json\n",
+    "{} => none\n",
+    " {~\t} \r~ => none\n",
+    "{\"leases\":60} => unknown leases\n",
+    "{\"Lease\":60} => unknown Lease\n",
+    "{\"\":60} => unknown \n",
+    "{\"results_prio\":{\"compiler-error\":1}} => unknown compiler-error\n",
+    "{\"results_remap\":{\"Correct\":\"correct\"}} => unknown Correct\n",
+    "{\"lease\":0} => bad lease\n",
+    "{\"lease\":1} => none\n",
+    "{\"lease\":1000000} => none\n",
+    "{\"lease\":1000001} => bad lease\n",
+    "{\"lease\":-1} => bad lease\n",
+    "{\"lease\":-0} => bad lease\n",
+    "{\"lease\":60.0} => bad lease\n",
+    "{\"lease\":6e1} => bad lease\n",
+    "{\"lease\":18446744073709551676} => bad lease\n",
+    "{\"lease\":\"60\"} => bad lease\n",
+    "{\"lease\":null} => bad lease\n",
+    "{\"instructions_per_second\":999} => bad instructions_per_second\n",
+    "{\"instructions_per_second\":1000} => none\n",
+    "{\"instructions_per_second\":100000000} => none\n",
+    "{\"instructions_per_second\":100000001} => bad instructions_per_second\n",
+    "{\"lazy_eval_results\":1} => bad lazy_eval_results\n",
+    "{\"lazy_eval_results\":null} => bad lazy_eval_results\n",
+    "{\"verification_required\":\"true\"} => bad verification_required\n",
+    "{\"results_prio\":[]} => bad results_prio\n",
+    "{\"results_prio\":{\"correct\":0,\"timelimit\":999}} => none\n",
+    "{\"results_prio\":{\"correct\":1000}} => bad correct\n",
+    "{\"results_prio\":{\"run-error\":null}} => bad run-error\n",
+    "{\"results_remap\":null} => bad results_remap\n",
+    "{\"results_remap\":{\"run-error\":\"wrong-answer\"}} => none\n",
+    "{\"results_remap\":{\"run-error\":\"fine\"}} => bad run-error\n",
+    "{\"results_remap\":{\"run-error\":1}} => bad run-error\n",
+    "{\"problem_modes\":[]} => bad problem_modes\n",
+    "{\"problem_modes\":{\"A\":\"on-demand\",\"b-2\":\"full\",\"c_\":\"lazy\"}} => none\n",
+    "{\"problem_modes\":{\"A\":\"ondemand\"}} => bad A\n",
+    "{\"problem_modes\":{\"A\":null}} => bad A\n",
+    "{\"problem_modes\":{\"A b\":\"lazy\"}} => unknown A b\n",
+    "{\"problem_modes\":{\"\":\"lazy\"}} => unknown \n",
+    "{\"lease\":0,\"lease\":60} => none\n",
+    "{\"lease\":60,\"lease\":0} => bad lease\n",
+    "{\"results_prio\":{\"correct\":1000,\"correct\":1}} => none\n",
+    "{\"results_prio\":{\"fine\":1},\"lease\":0} => bad lease\n",
+    "{\"results_prio\":{\"z\":1,\"correct\":-1},\"z\":0} => bad correct\n",
+    "{\"lease\":0,\"instructions_per_second\":0,\"a\":1} => unknown a\n",
+);
+
+/// The fault of the text that a part of a row stands for.
+fn fault_of(alloc: Global, part: &str) -> Result<Vec<u8>, AllocError> {
+    let text = bytes_of(alloc, part)?;
+    fault_text(alloc, text.as_slice())
+}
 
 #[test]
 fn answers_the_first_fault(rt: HostRuntime) -> Result<(), Fail> {
-    let alloc = rt.alloc();
-    for (i, (text, want)) in FAULTS.iter().enumerate() {
-        assert_eq!(rt; fault_text(alloc, text)?.as_slice(), *want, "text {i}");
+    for row in FAULTS.lines() {
+        let (text, want) = parts_of(row);
+        let fault = fault_of(rt.alloc(), text)?;
+        assert_eq!(rt; fault.as_slice(), want.as_bytes(), "{text}");
     }
     Ok(())
 }
 
 /// An object with an array of so many levels, itself counted.
 fn nested(alloc: Global, levels: usize) -> Result<Vec<u8>, AllocError> {
-    let mut text = b"{\"deep\":".to_vec(alloc)?;
-    text.extend_from_slice(vec![in alloc; b'['; levels.saturating_sub(1)]?.as_slice())?;
-    text.extend_from_slice(vec![in alloc; b']'; levels.saturating_sub(1)]?.as_slice())?;
-    text.push(b'}')?;
-    Ok(text)
+    let inner = levels.saturating_sub(1);
+    text_of(
+        alloc,
+        &[(b"{\"deep\":", 1), (b"[", inner), (b"]", inner), (b"}", 1)],
+    )
 }
 
 #[test]
 fn nests_to_127(rt: HostRuntime) -> Result<(), Fail> {
-    let alloc = rt.alloc();
-    for (levels, want) in [(127, b"unknown deep".as_slice()), (128, b"not json")] {
-        let text = nested(alloc, levels)?;
+    for (levels, want) in [(127, "unknown deep"), (128, "not json")] {
+        let text = nested(rt.alloc(), levels)?;
         assert_eq!(rt;
-            fault_text(alloc, text.as_slice())?.as_slice(),
-            want,
+            fault_text(rt.alloc(), text.as_slice())?.as_slice(),
+            want.as_bytes(),
             "{levels}"
         );
     }
@@ -160,18 +130,53 @@ fn settings(alloc: Global, text: &[u8]) -> Result<Settings, NoMemory> {
     read_settings(alloc, text).map_err(|_| NoMemory)
 }
 
+/// What settings say: the mode, the lease, whether judgings are verified, the instructions of a second, then each
+/// problem with a mode of its own, and then the priority of each kind and the kind that it counts as.
+fn settings_text(alloc: Global, settings: &Settings) -> Result<String, AllocError> {
+    let mode = settings.mode();
+    let (lease, verification, ips) = (settings.lease(), settings.verification(), settings.ips());
+    let mut text = format!(in alloc; "{mode:?} {lease} {verification} {ips}")?;
+    push_modes(alloc, &mut text, settings.modes().as_slice())?;
+    push_rule(alloc, &mut text, settings.rule())?;
+    Ok(text)
+}
+
+fn push_modes(alloc: Global, text: &mut String, modes: &[NamedMode]) -> Result<(), AllocError> {
+    for mode in modes {
+        let name = str::from_utf8(mode.name.as_bytes()).unwrap_or("");
+        let part = format!(in alloc; ", {name} {:?}", mode.mode)?;
+        text.push_str(part.as_str())?;
+    }
+    Ok(())
+}
+
+fn push_rule(alloc: Global, text: &mut String, rule: Rule) -> Result<(), AllocError> {
+    for kind in Kind::ALL {
+        let part = format!(in alloc; ", {} {}", rule.prio(kind), rule.remap(kind).name())?;
+        text.push_str(part.as_str())?;
+    }
+    Ok(())
+}
+
+/// What the settings of a text say.
+fn said(alloc: Global, text: &[u8]) -> Result<String, NoMemory> {
+    let settings = settings(alloc, text)?;
+    Ok(settings_text(alloc, &settings)?)
+}
+
+/// What a copy of them says.
+fn said_of_copy(alloc: Global, text: &[u8]) -> Result<String, NoMemory> {
+    let copy = settings(alloc, text)?.copy()?;
+    Ok(settings_text(alloc, &copy)?)
+}
+
 #[test]
 fn says_nothing(rt: HostRuntime) -> Result<(), Fail> {
-    let settings = settings(rt.alloc(), b"{}")?;
-    assert_eq!(rt; settings.mode(), Mode::Lazy);
-    assert_eq!(rt; settings.lease(), 60);
-    assert_eq!(rt; settings.verification(), false);
-    assert_eq!(rt; settings.ips(), 10_000_000);
-    assert!(rt; settings.modes().as_slice().is_empty());
-    for kind in Kind::ALL {
-        assert_eq!(rt; settings.rule().prio(kind), Rule::standard().prio(kind));
-        assert_eq!(rt; settings.rule().remap(kind), kind);
-    }
+    let said = said(rt.alloc(), b"{}")?;
+    assert_eq!(rt;
+        said.as_str(),
+        "Lazy 60 false 10000000, 1 correct, 30 wrong-answer, 99 run-error, 99 timelimit, 10 no-output, 99 output-limit, 99 memory-limit, 99 judging-error"
+    );
     Ok(())
 }
 
@@ -182,26 +187,11 @@ fn says_all(rt: HostRuntime) -> Result<(), Fail> {
         \"results_prio\": {\"timelimit\": 100, \"correct\": 0}, \"lease\": 5,
         \"problem_modes\": {\"B\": \"full\", \"A\": \"on-demand\"},
         \"lazy_eval_results\": false, \"instructions_per_second\": 2000}";
-    let settings = settings(rt.alloc(), text)?.copy()?;
-    assert_eq!(rt; settings.mode(), Mode::Full);
-    assert_eq!(rt; settings.lease(), 5);
-    assert_eq!(rt; settings.verification(), true);
-    assert_eq!(rt; settings.ips(), 2000);
-    let modes = settings.modes().as_slice();
-    assert_eq!(rt; modes.len(), 2);
-    for (mode, (name, want)) in modes
-        .iter()
-        .zip([(b"A", ProblemMode::OnDemand), (b"B", ProblemMode::Full)])
-    {
-        assert_eq!(rt; mode.name.as_bytes(), name.as_slice());
-        assert_eq!(rt; mode.mode, want);
-    }
-    let rule = settings.rule();
-    for (kind, prio) in Kind::ALL.iter().zip([0, 30, 99, 100, 10, 99, 99, 99]) {
-        assert_eq!(rt; rule.prio(*kind), prio);
-    }
-    assert_eq!(rt; rule.remap(Kind::NoOutput), Kind::WrongAnswer);
-    assert_eq!(rt; rule.remap(Kind::WrongAnswer), Kind::WrongAnswer);
+    let said = said_of_copy(rt.alloc(), text)?;
+    assert_eq!(rt;
+        said.as_str(),
+        "Full 5 true 2000, A OnDemand, B Full, 0 correct, 30 wrong-answer, 99 run-error, 100 timelimit, 10 wrong-answer, 99 output-limit, 99 memory-limit, 99 judging-error"
+    );
     Ok(())
 }
 
@@ -214,17 +204,23 @@ fn keys_stand_in_their_order(rt: HostRuntime) -> Result<(), Fail> {
     Ok(())
 }
 
+/// The lease that a text sets.
+fn lease(alloc: Global, text: &[u8]) -> Result<u64, NoMemory> {
+    let settings = settings(alloc, text)?;
+    Ok(settings.lease())
+}
+
 /// A text of 200 KiB: entries of one key, of which the last counts, and white space.
 #[test]
 fn settings_of_200_kib(rt: HostRuntime) -> Result<(), Fail> {
-    let mut text = b"{".to_vec(rt.alloc())?;
-    for _ in 0..10_000 {
-        text.extend_from_slice(b"\"lease\":5,")?;
-    }
-    text.extend_from_slice(vec![in rt.alloc(); b' '; 104789]?.as_slice())?;
-    text.extend_from_slice(b"\"lease\":7}")?;
+    let parts: [(&[u8], usize); 4] = [
+        (b"{", 1),
+        (b"\"lease\":5,", 10_000),
+        (b" ", 104_789),
+        (b"\"lease\":7}", 1),
+    ];
+    let text = text_of(rt.alloc(), &parts)?;
     assert_eq!(rt; text.len(), 200 * 1024);
-    let settings = settings(rt.alloc(), text.as_slice())?;
-    assert_eq!(rt; settings.lease(), 7);
+    assert_eq!(rt; lease(rt.alloc(), text.as_slice())?, 7);
     Ok(())
 }

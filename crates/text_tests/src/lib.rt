@@ -11,5 +11,7 @@ pub mod names;
 #[cfg(test)]
 mod problem_settings_tests;
 #[cfg(test)]
+mod rows;
+#[cfg(test)]
 mod wire_json_tests;
 pub mod written;

@@ -1,9 +1,11 @@
-use farm_kinds::NoMemory;
+use crate::rows::{bytes_of, parts_of, text_of};
+use farm_kinds::{Limits, NoMemory};
 use problem_settings::{
     IniFault, Validation, Yaml, YamlFault, YamlWhy, limits, read_ini, read_yaml, worked_ini,
     worked_settings, worked_yaml_faults,
 };
 use std::alloc::{AllocError, Global};
+use std::process::Abort;
 use std::test::Fail;
 
 #[test]
@@ -36,13 +38,17 @@ fn shown_yaml(alloc: Global, yaml: &Yaml) -> Result<Vec<u8>, AllocError> {
         Validation::Custom => "custom",
     };
     let (memory, output) = (yaml.memory, yaml.output);
-    let sizes = format!(in alloc; "{validation} {memory} {output} |")?;
-    let mut shown = sizes.as_bytes().to_vec(alloc)?;
-    shown.extend_from_slice(yaml.name.as_slice())?;
-    shown.push(b'|')?;
-    shown.extend_from_slice(yaml.flags.as_slice())?;
-    shown.push(b'|')?;
+    let mut shown = format!(in alloc; "{validation} {memory} {output} |")?.into_bytes();
+    push_between_bars(&mut shown, yaml.name.as_slice(), yaml.flags.as_slice())?;
     Ok(shown)
+}
+
+fn push_between_bars(shown: &mut Vec<u8>, name: &[u8], flags: &[u8]) -> Result<(), AllocError> {
+    shown.extend_from_slice(name)?;
+    shown.push(b'|')?;
+    shown.extend_from_slice(flags)?;
+    shown.push(b'|')?;
+    Ok(())
 }
 
 /// What a text says, or the line and the word of its fault.
@@ -61,165 +67,160 @@ fn shown(alloc: Global, text: &[u8]) -> Result<Vec<u8>, AllocError> {
     }
 }
 
-const LINES: [(&[u8], &[u8]); 24] = [
-    (b"", b"default 64 8 |||"),
-    (b"\xef\xbb\xbf---\r\nname: a\r\n", b"default 64 8 |a||"),
-    (b"\n---\n", b"2 no-colon"),
-    (b"--- \n", b"1 no-colon"),
-    (b"  # c\n   \nname: a", b"default 64 8 |a||"),
-    (b" \t\n", b"1 tab"),
-    (b"\t\t\nname: a", b"1 tab"),
-    (b"name: a\n\t# c", b"2 tab"),
-    (b"a:\n\t\t\n\tx\nname: b", b"default 64 8 |b||"),
-    (b" name: a", b"1 indent"),
-    (b"name: a\n b: c", b"2 indent"),
-    (b"source: a\n b\n- c\n-\n d\nname: e", b"default 64 8 |e||"),
-    (b"source: a\n-c\n", b"2 no-colon"),
-    (b"name: a\n- b", b"2 no-colon"),
-    (b"name: a\n- b: c\n - d\n- e", b"default 64 8 |a||"),
-    (b"name:a", b"1 no-colon"),
-    (b"name:a: b", b"default 64 8 |||"),
-    (b"name : a", b"default 64 8 |||"),
-    (b"Name: a", b"default 64 8 |||"),
-    (b": a\n b\nname: c", b"default 64 8 |c||"),
-    (b"name: a\nname: b", b"2 repeated"),
-    (b"name:\nname: b", b"2 repeated"),
-    (b"x: a\nx: b", b"default 64 8 |||"),
-    (b"a: |\n {[\n\nname: b", b"default 64 8 |b||"),
-];
+/// Texts of `problem.yaml` and what is shown of them, both as `bytes_of` reads them: lines.
+const LINES: &str = concat!(
+    " => default 64 8 |||\n",
+    "\u{feff}---\r~name: a\r~ => default 64 8 |a||\n",
+    "~---~ => 2 no-colon\n",
+    "--- ~ => 1 no-colon\n",
+    "  # c~   ~name: a => default 64 8 |a||\n",
+    " \t~ => 1 tab\n",
+    "\t\t~name: a => 1 tab\n",
+    "name: a~\t# c => 2 tab\n",
+    "a:~\t\t~\tx~name: b => default 64 8 |b||\n",
+    " name: a => 1 indent\n",
+    "name: a~ b: c => 2 indent\n",
+    "source: a~ b~- c~-~ d~name: e => default 64 8 |e||\n",
+    "source: a~-c~ => 2 no-colon\n",
+    "name: a~- b => 2 no-colon\n",
+    "name: a~- b: c~ - d~- e => default 64 8 |a||\n",
+    "name:a => 1 no-colon\n",
+    "name:a: b => default 64 8 |||\n",
+    "name : a => default 64 8 |||\n",
+    "Name: a => default 64 8 |||\n",
+    ": a~ b~name: c => default 64 8 |c||\n",
+    "name: a~name: b => 2 repeated\n",
+    "name:~name: b => 2 repeated\n",
+    "x: a~x: b => default 64 8 |||\n",
+    "a: |~ {[~~name: b => default 64 8 |b||\n",
+);
 
-const VALUES: [(&[u8], &[u8]); 40] = [
-    (b"name: a b  ", b"default 64 8 |a b||"),
-    (b"name:   a # b", b"default 64 8 |a||"),
-    (b"name: a# b", b"default 64 8 |a# b||"),
-    (b"name: a: b", b"default 64 8 |a: b||"),
-    (b"name: # a", b"default 64 8 |||"),
-    (b"name: \xff\x00", b"default 64 8 |\xff\x00||"),
-    (b"name: 'It''s' # c", b"default 64 8 |It's||"),
-    (b"name: ''", b"default 64 8 |||"),
-    (b"name: '''' ", b"default 64 8 |'||"),
-    (b"name: '", b"1 open"),
-    (b"name: 'a''", b"1 open"),
-    (b"name: 'a'b", b"1 form"),
-    (b"name: 'a'#c", b"1 form"),
-    (b"name: 'a' b", b"1 form"),
-    (
-        b"name: \"a\\\"\\\\\\n\\t' #\"",
-        b"default 64 8 |a\"\\\n\t' #||",
-    ),
-    (b"name: \"a", b"1 open"),
-    (b"name: \"a\\\"", b"1 open"),
-    (b"name: \"a\\", b"1 open"),
-    (b"name: \"\\r\"", b"1 bad-escape"),
-    (b"name: '\\r'", b"default 64 8 |\\r||"),
-    (b"name: \"a\" \"", b"1 form"),
-    (b"name: |", b"1 form"),
-    (b"name: >-", b"1 form"),
-    (b"name: [a]", b"1 form"),
-    (b"name: &a b", b"1 form"),
-    (b"name: *a", b"1 form"),
-    (b"name: !a", b"1 form"),
-    (b"name: {a: b}", b"1 form"),
-    (b"name: a|>[&*!{", b"default 64 8 |a|>[&*!{||"),
-    (b"name:\n  en: a\n  sv: b", b"default 64 8 |a||"),
-    (b"name:\n  a\n   b\n  - c", b"default 64 8 |a||"),
-    (b"name:\n  en: 'a\n", b"2 open"),
-    (b"name:\n  en: a\n b", b"3 indent"),
-    (b"name:\n  en: a\n\tb", b"3 tab"),
-    (b"name: ''\n  en: a", b"2 indent"),
-    (b"validator_flags:\n a", b"2 indent"),
-    (b"validator_flags: a \"b\"", b"default 64 8 ||a \"b\"|"),
-    (b"validator_flags: \"a\\tb\"", b"default 64 8 ||a\tb|"),
-    (b"validator_flags: a\nvalidator_flags: a", b"2 repeated"),
-    (b"validator_flags: [a", b"1 form"),
-];
+/// The same of values.
+const VALUES: &str = concat!(
+    "name: a b   => default 64 8 |a b||\n",
+    "name:   a # b => default 64 8 |a||\n",
+    "name: a# b => default 64 8 |a# b||\n",
+    "name: a: b => default 64 8 |a: b||\n",
+    "name: # a => default 64 8 |||\n",
+    "name: ^\0 => default 64 8 |^\0||\n",
+    "name: 'It''s' # c => default 64 8 |It's||\n",
+    "name: '' => default 64 8 |||\n",
+    "name: ''''  => default 64 8 |'||\n",
+    "name: ' => 1 open\n",
+    "name: 'a'' => 1 open\n",
+    "name: 'a'b => 1 form\n",
+    "name: 'a'#c => 1 form\n",
+    "name: 'a' b => 1 form\n",
+    "name: \"a\\\"\\\\\\n\\t' #\" => default 64 8 |a\"\\~\t' #||\n",
+    "name: \"a => 1 open\n",
+    "name: \"a\\\" => 1 open\n",
+    "name: \"a\\ => 1 open\n",
+    "name: \"\\r\" => 1 bad-escape\n",
+    "name: '\\r' => default 64 8 |\\r||\n",
+    "name: \"a\" \" => 1 form\n",
+    "name: | => 1 form\n",
+    "name: >- => 1 form\n",
+    "name: [a] => 1 form\n",
+    "name: &a b => 1 form\n",
+    "name: *a => 1 form\n",
+    "name: !a => 1 form\n",
+    "name: {a: b} => 1 form\n",
+    "name: a|>[&*!{ => default 64 8 |a|>[&*!{||\n",
+    "name:~  en: a~  sv: b => default 64 8 |a||\n",
+    "name:~  a~   b~  - c => default 64 8 |a||\n",
+    "name:~  en: 'a~ => 2 open\n",
+    "name:~  en: a~ b => 3 indent\n",
+    "name:~  en: a~\tb => 3 tab\n",
+    "name: ''~  en: a => 2 indent\n",
+    "validator_flags:~ a => 2 indent\n",
+    "validator_flags: a \"b\" => default 64 8 ||a \"b\"|\n",
+    "validator_flags: \"a\\tb\" => default 64 8 ||a\tb|\n",
+    "validator_flags: a~validator_flags: a => 2 repeated\n",
+    "validator_flags: [a => 1 form\n",
+);
 
-const VALIDATIONS: [(&[u8], &[u8]); 16] = [
-    (b"validation:", b"default 64 8 |||"),
-    (b"validation: ''", b"default 64 8 |||"),
-    (b"validation: default", b"default 64 8 |||"),
-    (b"validation: 'default'", b"default 64 8 |||"),
-    (b"validation: default a", b"1 bad-value"),
-    (b"validation: ' default'", b"1 bad-value"),
-    (b"validation: defaul", b"1 bad-value"),
-    (b"validation: Custom", b"1 bad-value"),
-    (b"validation: customs", b"1 bad-value"),
-    (b"validation: \"custom\\tscore\"", b"1 bad-value"),
-    (b"validation: custom", b"custom 64 8 |||"),
-    (b"validation: custom a score", b"custom 64 8 |||"),
-    (b"validation: custom scores", b"custom 64 8 |||"),
-    (b"validation: custom  score interactive", b"1 score"),
-    (b"validation: \"custom interactive\"", b"1 interactive"),
-    (b"validation: custom # score", b"custom 64 8 |||"),
-];
+/// The same of `validation`.
+const VALIDATIONS: &str = concat!(
+    "validation: => default 64 8 |||\n",
+    "validation: '' => default 64 8 |||\n",
+    "validation: default => default 64 8 |||\n",
+    "validation: 'default' => default 64 8 |||\n",
+    "validation: default a => 1 bad-value\n",
+    "validation: ' default' => 1 bad-value\n",
+    "validation: defaul => 1 bad-value\n",
+    "validation: Custom => 1 bad-value\n",
+    "validation: customs => 1 bad-value\n",
+    "validation: \"custom\\tscore\" => 1 bad-value\n",
+    "validation: custom => custom 64 8 |||\n",
+    "validation: custom a score => custom 64 8 |||\n",
+    "validation: custom scores => custom 64 8 |||\n",
+    "validation: custom  score interactive => 1 score\n",
+    "validation: \"custom interactive\" => 1 interactive\n",
+    "validation: custom # score => custom 64 8 |||\n",
+);
 
-const SIZES: [(&[u8], &[u8]); 44] = [
-    (b"limits:", b"default 64 8 |||"),
-    (b"limits:\n memory: 256\n output: 64", b"default 256 64 |||"),
-    (b"limits:\n memory: 257\n output: 65", b"default 256 64 |||"),
-    (
-        b"limits:\n memory: 1000000\n output: 1",
-        b"default 256 1 |||",
-    ),
-    (b"limits:\n memory: 1000001", b"2 bad-value"),
-    (b"limits:\n memory: 0", b"2 bad-value"),
-    (b"limits:\n memory: 4294967297", b"2 bad-value"),
-    (b"limits:\n memory:", b"2 bad-value"),
-    (b"limits:\n memory: -1", b"2 bad-value"),
-    (b"limits:\n memory: 1.0", b"2 bad-value"),
-    (b"limits:\n memory: 1 MB", b"2 bad-value"),
-    (b"limits:\n memory: '0064' # c", b"default 64 8 |||"),
-    (
-        b"limits:\n memory: 00000000000000000000007",
-        b"default 7 8 |||",
-    ),
-    (b"limits:\n memory: \"7", b"2 open"),
-    (b"limits:\n memory: [7]", b"2 form"),
-    (b"limits:\n memory: 7\n memory: 7", b"3 repeated"),
-    (b"limits:\n time: 7\n time: 7", b"default 64 8 |||"),
-    (b"limits:\n memory", b"2 no-colon"),
-    (b"limits:\n memory: 7\n\toutput: 7", b"3 tab"),
-    (b"limits:\n memory: 7\n  output: 7", b"3 indent"),
-    (b"limits:\n  memory: 7\n output: 7", b"3 indent"),
-    (
-        b"limits:\n a: 1\n  b\n \t\tc\n memory: 7",
-        b"default 7 8 |||",
-    ),
-    (b"limits:\n a: 1\n- b", b"3 no-colon"),
-    (b"limits:\n memory: 7\nlimits: {}", b"3 repeated"),
-    (b"limits: {}", b"default 64 8 |||"),
-    (b"limits: {  } # c", b"default 64 8 |||"),
-    (b"limits: {memory: 7 ,a: b,output:  9 }", b"default 7 9 |||"),
-    (b"limits: {memory: 7}\n output: 9", b"2 indent"),
-    (b"limits: {memory: 7, memory: 7}", b"1 repeated"),
-    (b"limits: {memory: 0}", b"1 bad-value"),
-    (b"limits: {memory: }", b"1 bad-value"),
-    (b"limits: {memory: '7'}", b"1 form"),
-    (b"limits: {a: [7]}", b"1 form"),
-    (b"limits: {memory: 7,}", b"1 form"),
-    (b"limits: {,}", b"1 form"),
-    (b"limits: {memory:7}", b"1 form"),
-    (b"limits: {memory: 7", b"1 form"),
-    (b"limits: {memory: 7} a", b"1 form"),
-    (b"limits: {memory: 7}}", b"1 form"),
-    (b"limits: {memory: 7 # }", b"1 form"),
-    (b"limits: 7", b"1 bad-value"),
-    (b"limits: ''", b"1 bad-value"),
-    (b"limits: '7", b"1 open"),
-    (b"limits: |", b"1 form"),
-];
+/// The same of `limits`.
+const SIZES: &str = concat!(
+    "limits: => default 64 8 |||\n",
+    "limits:~ memory: 256~ output: 64 => default 256 64 |||\n",
+    "limits:~ memory: 257~ output: 65 => default 256 64 |||\n",
+    "limits:~ memory: 1000000~ output: 1 => default 256 1 |||\n",
+    "limits:~ memory: 1000001 => 2 bad-value\n",
+    "limits:~ memory: 0 => 2 bad-value\n",
+    "limits:~ memory: 4294967297 => 2 bad-value\n",
+    "limits:~ memory: => 2 bad-value\n",
+    "limits:~ memory: -1 => 2 bad-value\n",
+    "limits:~ memory: 1.0 => 2 bad-value\n",
+    "limits:~ memory: 1 MB => 2 bad-value\n",
+    "limits:~ memory: '0064' # c => default 64 8 |||\n",
+    "limits:~ memory: 00000000000000000000007 => default 7 8 |||\n",
+    "limits:~ memory: \"7 => 2 open\n",
+    "limits:~ memory: [7] => 2 form\n",
+    "limits:~ memory: 7~ memory: 7 => 3 repeated\n",
+    "limits:~ time: 7~ time: 7 => default 64 8 |||\n",
+    "limits:~ memory => 2 no-colon\n",
+    "limits:~ memory: 7~\toutput: 7 => 3 tab\n",
+    "limits:~ memory: 7~  output: 7 => 3 indent\n",
+    "limits:~  memory: 7~ output: 7 => 3 indent\n",
+    "limits:~ a: 1~  b~ \t\tc~ memory: 7 => default 7 8 |||\n",
+    "limits:~ a: 1~- b => 3 no-colon\n",
+    "limits:~ memory: 7~limits: {} => 3 repeated\n",
+    "limits: {} => default 64 8 |||\n",
+    "limits: {  } # c => default 64 8 |||\n",
+    "limits: {memory: 7 ,a: b,output:  9 } => default 7 9 |||\n",
+    "limits: {memory: 7}~ output: 9 => 2 indent\n",
+    "limits: {memory: 7, memory: 7} => 1 repeated\n",
+    "limits: {memory: 0} => 1 bad-value\n",
+    "limits: {memory: } => 1 bad-value\n",
+    "limits: {memory: '7'} => 1 form\n",
+    "limits: {a: [7]} => 1 form\n",
+    "limits: {memory: 7,} => 1 form\n",
+    "limits: {,} => 1 form\n",
+    "limits: {memory:7} => 1 form\n",
+    "limits: {memory: 7 => 1 form\n",
+    "limits: {memory: 7} a => 1 form\n",
+    "limits: {memory: 7}} => 1 form\n",
+    "limits: {memory: 7 # } => 1 form\n",
+    "limits: 7 => 1 bad-value\n",
+    "limits: '' => 1 bad-value\n",
+    "limits: '7 => 1 open\n",
+    "limits: | => 1 form\n",
+);
+
+/// What the text that a part of a row stands for says.
+fn shown_of(alloc: Global, part: &str) -> Result<Vec<u8>, AllocError> {
+    let text = bytes_of(alloc, part)?;
+    shown(alloc, text.as_slice())
+}
 
 #[test]
 fn reads_lines_values_and_sizes(rt: HostRuntime) -> Result<(), Fail> {
-    let alloc = rt.alloc();
-    for rows in [
-        LINES.as_slice(),
-        VALUES.as_slice(),
-        VALIDATIONS.as_slice(),
-        SIZES.as_slice(),
-    ] {
-        for (i, (text, want)) in rows.iter().enumerate() {
-            assert_eq!(rt; shown(alloc, text)?.as_slice(), *want, "text {i}");
+    for rows in [LINES, VALUES, VALIDATIONS, SIZES] {
+        for row in rows.lines() {
+            let (text, want) = parts_of(row);
+            let shown = shown_of(rt.alloc(), text)?;
+            let want = bytes_of(rt.alloc(), want)?;
+            assert_eq!(rt; shown.as_slice(), want.as_slice(), "{row}");
         }
     }
     Ok(())
@@ -286,10 +287,12 @@ fn gives_limits(rt: HostRuntime) -> Result<(), Fail> {
         (1_000_000, 100_000_000, 100_000_000_000),
         (u32::MAX, u32::MAX, 18_446_744_065_119_617),
     ] {
-        let limits = limits(&yaml, ms, ips);
-        assert_eq!(rt; limits.instructions, instructions);
-        assert_eq!(rt; limits.pages, 65_536);
-        assert_eq!(rt; limits.output, 67_108_864);
+        let want = Limits {
+            instructions,
+            pages: 65_536,
+            output: 67_108_864,
+        };
+        assert_eq!(rt; limits(&yaml, ms, ips), want);
     }
     Ok(())
 }
@@ -314,49 +317,58 @@ fn keeps_the_name_and_the_flags(rt: HostRuntime) -> Result<(), Fail> {
     Ok(())
 }
 
-/// Copies of a line.
-fn repeated(alloc: Global, line: &[u8], times: usize) -> Result<Vec<u8>, AllocError> {
-    let mut text = Vec::new(alloc);
-    for _ in 0..times {
-        text.extend_from_slice(line)?;
-    }
-    Ok(text)
+/// How often a text is repeated, the text, as `bytes_of` reads it, and what is shown of the whole.
+const LARGE: &str = concat!(
+    "16777216 - => 1 no-colon\n",
+    "100000   => default 64 8 |||\n",
+    "100000 \t => 1 tab\n",
+    "100000 : => default 64 8 |||\n",
+    "100000 ~ => default 64 8 |||\n",
+    "100000 - a~ => 1 no-colon\n",
+    "1000000 a: b~ => default 64 8 |||\n",
+    "100000  a: b~ => 1 indent\n",
+    "100000 a:~ - b~- c~ => default 64 8 |||\n",
+    "100000 name: 'a~ => 1 open\n",
+    "100000 name: a~ => 2 repeated\n",
+    "100000 limits:~ a: b~  c~ => 4 repeated\n",
+    "100000 limits: {a: b,  => 1 form\n",
+    "100000 validation: \"custom\\n => 1 form\n",
+);
+
+/// So many copies of the text that a part of a row stands for.
+fn copies_of(alloc: Global, times: usize, part: &str) -> Result<Vec<u8>, AllocError> {
+    let text = bytes_of(alloc, part)?;
+    text_of(alloc, &[(text.as_slice(), times)])
 }
 
-const LARGE: [(&[u8], usize, &[u8]); 14] = [
-    (b"-", 16_777_216, b"1 no-colon"),
-    (b" ", 100_000, b"default 64 8 |||"),
-    (b"\t", 100_000, b"1 tab"),
-    (b":", 100_000, b"default 64 8 |||"),
-    (b"\n", 100_000, b"default 64 8 |||"),
-    (b"- a\n", 100_000, b"1 no-colon"),
-    (b"a: b\n", 1_000_000, b"default 64 8 |||"),
-    (b" a: b\n", 100_000, b"1 indent"),
-    (b"a:\n - b\n- c\n", 100_000, b"default 64 8 |||"),
-    (b"name: 'a\n", 100_000, b"1 open"),
-    (b"name: a\n", 100_000, b"2 repeated"),
-    (b"limits:\n a: b\n  c\n", 100_000, b"4 repeated"),
-    (b"limits: {a: b, ", 100_000, b"1 form"),
-    (b"validation: \"custom\\n", 100_000, b"1 form"),
-];
+/// What the copies of a row say.
+fn shown_of_copies(alloc: Global, copies: &str) -> Result<Vec<u8>, AllocError> {
+    let (times, text) = copies.split_once(' ').unwrap_or((copies, ""));
+    let whole = copies_of(alloc, times.parse::<usize>().unwrap_or(0), text)?;
+    shown(alloc, whole.as_slice())
+}
+
+/// What a text says that has a name of so many times 8 bytes.
+fn shown_of_name(alloc: Global, times: usize) -> Result<Vec<u8>, AllocError> {
+    let text = text_of(alloc, &[(b"name: ", 1), (b"abcdefgh", times)])?;
+    shown(alloc, text.as_slice())
+}
 
 #[test]
 fn reads_or_refuses_large_texts(rt: HostRuntime) -> Result<(), Fail> {
-    let alloc = rt.alloc();
-    for (i, (line, times, want)) in LARGE.iter().enumerate() {
-        let text = repeated(alloc, line, *times)?;
-        assert_eq!(rt;
-            shown(alloc, text.as_slice())?.as_slice(),
-            *want,
-            "text {i}"
-        );
+    for row in LARGE.lines() {
+        let (copies, want) = parts_of(row);
+        let shown = shown_of_copies(rt.alloc(), copies)?;
+        assert_eq!(rt; shown.as_slice(), want.as_bytes(), "{row}");
     }
-    let name = repeated(alloc, b"abcdefgh", 1_000_000)?;
-    let mut text = b"name: ".to_vec(alloc)?;
-    text.extend_from_slice(name.as_slice())?;
-    if text.len() <= 16_777_216 {
-        let yaml = read_yaml(alloc, text.as_slice()).map_err(|_| NoMemory)?;
-        assert!(rt; yaml.name.as_slice() == name.as_slice());
-    }
+    keeps_a_long_name(&rt, 1_000_000)
+}
+
+/// Checks that such a name is read as it stands.
+fn keeps_a_long_name<R: Abort + AllocGlobal>(rt: &R, times: usize) -> Result<(), Fail> {
+    let shown = shown_of_name(rt.alloc(), times)?;
+    let parts: [(&[u8], usize); 3] = [(b"default 64 8 |", 1), (b"abcdefgh", times), (b"||", 1)];
+    let want = text_of(rt.alloc(), &parts)?;
+    assert!(rt; shown.as_slice() == want.as_slice());
     Ok(())
 }
