@@ -1,6 +1,7 @@
 ghost use Rattle.std.specs.Prelude.{◌≡◌, true};
 ghost use Rattle.case_run.specs.Images.{is_image};
 
+use crate::rows::{bytes_of, image_of};
 use case_run::{Case, Check, image_ok, run_case};
 use default_validator::{Flags, wide_token};
 use farm_kinds::{Kind, Limits, raw_image};
@@ -97,8 +98,9 @@ const ELF: [u32; 23] = [
     0x0000_0073,
 ];
 
-/// The program, its input, the answer, what checks the output (a flag, `-` for none, or a validator behind `@`), and
-/// the limits of instructions, pages and output. `~` is a line feed, and `_` stands for nothing.
+/// The program, its input, the answer, what checks the output (the default validator, behind `-` with no flag and
+/// behind `tolerant` with a tolerance, or a validator behind `@`), and the limits of instructions, pages and output.
+/// `~` is a line feed, and `_` stands for nothing.
 const ROWS: &str = concat!(
     "exit _ _ - 2 1 0 => correct\n",
     "exit _ x - 2 1 0 => no-output\n",
@@ -117,8 +119,8 @@ const ROWS: &str = concat!(
     "echo 7~ 7 - 16 1 64 => memory-limit\n",
     "echo 7~ 7 - 16 2 1 => output-limit\n",
     "echo 7~ 8 - 16 2 64 => wrong-answer\n",
-    "echo 3.14 3.1400001 float_tolerance=000001 99 2 64 => correct\n",
-    "echo 3.14 3.1401 float_tolerance=000001 99 2 64 => wrong-answer\n",
+    "echo 3.14 3.1400001 tolerant 99 2 64 => correct\n",
+    "echo 3.14 3.1401 tolerant 99 2 64 => wrong-answer\n",
     "silent _ 7 - 99 2 64 => no-output\n",
     "echo 4~ x @guess 99 2 64 => correct\n",
     "echo 3~ x @guess 99 2 64 => wrong-answer\n",
@@ -145,34 +147,33 @@ fn words_of(program: &str) -> &'static [u32] {
     }
 }
 
-/// The image of a program.
-fn image_of(alloc: Global, program: &str) -> Result<Vec<u8>, AllocError> {
-    let mut image = Vec::new(alloc);
-    for word in words_of(program) {
-        image.extend_from_slice(word.to_le_bytes().as_slice())?;
-    }
-    Ok(image)
+/// What a field of a row stands for.
+fn text_of(alloc: Global, field: &str) -> Result<Vec<u8>, AllocError> {
+    let text = if field == "_" { "" } else { field };
+    bytes_of(alloc, text)
 }
 
-/// What a field of a row stands for.
-fn text_of(alloc: Global, field: &str) -> Result<String, AllocError> {
-    let text = if field == "_" { "" } else { field };
-    text.replace(alloc, '~', "\n")
+/// The flags of a row's check.
+fn flags_of(check: &str) -> &'static [u8] {
+    match check {
+        "tolerant" => b"float_tolerance 0.000001",
+        _ => b"",
+    }
 }
 
 /// A row's program, its texts, its check, and its limits.
 #[derive(Drop)]
 struct Row<'a> {
     image: Vec<u8>,
-    input: String,
-    answer: String,
+    input: Vec<u8>,
+    answer: Vec<u8>,
     check: &'a str,
     limits: Limits,
 }
 
 fn row_of(alloc: Global, row: &str) -> Result<Row<'_>, AllocError> {
     let mut fields = row.split(' ');
-    let image = image_of(alloc, fields.next().unwrap_or(""))?;
+    let image = image_of(alloc, words_of(fields.next().unwrap_or("")))?;
     let input = text_of(alloc, fields.next().unwrap_or(""))?;
     let answer = text_of(alloc, fields.next().unwrap_or(""))?;
     let check = fields.next().unwrap_or("");
@@ -208,20 +209,16 @@ fn result_of(alloc: Global, row: &Row<'_>) -> Result<Option<Kind>, Fail> {
 fn result_by_default(alloc: Global, row: &Row<'_>) -> Result<Option<Kind>, Fail>
     requires { is_image row.now.image.items ≡ true }
 {
-    let text = row
-        .check
-        .replace(alloc, '-', "")?
-        .replace(alloc, '=', " 0.")?;
-    let Ok(flags) = Flags::read(text.as_bytes()) else {
+    let Ok(flags) = Flags::read(flags_of(row.check)) else {
         return Ok(None);
     };
-    if wide_token(&flags, row.answer.as_bytes()).is_some() {
+    if wide_token(&flags, row.answer.as_slice()).is_some() {
         return Ok(None);
     }
     let case = Case {
         image: row.image.as_slice(),
-        input: row.input.as_bytes(),
-        answer: row.answer.as_bytes(),
+        input: row.input.as_slice(),
+        answer: row.answer.as_slice(),
         check: Check::Default(flags),
         limits: row.limits,
     };
@@ -231,14 +228,14 @@ fn result_by_default(alloc: Global, row: &Row<'_>) -> Result<Option<Kind>, Fail>
 fn result_by_program(alloc: Global, row: &Row<'_>, validator: &str) -> Result<Option<Kind>, Fail>
     requires { is_image row.now.image.items ≡ true }
 {
-    let validator = image_of(alloc, validator)?;
+    let validator = image_of(alloc, words_of(validator))?;
     if !raw_image(validator.as_slice()) {
         return Ok(None);
     }
     let case = Case {
         image: row.image.as_slice(),
-        input: row.input.as_bytes(),
-        answer: row.answer.as_bytes(),
+        input: row.input.as_slice(),
+        answer: row.answer.as_slice(),
         check: Check::Custom {
             image: validator.as_slice(),
             flags: b"",
@@ -248,6 +245,13 @@ fn result_by_program(alloc: Global, row: &Row<'_>, validator: &str) -> Result<Op
     Ok(Some(run_case(alloc, &case)?))
 }
 
+fn name_of(kind: Option<Kind>) -> &'static str {
+    match kind {
+        Some(kind) => kind.name(),
+        None => "not run",
+    }
+}
+
 #[test]
 fn results_of_tests(rt: HostRuntime) -> Result<(), Fail> {
     let alloc = rt.alloc();
@@ -255,7 +259,7 @@ fn results_of_tests(rt: HostRuntime) -> Result<(), Fail> {
         if let Some((fields, expected)) = line.split_once(" => ") {
             let row = row_of(alloc, fields)?;
             let kind = result_of(alloc, &row)?;
-            assert_eq!(rt; kind.map(|kind| kind.name()), Some(expected), "{fields}");
+            assert_eq!(rt; name_of(kind), expected, "{fields}");
         }
     }
     Ok(())

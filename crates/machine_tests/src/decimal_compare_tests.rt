@@ -1,189 +1,208 @@
-use decimal_compare::{BadTolerance, Part, Token, Tolerance, read_amount, read_decimal, within};
+ghost use Rattle.std.specs.Prelude.{◌<◌, ◌^◌, unsigned_abs};
+
+use decimal_compare::{Part, Token, Tolerance, read_amount, read_decimal, within};
+use std::alloc::{AllocError, Global};
+use std::process::Abort;
+use std::test::Fail;
 
 const UNIT: i128 = 1_000_000_000_000;
 
-#[test]
-fn reads_decimals(rt: HostRuntime) {
-    let rows: [(&[u8], Token); 22] = [
-        (b"0.0314", Token::Float(31_400_000_000)),
-        (b"3.14000000e-2", Token::Float(31_400_000_000)),
-        (b"200", Token::Whole(200 * UNIT)),
-        (b"2.0e2", Token::Float(200 * UNIT)),
-        (b"+7", Token::Whole(7 * UNIT)),
-        (b"-7E0", Token::Float(-7 * UNIT)),
-        (b"007", Token::Whole(7 * UNIT)),
-        (b"1.000000000001", Token::Float(UNIT + 1)),
-        (b"1.0000000000009", Token::Float(UNIT)),
-        (b"-1.0000000000009", Token::Float(-UNIT)),
-        (b"1e-12", Token::Float(1)),
-        (b"9.99e-13", Token::Float(0)),
-        (b"1e-9999", Token::Float(0)),
-        (b"0e9999", Token::Float(0)),
-        (b"1e12", Token::Float(UNIT * UNIT)),
-        (b"1000000000000", Token::Whole(UNIT * UNIT)),
-        (b"9999999999999", Token::Whole(9_999_999_999_999 * UNIT)),
-        (b"10000000000000", Token::WideWhole),
-        (b"-10000000000000", Token::WideWhole),
-        (b"1e13", Token::WideFloat),
-        (
-            b"9999999999999.9999999999999",
-            Token::Float(10 * UNIT * UNIT - 1),
-        ),
-        (b"-1e9999", Token::WideFloat),
-    ];
-    for (word, want) in rows {
-        assert_eq!(rt; read_decimal(word), want, "at {word:?}");
+/// Words, and what is read of them, in units of 10^-12.
+const DECIMALS: &str = concat!(
+    "0.0314 => Float(31400000000)\n",
+    "3.14000000e-2 => Float(31400000000)\n",
+    "200 => Whole(200000000000000)\n",
+    "2.0e2 => Float(200000000000000)\n",
+    "+7 => Whole(7000000000000)\n",
+    "-7E0 => Float(-7000000000000)\n",
+    "007 => Whole(7000000000000)\n",
+    "1.000000000001 => Float(1000000000001)\n",
+    "1.0000000000009 => Float(1000000000000)\n",
+    "-1.0000000000009 => Float(-1000000000000)\n",
+    "1e-12 => Float(1)\n",
+    "9.99e-13 => Float(0)\n",
+    "1e-9999 => Float(0)\n",
+    "0e9999 => Float(0)\n",
+    "1e12 => Float(1000000000000000000000000)\n",
+    "1000000000000 => Whole(1000000000000000000000000)\n",
+    "9999999999999 => Whole(9999999999999000000000000)\n",
+    "10000000000000 => WideWhole\n",
+    "-10000000000000 => WideWhole\n",
+    "1e13 => WideFloat\n",
+    "9999999999999.9999999999999 => Float(9999999999999999999999999)\n",
+    "-1e9999 => WideFloat\n",
+);
+
+/// Words that are written to mislead.
+const HOSTILE_WORDS: &str = concat!(
+    " => NotDecimal\n",
+    ". => NotDecimal\n",
+    "+ => NotDecimal\n",
+    "- => NotDecimal\n",
+    "-. => NotDecimal\n",
+    "1. => Float(1000000000000)\n",
+    ".5 => Float(500000000000)\n",
+    "-.5 => Float(-500000000000)\n",
+    "-0 => Whole(0)\n",
+    "-0.0 => Float(0)\n",
+    "1e => NotDecimal\n",
+    "1e+ => NotDecimal\n",
+    "1e- => NotDecimal\n",
+    "e5 => NotDecimal\n",
+    ".e5 => NotDecimal\n",
+    "1e00002 => NotDecimal\n",
+    "1e0002 => Float(100000000000000)\n",
+    "1e99999 => NotDecimal\n",
+    "1e2e3 => NotDecimal\n",
+    "1e2.0 => NotDecimal\n",
+    "1.2.3 => NotDecimal\n",
+    "++1 => NotDecimal\n",
+    "1+ => NotDecimal\n",
+    "1  => NotDecimal\n",
+    "1\0 => NotDecimal\n",
+    "\0 => NotDecimal\n",
+    "nan => NotDecimal\n",
+    "0x10 => NotDecimal\n",
+);
+
+/// Words that are longer than any number is wide.
+const LONG_WORDS: &str = concat!(
+    "1234567890123456789012345678901234567890 => WideWhole\n",
+    "0000000000000000000000000000000000000042 => Whole(42000000000000)\n",
+    "1234567890123456789012345678901234567890e-39 => Float(1234567890123)\n",
+    "1234567890123456789012345678901234567890e-27 => Float(1234567890123456789012345)\n",
+    "9999999999999999999999999999999999999999e-27 => Float(9999999999999999999999999)\n",
+    "1234567890123456789012345678901234567890e-26 => WideFloat\n",
+    "0.0000000000000000000000000000000000000001e39 => Float(100000000000)\n",
+    "0.0000000000000000000000000000000000000001e52 => Float(1000000000000000000000000)\n",
+    "0.0000000000000000000000000000000000000001e53 => WideFloat\n",
+);
+
+/// What is read of a word.
+fn token_text(alloc: Global, word: &str) -> Result<String, AllocError> {
+    let token = read_decimal(word.as_bytes());
+    format!(in alloc; "{token:?}")
+}
+
+fn check_words<R: Abort + AllocGlobal>(rt: &R, rows: &str) -> Result<(), Fail> {
+    for row in rows.lines() {
+        let (word, want) = row.split_once(" => ").unwrap_or((row, ""));
+        let token = token_text(rt.alloc(), word)?;
+        assert_eq!(rt; token.as_str(), want, "at {word:?}");
     }
+    Ok(())
 }
 
 #[test]
-fn reads_hostile_words(rt: HostRuntime) {
-    let rows: [(&[u8], Token); 30] = [
-        (b"", Token::NotDecimal),
-        (b".", Token::NotDecimal),
-        (b"+", Token::NotDecimal),
-        (b"-", Token::NotDecimal),
-        (b"-.", Token::NotDecimal),
-        (b"1.", Token::Float(UNIT)),
-        (b".5", Token::Float(UNIT / 2)),
-        (b"-.5", Token::Float(-UNIT / 2)),
-        (b"-0", Token::Whole(0)),
-        (b"-0.0", Token::Float(0)),
-        (b"1e", Token::NotDecimal),
-        (b"1e+", Token::NotDecimal),
-        (b"1e-", Token::NotDecimal),
-        (b"e5", Token::NotDecimal),
-        (b".e5", Token::NotDecimal),
-        (b"1e00002", Token::NotDecimal),
-        (b"1e0002", Token::Float(100 * UNIT)),
-        (b"1e99999", Token::NotDecimal),
-        (b"1e2e3", Token::NotDecimal),
-        (b"1e2.0", Token::NotDecimal),
-        (b"1.2.3", Token::NotDecimal),
-        (b"++1", Token::NotDecimal),
-        (b"1+", Token::NotDecimal),
-        (b"1 ", Token::NotDecimal),
-        (b"1\0", Token::NotDecimal),
-        (b"\0", Token::NotDecimal),
-        (b"1\xff", Token::NotDecimal),
-        (b"\xb11", Token::NotDecimal),
-        (b"nan", Token::NotDecimal),
-        (b"0x10", Token::NotDecimal),
-    ];
-    for (word, want) in rows {
-        assert_eq!(rt; read_decimal(word), want, "at {word:?}");
-    }
+fn reads_decimals(rt: HostRuntime) -> Result<(), Fail> {
+    check_words(&rt, DECIMALS)
 }
 
 #[test]
-fn moves_the_point_through_long_words(rt: HostRuntime) {
-    let rows: [(&[u8], Token); 9] = [
-        (
-            b"1234567890123456789012345678901234567890",
-            Token::WideWhole,
-        ),
-        (
-            b"0000000000000000000000000000000000000042",
-            Token::Whole(42 * UNIT),
-        ),
-        (
-            b"1234567890123456789012345678901234567890e-39",
-            Token::Float(1_234_567_890_123),
-        ),
-        (
-            b"1234567890123456789012345678901234567890e-27",
-            Token::Float(1_234_567_890_123_456_789_012_345),
-        ),
-        (
-            b"9999999999999999999999999999999999999999e-27",
-            Token::Float(9_999_999_999_999_999_999_999_999),
-        ),
-        (
-            b"1234567890123456789012345678901234567890e-26",
-            Token::WideFloat,
-        ),
-        (
-            b"0.0000000000000000000000000000000000000001e39",
-            Token::Float(UNIT / 10),
-        ),
-        (
-            b"0.0000000000000000000000000000000000000001e52",
-            Token::Float(UNIT * UNIT),
-        ),
-        (
-            b"0.0000000000000000000000000000000000000001e53",
-            Token::WideFloat,
-        ),
-    ];
-    for (word, want) in rows {
-        assert_eq!(rt; read_decimal(word), want, "at {word:?}");
-    }
+fn reads_hostile_words(rt: HostRuntime) -> Result<(), Fail> {
+    let tokens = (read_decimal(b"1\xff"), read_decimal(b"\xb11"));
+    assert_eq!(rt; tokens, (Token::NotDecimal, Token::NotDecimal));
+    check_words(&rt, HOSTILE_WORDS)
 }
 
 #[test]
-fn reads_amounts(rt: HostRuntime) {
-    let rows: [(Part, &[u8], Result<i128, BadTolerance>); 20] = [
-        (Part::Both, b"1e-6", Ok(1_000_000)),
-        (Part::Both, b"1e-12", Ok(1)),
-        (Part::Both, b"1e-13", Err(BadTolerance)),
-        (Part::Both, b"10e-13", Ok(1)),
-        (Part::Both, b"0", Ok(0)),
-        (Part::Both, b"+0.5", Ok(UNIT / 2)),
-        (Part::Both, b"-0", Err(BadTolerance)),
-        (Part::Both, b"1", Ok(UNIT)),
-        (Part::Both, b"1.000000000001", Err(BadTolerance)),
-        (Part::Relative, b"1.0", Ok(UNIT)),
-        (Part::Relative, b"1.000000000001", Err(BadTolerance)),
-        (Part::Absolute, b"1.000000000001", Ok(UNIT + 1)),
-        (Part::Absolute, b"1.0000000000010", Ok(UNIT + 1)),
-        (Part::Absolute, b"1.0000000000011", Err(BadTolerance)),
-        (
-            Part::Absolute,
-            b"999999999999.999999999999",
-            Ok(UNIT * UNIT - 1),
-        ),
-        (Part::Absolute, b"1e12", Err(BadTolerance)),
-        (Part::Absolute, b"1e9999", Err(BadTolerance)),
-        (Part::Absolute, b"0e-9999", Ok(0)),
-        (Part::Absolute, b"1e-9999", Err(BadTolerance)),
-        (Part::Absolute, b"1e", Err(BadTolerance)),
-    ];
-    for (part, word, want) in rows {
-        assert_eq!(rt; read_amount(part, word), want, "at {word:?}");
+fn moves_the_point_through_long_words(rt: HostRuntime) -> Result<(), Fail> {
+    check_words(&rt, LONG_WORDS)
+}
+
+/// The part of a tolerance, a word, and the amount that is read of it, in units of 10^-12.
+const AMOUNTS: &str = concat!(
+    "both 1e-6 => Ok(1000000)\n",
+    "both 1e-12 => Ok(1)\n",
+    "both 1e-13 => Err(BadTolerance)\n",
+    "both 10e-13 => Ok(1)\n",
+    "both 0 => Ok(0)\n",
+    "both +0.5 => Ok(500000000000)\n",
+    "both -0 => Err(BadTolerance)\n",
+    "both 1 => Ok(1000000000000)\n",
+    "both 1.000000000001 => Err(BadTolerance)\n",
+    "relative 1.0 => Ok(1000000000000)\n",
+    "relative 1.000000000001 => Err(BadTolerance)\n",
+    "absolute 1.000000000001 => Ok(1000000000001)\n",
+    "absolute 1.0000000000010 => Ok(1000000000001)\n",
+    "absolute 1.0000000000011 => Err(BadTolerance)\n",
+    "absolute 999999999999.999999999999 => Ok(999999999999999999999999)\n",
+    "absolute 1e12 => Err(BadTolerance)\n",
+    "absolute 1e9999 => Err(BadTolerance)\n",
+    "absolute 0e-9999 => Ok(0)\n",
+    "absolute 1e-9999 => Err(BadTolerance)\n",
+    "absolute 1e => Err(BadTolerance)\n",
+);
+
+fn part_of(word: &str) -> Part {
+    match word {
+        "relative" => Part::Relative,
+        "absolute" => Part::Absolute,
+        _ => Part::Both,
     }
+}
+
+/// What is read of a part and a word.
+fn amount_text(alloc: Global, fields: &str) -> Result<String, AllocError> {
+    let (part, word) = fields.split_once(' ').unwrap_or((fields, ""));
+    let amount = read_amount(part_of(part), word.as_bytes());
+    format!(in alloc; "{amount:?}")
+}
+
+#[test]
+fn reads_amounts(rt: HostRuntime) -> Result<(), Fail> {
+    for row in AMOUNTS.lines() {
+        let (fields, want) = row.split_once(" => ").unwrap_or((row, ""));
+        let amount = amount_text(rt.alloc(), fields)?;
+        assert_eq!(rt; amount.as_str(), want, "at {fields:?}");
+    }
+    Ok(())
+}
+
+const MILLION: Option<i128> = Some(1_000_000);
+
+const TEAM: i128 = 10 * UNIT * UNIT - 1;
+
+const JUDGE: i128 = UNIT * UNIT - 1;
+
+/// Checks whether the values of the team and of the judge agree within a relative and an absolute tolerance.
+fn check_within<R: Abort>(
+    rt: &R,
+    relative: Option<i128>,
+    absolute: Option<i128>,
+    team: i128,
+    judge: i128,
+    want: bool,
+)
+    requires team { unsigned_abs team < 10 ^ 25 }
+    requires judge { unsigned_abs judge < 10 ^ 24 }
+{
+    let tolerance = Tolerance { relative, absolute };
+    assert_eq!(rt;
+        within(&tolerance, team, judge),
+        want,
+        "{tolerance:?} at {team} for {judge}"
+    );
 }
 
 #[test]
 fn compares_within_tolerances(rt: HostRuntime) {
-    let million = Some(1_000_000);
-    let team = 10 * UNIT * UNIT - 1;
-    let judge = UNIT * UNIT - 1;
-    let rows: [(Option<i128>, Option<i128>, i128, i128, bool); 18] = [
-        (None, None, 5, 5, false),
-        (None, Some(0), UNIT, UNIT, true),
-        (None, Some(0), UNIT + 1, UNIT, false),
-        (None, million, UNIT + 1_000_000, UNIT, true),
-        (None, million, UNIT + 1_000_001, UNIT, false),
-        (None, million, UNIT - 1_000_001, UNIT, false),
-        (million, None, 2 * UNIT + 2_000_000, 2 * UNIT, true),
-        (million, None, 2 * UNIT + 2_000_001, 2 * UNIT, false),
-        (million, None, -2 * UNIT - 2_000_000, -2 * UNIT, true),
-        (million, None, 1, 0, false),
-        (million, None, 0, 0, true),
-        (million, Some(1), 1, 0, true),
-        (Some(1), None, UNIT + 2, UNIT, false),
-        (Some(i128::MAX), None, team, judge, true),
-        (Some(i128::MAX), None, 1, 0, false),
-        (Some(i128::MIN), None, judge, judge, false),
-        (Some(i128::MIN), None, 0, 0, true),
-        (None, Some(-1), judge, judge, false),
-    ];
-    for (relative, absolute, team, judge, want) in rows {
-        let tolerance = Tolerance { relative, absolute };
-        assert_eq!(rt;
-            within(&tolerance, team, judge),
-            want,
-            "{tolerance:?} at {team} for {judge}"
-        );
-    }
+    check_within(&rt, None, None, 5, 5, false);
+    check_within(&rt, None, Some(0), UNIT, UNIT, true);
+    check_within(&rt, None, Some(0), UNIT + 1, UNIT, false);
+    check_within(&rt, None, MILLION, UNIT + 1_000_000, UNIT, true);
+    check_within(&rt, None, MILLION, UNIT + 1_000_001, UNIT, false);
+    check_within(&rt, None, MILLION, UNIT - 1_000_001, UNIT, false);
+    check_within(&rt, MILLION, None, 2 * UNIT + 2_000_000, 2 * UNIT, true);
+    check_within(&rt, MILLION, None, 2 * UNIT + 2_000_001, 2 * UNIT, false);
+    check_within(&rt, MILLION, None, -2 * UNIT - 2_000_000, -2 * UNIT, true);
+    check_within(&rt, MILLION, None, 1, 0, false);
+    check_within(&rt, MILLION, None, 0, 0, true);
+    check_within(&rt, MILLION, Some(1), 1, 0, true);
+    check_within(&rt, Some(1), None, UNIT + 2, UNIT, false);
+    check_within(&rt, Some(i128::MAX), None, TEAM, JUDGE, true);
+    check_within(&rt, Some(i128::MAX), None, 1, 0, false);
+    check_within(&rt, Some(i128::MIN), None, JUDGE, JUDGE, false);
+    check_within(&rt, Some(i128::MIN), None, 0, 0, true);
+    check_within(&rt, None, Some(-1), JUDGE, JUDGE, false);
 }

@@ -1,6 +1,9 @@
+use crate::rows::bytes_of;
 use crate::verdicts::verdict;
 use decimal_compare::Tolerance;
 use default_validator::{FlagFault, Flags, wide_token};
+use std::alloc::{AllocError, Global};
+use std::process::Abort;
 use std::test::Fail;
 
 const UNIT: i128 = 1_000_000_000_000;
@@ -118,64 +121,97 @@ fn reads_flags(rt: HostRuntime) {
     }
 }
 
-#[test]
-fn compares_numbers_within_tolerances(rt: HostRuntime) {
-    let rows: [(&[u8], &[u8], &[u8], bool); 22] = [
-        (b"float_tolerance 1e-6", b"0.0314", b"3.14000000e-2", true),
-        (b"float_tolerance 1e-6", b"200", b"2.0e2", true),
-        (b"float_tolerance 1e-6", b"1.0", b"1", true),
-        (b"float_tolerance 1e-6", b"x 1.0 y", b"x 1.0000009 y", true),
-        (b"float_tolerance 1e-6", b"1.0", b"one", false),
-        (b"float_tolerance 1e-6", b"1.0", b"1.0 1.0", false),
-        (b"float_tolerance 1e-6", b"-0", b"0.0", true),
-        (b"float_absolute_tolerance 1e-6", b"1.0", b"1.000001", true),
-        (b"float_absolute_tolerance 1e-6", b"1.0", b"1.000002", false),
-        (b"float_relative_tolerance 1e-6", b"3.0", b"3.000003", true),
-        (b"float_relative_tolerance 1e-6", b"3.0", b"3.000004", false),
-        (b"float_relative_tolerance 1e-6", b"0", b"1e-12", false),
-        (
-            b"float_absolute_tolerance 0",
-            b"1.0",
-            b"1.0000000000009",
-            true,
-        ),
-        (
-            b"float_absolute_tolerance 0",
-            b"1.0000000000009",
-            b"1.0",
-            true,
-        ),
-        (
-            b"float_absolute_tolerance 0",
-            b"1.0",
-            b"1.000000000001",
-            false,
-        ),
-        (b"float_tolerance 1e-6", b"1000000000000", b"1.0e12", false),
-        (
-            b"float_tolerance 1e-6",
-            b"1000000000000",
-            b"1000000000000",
-            true,
-        ),
-        (
-            b"float_tolerance 1e-6",
-            b"999999999999",
-            b"1000000000000",
-            true,
-        ),
-        (b"float_tolerance 1", b"9e11", b"1e13", false),
-        (b"", b"1.0", b"1", false),
-        (b"", b"1e12", b"1E12", true),
-        (b"case_sensitive float_tolerance 0", b"1e5", b"1E5", true),
-    ];
-    for (flags, answer, output, want) in rows {
-        assert_eq!(rt;
-            verdict(flags, answer, output),
-            Some(want),
-            "{flags:?} {answer:?} {output:?}"
-        );
+/// Flags, an answer and an output, as `bytes_of` reads these two, and what the validator says: numbers.
+const NUMBERS: &str = concat!(
+    "float_tolerance 1e-6|0.0314|3.14000000e-2 => accepted\n",
+    "float_tolerance 1e-6|200|2.0e2 => accepted\n",
+    "float_tolerance 1e-6|1.0|1 => accepted\n",
+    "float_tolerance 1e-6|x 1.0 y|x 1.0000009 y => accepted\n",
+    "float_tolerance 1e-6|1.0|one => refused\n",
+    "float_tolerance 1e-6|1.0|1.0 1.0 => refused\n",
+    "float_tolerance 1e-6|-0|0.0 => accepted\n",
+    "float_absolute_tolerance 1e-6|1.0|1.000001 => accepted\n",
+    "float_absolute_tolerance 1e-6|1.0|1.000002 => refused\n",
+    "float_relative_tolerance 1e-6|3.0|3.000003 => accepted\n",
+    "float_relative_tolerance 1e-6|3.0|3.000004 => refused\n",
+    "float_relative_tolerance 1e-6|0|1e-12 => refused\n",
+    "float_absolute_tolerance 0|1.0|1.0000000000009 => accepted\n",
+    "float_absolute_tolerance 0|1.0000000000009|1.0 => accepted\n",
+    "float_absolute_tolerance 0|1.0|1.000000000001 => refused\n",
+    "float_tolerance 1e-6|1000000000000|1.0e12 => refused\n",
+    "float_tolerance 1e-6|1000000000000|1000000000000 => accepted\n",
+    "float_tolerance 1e-6|999999999999|1000000000000 => accepted\n",
+    "float_tolerance 1|9e11|1e13 => refused\n",
+    "|1.0|1 => refused\n",
+    "|1e12|1E12 => accepted\n",
+    "case_sensitive float_tolerance 0|1e5|1E5 => accepted\n",
+);
+
+/// The same of white space and case.
+const SPACES: &str = concat!(
+    "|a b~|a  b => accepted\n",
+    "|a b~|a b => accepted\n",
+    "|a b~|A B => accepted\n",
+    "|a b~| \t\x0b\x0c\r~a b => accepted\n",
+    "|a b~|ab => refused\n",
+    "|a b~|a => refused\n",
+    "|a~|a b => refused\n",
+    "|a b~|a c => refused\n",
+    "space_change_sensitive|a b~|a  b~ => refused\n",
+    "space_change_sensitive|a b~|a b => refused\n",
+    "space_change_sensitive|a b~|a b~ => accepted\n",
+    "space_change_sensitive|a b~|A b~ => accepted\n",
+    "space_change_sensitive|a b~| a b~ => refused\n",
+    "space_change_sensitive|a b|a\tb => refused\n",
+    "space_change_sensitive| ~| ~ => accepted\n",
+    "space_change_sensitive| ~| => refused\n",
+    "case_sensitive|a b~|A b~ => refused\n",
+    "case_sensitive|a b~|a  b => accepted\n",
+    "|| => accepted\n",
+    "|| ~ => accepted\n",
+    "||x => refused\n",
+    "| |x => refused\n",
+    "|@[`{|@[`{ => accepted\n",
+    "|@|` => refused\n",
+    "|[|{ => refused\n",
+    "|a\0b|A\0B => accepted\n",
+    "|a\0b|a b => refused\n",
+);
+
+fn said(verdict: Option<bool>) -> &'static str {
+    match verdict {
+        Some(true) => "accepted",
+        Some(false) => "refused",
+        None => "nothing",
     }
+}
+
+/// What the validator says of the flags, the answer and the output of a row.
+fn verdict_of(alloc: Global, row: &str) -> Result<&'static str, AllocError> {
+    let (flags, texts) = row.split_once('|').unwrap_or((row, ""));
+    let (answer, output) = texts.split_once('|').unwrap_or((texts, ""));
+    let answer = bytes_of(alloc, answer)?;
+    let output = bytes_of(alloc, output)?;
+    Ok(said(verdict(flags.as_bytes(), answer.as_slice(), output.as_slice())))
+}
+
+fn check_verdicts<R: Abort + AllocGlobal>(rt: &R, rows: &str) -> Result<(), Fail> {
+    for row in rows.lines() {
+        let (texts, want) = row.split_once(" => ").unwrap_or((row, ""));
+        assert_eq!(rt; verdict_of(rt.alloc(), texts)?, want, "{texts:?}");
+    }
+    Ok(())
+}
+
+#[test]
+fn compares_numbers_within_tolerances(rt: HostRuntime) -> Result<(), Fail> {
+    check_verdicts(&rt, NUMBERS)
+}
+
+#[test]
+fn minds_white_space_and_case(rt: HostRuntime) -> Result<(), Fail> {
+    assert_eq!(rt; verdict(b"", b"\xc4", b"\xe4"), Some(false));
+    check_verdicts(&rt, SPACES)
 }
 
 #[test]
@@ -196,49 +232,8 @@ fn finds_wide_tokens(rt: HostRuntime) -> Result<(), Fail> {
         (b"", None),
     ];
     for (answer, want) in rows {
-        assert_eq!(rt; wide_token(&tolerant, answer), want, "at {answer:?}");
-        assert_eq!(rt; wide_token(&plain, answer), None, "at {answer:?}");
+        let found = (wide_token(&tolerant, answer), wide_token(&plain, answer));
+        assert_eq!(rt; found, (want, None), "at {answer:?}");
     }
     Ok(())
-}
-
-#[test]
-fn minds_white_space_and_case(rt: HostRuntime) {
-    let rows: [(&[u8], &[u8], &[u8], bool); 28] = [
-        (b"", b"a b\n", b"a  b", true),
-        (b"", b"a b\n", b"a b", true),
-        (b"", b"a b\n", b"A B", true),
-        (b"", b"a b\n", b" \t\x0b\x0c\r\na b", true),
-        (b"", b"a b\n", b"ab", false),
-        (b"", b"a b\n", b"a", false),
-        (b"", b"a\n", b"a b", false),
-        (b"", b"a b\n", b"a c", false),
-        (b"space_change_sensitive", b"a b\n", b"a  b\n", false),
-        (b"space_change_sensitive", b"a b\n", b"a b", false),
-        (b"space_change_sensitive", b"a b\n", b"a b\n", true),
-        (b"space_change_sensitive", b"a b\n", b"A b\n", true),
-        (b"space_change_sensitive", b"a b\n", b" a b\n", false),
-        (b"space_change_sensitive", b"a b", b"a\tb", false),
-        (b"space_change_sensitive", b" \n", b" \n", true),
-        (b"space_change_sensitive", b" \n", b"", false),
-        (b"case_sensitive", b"a b\n", b"A b\n", false),
-        (b"case_sensitive", b"a b\n", b"a  b", true),
-        (b"", b"", b"", true),
-        (b"", b"", b" \n", true),
-        (b"", b"", b"x", false),
-        (b"", b" ", b"x", false),
-        (b"", b"@[`{", b"@[`{", true),
-        (b"", b"@", b"`", false),
-        (b"", b"[", b"{", false),
-        (b"", b"\xc4", b"\xe4", false),
-        (b"", b"a\0b", b"A\0B", true),
-        (b"", b"a\0b", b"a b", false),
-    ];
-    for (flags, answer, output, want) in rows {
-        assert_eq!(rt;
-            verdict(flags, answer, output),
-            Some(want),
-            "{flags:?} {answer:?} {output:?}"
-        );
-    }
 }

@@ -1,4 +1,4 @@
-use elf_image::{ElfFault, read_elf, worked_faults, worked_image};
+use elf_image::{ElfFault, Segment, read_elf, worked_faults, worked_image};
 use std::alloc::{AllocError, Global};
 use std::test::Fail;
 
@@ -115,12 +115,20 @@ fn told(alloc: Global, file: &[u8]) -> Result<String, AllocError> {
     };
     let mut told = format!(in alloc; "{}:", elf.entry())?;
     for i in 0..elf.count() {
-        let s = elf.segment(i);
         let mark = if i == 0 { "" } else { "," };
-        let part = format!(in alloc; "{mark} {} {} {} {}", s.at, s.offset, s.len, s.size)?;
-        told.push_str(part.as_str())?;
+        push_segment(alloc, &mut told, mark, elf.segment(i))?;
     }
     Ok(told)
+}
+
+fn push_segment(
+    alloc: Global,
+    told: &mut String,
+    mark: &str,
+    s: Segment,
+) -> Result<(), AllocError> {
+    let part = format!(in alloc; "{mark} {} {} {} {}", s.at, s.offset, s.len, s.size)?;
+    told.push_str(part.as_str())
 }
 
 /// The bytes of a file at the first address that has one.

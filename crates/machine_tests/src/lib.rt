@@ -10,6 +10,8 @@ mod default_validator_tests;
 #[cfg(test)]
 mod elf_image_tests;
 #[cfg(test)]
+mod rows;
+#[cfg(test)]
 mod rv_machine_tests;
 #[cfg(test)]
 mod rv_memory_tests;

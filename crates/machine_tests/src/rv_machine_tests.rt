@@ -1,6 +1,6 @@
+use crate::rows::image_of;
 use farm_kinds::{Limits, raw_image};
 use rv_machine::{Ending, Extra, Files, Machine, Trap};
-use std::alloc::{AllocError, Global};
 use std::process::Abort;
 use std::test::Fail;
 
@@ -206,14 +206,6 @@ const UNKNOWN: [u32; 6] = [
     0x0000_0073,
 ];
 
-fn image_of(alloc: Global, words: &[u32]) -> Result<Vec<u8>, AllocError> {
-    let mut image = Vec::new(alloc);
-    for word in words {
-        image.extend_from_slice(word.to_le_bytes().as_slice())?;
-    }
-    Ok(image)
-}
-
 fn check<R: Abort + AllocGlobal>(
     rt: &R,
     words: &[u32],
@@ -225,13 +217,21 @@ fn check<R: Abort + AllocGlobal>(
     let image = image_of(rt.alloc(), words)?;
     assert!(rt; raw_image(image.as_slice()));
     let mut machine = Machine::load(rt.alloc(), image.as_slice(), limits, files)?;
+    check_end(rt, &mut machine, end)?;
+    assert!(rt; machine.output() == output);
     // A machine that has ended answers its ending again.
-    for _ in 0..2 {
-        assert!(rt; machine.run()? == end.0);
-        assert_eq!(rt; machine.cost(), end.1);
-        assert_eq!(rt; machine.pages(), end.2);
-        assert!(rt; machine.output() == output);
-    }
+    check_end(rt, &mut machine, end)?;
+    assert!(rt; machine.output() == output);
+    Ok(())
+}
+
+fn check_end<R: Abort + AllocGlobal>(
+    rt: &R,
+    machine: &mut Machine<'_>,
+    end: (Ending, u64, u32),
+) -> Result<(), Fail> {
+    assert!(rt; machine.run()? == end.0);
+    assert_eq!(rt; (machine.cost(), machine.pages()), (end.1, end.2));
     Ok(())
 }
 
@@ -370,10 +370,7 @@ fn check_placed<R: Abort + AllocGlobal>(
         assert!(rt; at as u64 + bytes.len() as u64 <= 1 << 32);
         machine.place(at, bytes.as_slice())?;
     }
-    assert!(rt; machine.run()? == end.0);
-    assert_eq!(rt; machine.cost(), end.1);
-    assert_eq!(rt; machine.pages(), end.2);
-    Ok(())
+    check_end(rt, &mut machine, end)
 }
 
 #[test]

@@ -30,25 +30,22 @@ fn a_range_lies_in_each_of_its_pages(rt: HostRuntime) {
     assert!(rt; memory.fits(AT, 0));
     assert!(rt; memory.fits(AT + 4094, 4098));
     assert!(rt; !memory.fits(AT + 4094, 4099));
-    assert_eq!(rt; edge(&mut memory, rt.alloc()), 3);
+    assert!(rt; edge(&mut memory, rt.alloc()));
     assert!(rt; memory.pages() == 2);
     assert!(rt; memory.load16(AT + 4094) == Ok(0x0201));
     assert!(rt; memory.load8(AT + 4096) == Ok(3));
 }
 
-// How many of the three bytes come back.
-fn edge(memory: &mut Memory, alloc: Global) -> usize {
+// Whether the three bytes come back.
+fn edge(memory: &mut Memory, alloc: Global) -> bool {
     let bytes = [1u8, 2, 3];
     let mut back = Vec::new(alloc);
     if !memory.fits(AT + 4094, 3) || memory.touch_range(AT + 4094, 3).is_err() {
-        return 0;
+        return false;
     }
     memory.copy_in(AT + 4094, &bytes);
     if memory.copy_out(AT + 4094, 3, &mut back).is_err() {
-        return 0;
+        return false;
     }
-    back.iter()
-        .zip(bytes.iter())
-        .filter(|(a, b)| a == b)
-        .count()
+    back.as_slice() == bytes.as_slice()
 }
