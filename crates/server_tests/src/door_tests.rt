@@ -1,6 +1,7 @@
 ghost use Rattle.std.specs.Prelude.{◌≡◌, ◌<◌, length, All, IfOk};
 ghost use Rattle.farm_io.specs.MemoryDoors.{IsNew, IsReliableNew};
 
+use crate::talks::check_bytes;
 use farm_io::{
     Accepted, Clock, Connection, Door, DoorErr, FixedClock, MemoryConn, MemoryDoor, MemorySink,
     MemorySource, PutEnd, ReliableConn, ReliableDoor, ReliableSink, ReliableSource, Sink, Source,
@@ -9,6 +10,7 @@ use farm_io::{
 use std::alloc::{AllocError, Global};
 use std::io::{Read, Write};
 use std::net::{Ipv4Addr, TcpStream};
+use std::process::Abort;
 use std::test::Fail;
 
 #[test]
@@ -59,16 +61,18 @@ fn take_and_put<N: Source + Sink>(conn: &mut N) -> ([Taken; 4], [PutEnd; 3]) {
     ([first, second, third, last], [x, y, z])
 }
 
+/// Compares the answers to reads and writes.
+fn check_sides(rt: &impl Abort, sides: ([Taken; 4], [PutEnd; 3])) {
+    let takes = [Taken::Bytes(2), Taken::Failed, Taken::Bytes(1), Taken::End];
+    let puts = [PutEnd::Done, PutEnd::Failed, PutEnd::Done];
+    assert_eq!(rt; sides, (takes, puts));
+}
+
 #[test]
 fn each_side_of_a_connection_fails_by_itself(rt: HostRuntime) -> Result<(), Fail> {
     let mut conn = memory_conn(rt.alloc(), b"abc")?;
-    let (takes, puts) = take_and_put(&mut conn);
-    assert_eq!(rt;
-        takes,
-        [Taken::Bytes(2), Taken::Failed, Taken::Bytes(1), Taken::End]
-    );
-    assert_eq!(rt; puts, [PutEnd::Done, PutEnd::Failed, PutEnd::Done]);
-    assert_eq!(rt; conn.sink.bytes(), b"xz".as_slice());
+    check_sides(&rt, take_and_put(&mut conn));
+    check_bytes(&rt, conn.sink.bytes(), b"xz", "");
     Ok(())
 }
 
@@ -110,16 +114,22 @@ fn door_of_two(alloc: Global) -> Result<ReliableDoor, AllocError>
     ReliableDoor::new(alloc, coming)
 }
 
-#[test]
-fn connections_come_in_order_and_go_back_as_they_are_given(rt: HostRuntime) -> Result<(), Fail> {
-    let mut door = door_of_two(rt.alloc())?;
-    assert_eq!(rt; serve_two(&mut door), [b'a', b'b']);
+/// Checks that both connections come and go back, and that no more comes.
+fn check_two(rt: &impl Abort, door: &mut ReliableDoor) -> Result<(), Fail>
+    requires { door.old.accepted ≡ length door.old.back }
+{
+    assert_eq!(rt; serve_two(door), [b'a', b'b']);
     assert!(rt; matches!(door.accept(), Accepted::End));
     let [second, _] = door.back() else {
         return Err(Fail::new("not both came back"));
     };
     assert_eq!(rt; second.sink.bytes(), b"2".as_slice());
     Ok(())
+}
+
+#[test]
+fn connections_come_in_order_and_go_back_as_they_are_given(rt: HostRuntime) -> Result<(), Fail> {
+    check_two(&rt, &mut door_of_two(rt.alloc())?)
 }
 
 /// Listens and accepts as often as the door fails, and once more, and gives the connection back: what it had left, and how
@@ -151,12 +161,67 @@ fn failing_door(alloc: Global) -> Result<MemoryDoor, AllocError>
     MemoryDoor::new(alloc, coming, [0, 2].to_vec(alloc)?)
 }
 
-#[test]
-fn a_door_fails_at_the_listed_calls_and_loses_no_connection(rt: HostRuntime) -> Result<(), Fail> {
-    let mut door = failing_door(rt.alloc())?;
-    assert_eq!(rt; serve_one(&mut door), Some(b'a'));
+/// Checks that the door gives its connection after it has failed, and that no more comes.
+fn check_one(rt: &impl Abort, door: &mut MemoryDoor)
+    requires { door.old.accepted ≡ length door.old.back }
+{
+    assert_eq!(rt; serve_one(door), Some(b'a'));
     assert!(rt; matches!(door.accept(), Accepted::End));
     assert_eq!(rt; door.back().len(), 1);
+}
+
+#[test]
+fn a_door_fails_at_the_listed_calls_and_loses_no_connection(rt: HostRuntime) -> Result<(), Fail> {
+    check_one(&rt, &mut failing_door(rt.alloc())?);
+    Ok(())
+}
+
+/// A stream to the door.
+pub(crate) fn connect(rt: &HostRuntime, door: &TcpDoor<&HostRuntime>) -> Result<TcpStream, Fail> {
+    let Some(listener) = &door.listener else {
+        return Err(Fail::new("no listener"));
+    };
+    let port = listener.local_addr()?.port();
+    Ok(TcpStream::connect(rt, (Ipv4Addr::LOCALHOST, port))?)
+}
+
+/// Accepts a connection, puts a byte on it and gives it back: what was read of it, and how the put ended.
+fn serve_peer(door: &mut TcpDoor<&HostRuntime>) -> Option<(u8, PutEnd)>
+    requires { door.old.returned ≡ door.old.accepted }
+{
+    let Accepted::Conn(mut conn) = door.accept() else {
+        return None;
+    };
+    let byte = first_byte(&mut conn);
+    let end = conn.put(b"b");
+    door.give_back(conn);
+    Some((byte, end))
+}
+
+/// How many bytes a first read of a stream gives, the first of them, and how many a second read gives.
+fn read_twice(peer: &mut TcpStream) -> Result<(usize, u8, usize), Fail> {
+    let mut room = [0u8; 2];
+    let first = peer.read(&mut room)?;
+    let byte = room[0];
+    let second = peer.read(&mut room)?;
+    Ok((first, byte, second))
+}
+
+/// Compares what the two ends of a stream say.
+fn check_peer(
+    rt: &impl Abort,
+    door: &mut TcpDoor<&HostRuntime>,
+    peer: &mut TcpStream,
+) -> Result<(), Fail>
+    requires { door.old.returned ≡ door.old.accepted }
+{
+    peer.write_all(b"a")?;
+    let served = serve_peer(door);
+    let read = read_twice(peer)?;
+    assert_eq!(rt;
+        (served, read, door.faults),
+        (Some((b'a', PutEnd::Done)), (1, b'b', 0), 1)
+    );
     Ok(())
 }
 
@@ -164,24 +229,7 @@ fn a_door_fails_at_the_listed_calls_and_loses_no_connection(rt: HostRuntime) -> 
 fn a_listener_accepts_a_stream_and_ends_it(rt: HostRuntime) -> Result<(), Fail> {
     let mut door = TcpDoor::new(&rt);
     assert!(rt; matches!(door.accept(), Accepted::Failed));
-    assert_eq!(rt; door.faults, 1);
-    assert_eq!(rt; door.listen(0), Ok(()));
-    let Some(listener) = &door.listener else {
-        return Err(Fail::new("no connection"));
-    };
-    let port = listener.local_addr()?.port();
-    let mut peer = TcpStream::connect(&rt, (Ipv4Addr::LOCALHOST, port))?;
-    peer.write_all(b"a")?;
-    let Accepted::Conn(mut conn) = door.accept() else {
-        return Err(Fail::new("no connection"));
-    };
-    assert_eq!(rt; first_byte(&mut conn), b'a');
-    assert_eq!(rt; conn.put(b"b"), PutEnd::Done);
-    door.give_back(conn);
-    let mut room = [0u8; 2];
-    assert_eq!(rt; peer.read(&mut room)?, 1);
-    assert_eq!(rt; room[0], b'b');
-    assert_eq!(rt; peer.read(&mut room)?, 0);
-    assert_eq!(rt; door.faults, 1);
-    Ok(())
+    assert_eq!(rt; (door.faults, door.listen(0)), (1, Ok(())));
+    let mut peer = connect(&rt, &door)?;
+    check_peer(&rt, &mut door, &mut peer)
 }

@@ -1,5 +1,6 @@
 use crate::computed::computed_lines;
 use crate::slow::Slow;
+use crate::talks::bytes_of;
 use farm_io::{
     Line, LineReader, MemorySink, MemorySource, PutEnd, ReadSource, ReliableSink, ReliableSource,
     Sink, Source, Taken, WriteSink,
@@ -28,6 +29,11 @@ fn read_all<S: Source>(alloc: Global, source: &mut S) -> Result<(Vec<u8>, Line),
     Ok((shown, Line::Text))
 }
 
+/// Compares lines that are shown, and why no more came.
+fn check_shown(rt: &impl Abort, shown: &[u8], want: &[u8], stop: Line, end: Line) {
+    assert_eq!(rt; (shown, stop), (want, end));
+}
+
 /// Compares the lines of the source, as `read_all` shows them, and why no more came.
 fn check_lines<S: Source>(
     rt: &impl Abort,
@@ -37,36 +43,48 @@ fn check_lines<S: Source>(
     end: Line,
 ) -> Result<(), AllocError> {
     let (shown, stop) = read_all(alloc, source)?;
-    assert_eq!(rt; shown.as_slice(), want);
-    assert_eq!(rt; stop, end);
+    check_shown(rt, shown.as_slice(), want, stop, end);
     Ok(())
 }
 
-const TEXTS: [(&[u8], &[u8]); 12] = [
-    (b"", b""),
-    (b"a", b"a|"),
-    (b"a\n", b"a|"),
-    (b"a\nbc\n\nd", b"a|bc||d|"),
-    (b"\n\n", b"||"),
-    (b"a\r\nb\r\n", b"a|b|"),
-    (b"a\r\r\n", b"a\r|"),
-    (b"a\rb\n", b"a\rb|"),
-    (b"\r\n", b"|"),
-    (b"a\n\r", b"a||"),
-    (b"a\r", b"a|"),
-    (b"\xff\x00\xfe\n\x80", b"\xff\x00\xfe|\x80|"),
-];
+/// Texts, and their lines as `read_all` shows them, a line each, in which `^` is a carriage return and `~` a line feed.
+const TEXTS: &str = concat!(
+    " => \n",
+    "a => a|\n",
+    "a~ => a|\n",
+    "a~bc~~d => a|bc||d|\n",
+    "~~ => ||\n",
+    "a^~b^~ => a|b|\n",
+    "a^^~ => a^|\n",
+    "a^b~ => a^b|\n",
+    "^~ => |\n",
+    "a~^ => a||\n",
+    "a^ => a|\n",
+);
+
+/// Compares the lines of bytes that come at once, and one by one.
+fn check_text(rt: &impl Abort, alloc: Global, text: &[u8], want: &[u8]) -> Result<(), AllocError> {
+    let mut source = ReliableSource::new(text.to_vec(alloc)?);
+    check_lines(rt, alloc, &mut source, want, Line::End)?;
+    let inner = ReliableSource::new(text.to_vec(alloc)?);
+    check_lines(rt, alloc, &mut Slow { inner }, want, Line::End)
+}
+
+/// Compares the lines of the text of a row.
+fn check_row(rt: &impl Abort, alloc: Global, row: &str) -> Result<(), AllocError> {
+    let (text, want) = row.split_once(" => ").unwrap_or((row, ""));
+    let text = bytes_of(alloc, text)?;
+    let want = bytes_of(alloc, want)?;
+    check_text(rt, alloc, text.as_slice(), want.as_slice())
+}
 
 #[test]
 fn cuts_lines(rt: HostRuntime) -> Result<(), Fail> {
-    let alloc = rt.alloc();
-    for (text, want) in TEXTS {
-        let mut source = ReliableSource::new(text.to_vec(alloc)?);
-        check_lines(&rt, alloc, &mut source, want, Line::End)?;
-        let inner = ReliableSource::new(text.to_vec(alloc)?);
-        check_lines(&rt, alloc, &mut Slow { inner }, want, Line::End)?;
+    for row in TEXTS.lines() {
+        check_row(&rt, rt.alloc(), row)?;
     }
-    Ok(())
+    let want = b"\xff\x00\xfe|\x80|";
+    Ok(check_text(&rt, rt.alloc(), b"\xff\x00\xfe\n\x80", want)?)
 }
 
 /// `count` letters, an end of the line, and one more line.
@@ -120,13 +138,23 @@ fn next<S: Source>(reader: &mut LineReader, source: &mut S) -> (bool, Line, usiz
     (held, line, reader.text().len())
 }
 
+/// Compares the next line, as `next` gives it.
+fn check_next<S: Source>(
+    rt: &impl Abort,
+    reader: &mut LineReader,
+    source: &mut S,
+    wanted: (bool, Line, usize),
+) {
+    assert_eq!(rt; next(reader, source), wanted);
+}
+
 #[test]
 fn a_read_that_fails_within_a_line_is_answered_again(rt: HostRuntime) -> Result<(), Fail> {
     let mut reader = LineReader::new();
     let mut source = failing(rt.alloc(), b"a\nb", &[1])?;
-    assert_eq!(rt; next(&mut reader, &mut source), (false, Line::Text, 1));
+    check_next(&rt, &mut reader, &mut source, (false, Line::Text, 1));
     for _ in 0..3 {
-        assert_eq!(rt; next(&mut reader, &mut source), (false, Line::ReadFault, 0));
+        check_next(&rt, &mut reader, &mut source, (false, Line::ReadFault, 0));
     }
     Ok(())
 }
@@ -153,8 +181,8 @@ fn each_failing_read_ends_the_lines(rt: HostRuntime) -> Result<(), Fail> {
 fn a_held_line_needs_no_read(rt: HostRuntime) -> Result<(), Fail> {
     let mut reader = LineReader::new();
     let mut source = failing(rt.alloc(), b"a\nb\nc", &[1])?;
-    assert_eq!(rt; next(&mut reader, &mut source), (false, Line::Text, 1));
-    assert_eq!(rt; next(&mut reader, &mut source), (true, Line::Text, 1));
+    check_next(&rt, &mut reader, &mut source, (false, Line::Text, 1));
+    check_next(&rt, &mut reader, &mut source, (true, Line::Text, 1));
     Ok(())
 }
 
@@ -164,16 +192,23 @@ fn put_each<K: Sink>(sink: &mut K, pieces: [&[u8]; 4]) -> [PutEnd; 4] {
     [sink.put(a), sink.put(b), sink.put(c), sink.put(d)]
 }
 
+/// Compares how puts ended, and what the sink holds.
+fn check_puts(rt: &impl Abort, ends: [PutEnd; 4], wanted: [PutEnd; 4], held: &[u8], text: &[u8]) {
+    assert_eq!(rt; (ends, held), (wanted, text));
+}
+
+/// Checks that no call failed.
+fn check_faults(rt: &impl Abort, faults: u64) {
+    assert_eq!(rt; faults, 0);
+}
+
 #[test]
 fn a_sink_holds_what_was_put(rt: HostRuntime) -> Result<(), Fail> {
     let alloc = rt.alloc();
     let mut sink = MemorySink::new(Vec::with_capacity(alloc, 4)?, [1].to_vec(alloc)?);
     let ends = put_each(&mut sink, [b"ab", b"c", b"de", b"f"]);
-    assert_eq!(rt;
-        ends,
-        [PutEnd::Done, PutEnd::Failed, PutEnd::Done, PutEnd::Failed]
-    );
-    assert_eq!(rt; sink.bytes(), b"abde".as_slice());
+    let wanted = [PutEnd::Done, PutEnd::Failed, PutEnd::Done, PutEnd::Failed];
+    check_puts(&rt, ends, wanted, sink.bytes(), b"abde");
     Ok(())
 }
 
@@ -181,11 +216,8 @@ fn a_sink_holds_what_was_put(rt: HostRuntime) -> Result<(), Fail> {
 fn a_sink_without_faults_holds_what_has_room(rt: HostRuntime) -> Result<(), Fail> {
     let mut sink = ReliableSink::new(Vec::with_capacity(rt.alloc(), 4)?);
     let ends = put_each(&mut sink, [b"ab", b"cde", b"fg", b""]);
-    assert_eq!(rt;
-        ends,
-        [PutEnd::Done, PutEnd::Failed, PutEnd::Done, PutEnd::Done]
-    );
-    assert_eq!(rt; sink.bytes(), b"abfg".as_slice());
+    let wanted = [PutEnd::Done, PutEnd::Failed, PutEnd::Done, PutEnd::Done];
+    check_puts(&rt, ends, wanted, sink.bytes(), b"abfg");
     Ok(())
 }
 
@@ -193,17 +225,14 @@ fn a_sink_without_faults_holds_what_has_room(rt: HostRuntime) -> Result<(), Fail
 fn a_reader_is_a_source(rt: HostRuntime) -> Result<(), Fail> {
     let mut source = ReadSource::new(b"a\nb".as_slice());
     check_lines(&rt, rt.alloc(), &mut source, b"a|b|", Line::End)?;
-    assert_eq!(rt; source.faults, 0);
+    check_faults(&rt, source.faults);
     Ok(())
 }
 
 #[test]
 fn a_writer_is_a_sink(rt: HostRuntime) {
     let mut sink = WriteSink::new(Vec::new(rt.alloc()));
-    assert_eq!(rt;
-        put_each(&mut sink, [b"ab", b"", b"c", b""]),
-        [PutEnd::Done; 4]
-    );
-    assert_eq!(rt; sink.writer.as_slice(), b"abc".as_slice());
-    assert_eq!(rt; sink.faults, 0);
+    let ends = put_each(&mut sink, [b"ab", b"", b"c", b""]);
+    check_puts(&rt, ends, [PutEnd::Done; 4], sink.writer.as_slice(), b"abc");
+    check_faults(&rt, sink.faults);
 }

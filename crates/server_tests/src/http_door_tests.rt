@@ -1,11 +1,13 @@
 ghost use Rattle.std.specs.Prelude.{Some};
 ghost use Rattle.farm_io.specs.Beside.{one_sided};
 
+use crate::talks::{bytes_of, check_bytes};
 use farm_io::{MemorySink, MemorySource, ReliableSink, ReliableSource, Source, Taken};
 use farm_kinds::NoMemory;
 use http::StatusCode;
-use http_door::{HttpReader, Next, Refusal, ResponseFault, write_response};
-use std::alloc::Global;
+use http_door::{Head, HttpReader, Next, Refusal, ResponseFault, write_response};
+use std::alloc::{AllocError, Global};
+use std::process::Abort;
 use std::test::Fail;
 
 /// A source that gives a byte at a time, and counts how often it was asked.
@@ -55,393 +57,453 @@ fn name_of(next: &Next) -> &'static [u8] {
     }
 }
 
-/// The requests of the source, each with its parts and a bar behind it, and the name of the answer behind
-/// them, once for each of three calls.
-fn read_all<S: Source>(alloc: Global, source: &mut S) -> Result<Vec<u8>, NoMemory> {
-    let mut shown = Vec::new(alloc);
-    let mut reader = HttpReader::new(alloc)?;
+/// Appends the parts of a request, with a bar behind them.
+fn push_request(shown: &mut Vec<u8>, head: &Head, body: &[u8]) -> Result<(), AllocError> {
+    shown.extend_from_slice(head.method.as_slice())?;
+    shown.extend_from_slice(b" ")?;
+    shown.extend_from_slice(head.target.as_slice())?;
+    shown.extend_from_slice(if head.close { b" close " } else { b" keep " })?;
+    shown.extend_from_slice(body)?;
+    shown.extend_from_slice(b"|")
+}
+
+/// Appends a request, or the name of another answer, and says whether it was a request.
+fn push_answer(shown: &mut Vec<u8>, next: &Next, body: &[u8]) -> Result<bool, AllocError> {
+    if let Next::Request(head) = next {
+        push_request(shown, head, body)?;
+        return Ok(true);
+    }
+    shown.extend_from_slice(name_of(next))?;
+    shown.extend_from_slice(body)?;
+    shown.extend_from_slice(b" ")?;
+    Ok(false)
+}
+
+/// Appends the next answer, and says whether it was a request.
+fn push_next<S: Source>(
+    shown: &mut Vec<u8>,
+    reader: &mut HttpReader,
+    source: &mut S,
+) -> Result<bool, AllocError> {
+    let next = reader.next_request(source);
+    push_answer(shown, &next, reader.body())
+}
+
+/// Appends all requests, and the answers to three calls behind them.
+fn push_all<S: Source>(
+    shown: &mut Vec<u8>,
+    reader: &mut HttpReader,
+    source: &mut S,
+) -> Result<(), AllocError> {
     let mut ends = 0u8;
     for _ in 0..100u64 {
         if ends == 3 {
             break;
         }
-        let next = reader.next_request(source);
-        if let Next::Request(head) = &next {
-            shown.extend_from_slice(head.method.as_slice())?;
-            shown.extend_from_slice(b" ")?;
-            shown.extend_from_slice(head.target.as_slice())?;
-            shown.extend_from_slice(if head.close { b" close " } else { b" keep " })?;
-            shown.extend_from_slice(reader.body())?;
-            shown.extend_from_slice(b"|")?;
-        } else {
-            shown.extend_from_slice(name_of(&next))?;
-            shown.extend_from_slice(reader.body())?;
-            shown.extend_from_slice(b" ")?;
+        if !push_next(shown, reader, source)? {
             ends = ends.saturating_add(1);
         }
     }
+    Ok(())
+}
+
+/// The requests of the source, each with its parts and a bar behind it, and the name of the answer behind
+/// them, once for each of three calls.
+fn read_all<S: Source>(alloc: Global, source: &mut S) -> Result<Vec<u8>, NoMemory> {
+    let mut reader = HttpReader::new(alloc)?;
+    let mut shown = Vec::new(alloc);
+    push_all(&mut shown, &mut reader, source)?;
     Ok(shown)
 }
 
-/// What is read of bytes that come at once.
-fn read_whole(alloc: Global, bytes: Vec<u8>) -> Result<Vec<u8>, NoMemory> {
-    read_all(alloc, &mut ReliableSource::new(bytes))
+/// The text in which a piece between `<` and `>`, as `<ab*3>`, stands as often as the number says.
+fn unrolled(alloc: Global, text: &str) -> Result<String, AllocError> {
+    let (front, rest) = text.split_once('<').unwrap_or((text, ""));
+    let (piece, rest) = rest.split_once('*').unwrap_or(("", rest));
+    let (count, back) = rest.split_once('>').unwrap_or(("", rest));
+    let mut long = String::from_str(alloc, front)?;
+    for _ in 0..count.parse::<u32>().unwrap_or(0) {
+        long.push_str(piece)?;
+    }
+    long.push_str(back)?;
+    Ok(long)
 }
 
-/// What is read of bytes that come one by one.
-fn read_slowly(alloc: Global, bytes: Vec<u8>) -> Result<Vec<u8>, NoMemory> {
-    read_all(alloc, &mut Slow::new(bytes))
+/// The bytes that a text writes, in which `^` is a carriage return, `~` a line feed, and `<ab*3>` is `ababab`.
+fn long_bytes_of(alloc: Global, text: &str) -> Result<Vec<u8>, AllocError> {
+    bytes_of(alloc, unrolled(alloc, text)?.as_str())
 }
 
-const TEXTS: [(&[u8], &[u8]); 27] = [
-    (b"", b"end end end "),
-    (b"GET / HTTP/1.1\r\n\r\n", b"GET / keep |end end end "),
-    (
-        b"GET /a%20b%2Fc?x=1%3F&y HTTP/1.1\r\nhost: x\r\n\r\n",
-        b"GET /a%20b%2Fc?x=1%3F&y keep |end end end ",
-    ),
-    (b"GET / HTTP/1.1\n\n", b"GET / keep |end end end "),
-    (b"\r\n\nGET / HTTP/1.1\r\n\r\n", b"GET / keep |end end end "),
-    (
-        b"POST / HTTP/1.1\r\ncOnTent-LENGTH: \t2 \r\n\r\nab",
-        b"POST / keep ab|end end end ",
-    ),
-    (
-        b"POST /a HTTP/1.1\r\ncontent-length: 0\r\n\r\nPUT /b HTTP/1.1\r\ncontent-length: 3\r\n\r\n\n\r\nGET /c HTTP/1.1\r\n\r\n",
-        b"POST /a keep |PUT /b keep \n\r\n|GET /c keep |end end end ",
-    ),
-    (
-        b"GET / HTTP/1.1\r\na: 1\r\na: 1\r\n\r\n",
-        b"GET / keep |end end end ",
-    ),
-    (
-        b"POST / HTTP/1.1\r\nContent-Length: 2\r\ncontent-length: 2\r\n\r\nab",
-        b"bad-head bad-head bad-head ",
-    ),
-    (
-        b"POST / HTTP/1.1\r\ncontent-length: 2x\r\n\r\nab",
-        b"bad-head bad-head bad-head ",
-    ),
-    (
-        b"POST / HTTP/1.1\r\ncontent-length: 0000000000000000002\r\n\r\nab",
-        b"bad-head bad-head bad-head ",
-    ),
-    (
-        b"POST / HTTP/1.1\r\nhost: x\r\n\r\nab",
-        b"no-length no-length no-length ",
-    ),
-    (
-        b"GET / HTTP/1.1\r\nTransfer-Encoding: chunked\r\n\r\n0\r\n\r\n",
-        b"no-length no-length no-length ",
-    ),
-    (
-        b"POST / HTTP/1.1\r\ncontent-length: 2\r\ntransfer-encoding: identity\r\n\r\nab",
-        b"no-length no-length no-length ",
-    ),
-    (
-        b"POST / HTTP/1.1\r\ncontent-length: 33554433\r\n\r\n",
-        b"body-too-long body-too-long body-too-long ",
-    ),
-    (
-        b"POST / HTTP/1.1\r\ncontent-length: 33554433\r\ntransfer-encoding: x\r\n\r\n",
-        b"no-length no-length no-length ",
-    ),
-    (
-        b"GET / HTTP/1.1\r\nConnection: Close\r\n\r\nGET / HTTP/1.1\r\nconnection: keep-alive, close\r\n\r\n",
-        b"GET / close |GET / keep |end end end ",
-    ),
-    (
-        b"GET / HTTP/1.0\r\nconnection: keep-alive\r\n\r\n",
-        b"GET / close |end end end ",
-    ),
-    (b"GET / HTTP/1.2\r\n\r\n", b"bad-head bad-head bad-head "),
-    (b"G@T / HTTP/1.1\r\n\r\n", b"bad-head bad-head bad-head "),
-    (b"GET  / HTTP/1.1\r\n\r\n", b"bad-head bad-head bad-head "),
-    (
-        b"GET / HTTP/1.1\r\nhost : x\r\n\r\n",
-        b"bad-head bad-head bad-head ",
-    ),
-    (b"G@T", b"bad-head bad-head bad-head "),
-    (b"GET / HTTP/1.1\r\n\r\n\r\n", b"GET / keep |cut cut cut "),
-    (b"GET / HTTP/1.1\r\nhost: x\r\n", b"cut cut cut "),
-    (
-        b"POST / HTTP/1.1\r\ncontent-length: 3\r\n\r\nab",
-        b"cut cut cut ",
-    ),
-    (
-        b"GET /a HTTP/1.1\r\n\r\nPOST / HTTP/1.1\r\ncontent-length: 1\r\n\r\n",
-        b"GET /a keep |cut cut cut ",
-    ),
-];
+/// What comes, and what is read of it, a line each, which `long_bytes_of` reads.
+const TEXTS: &str = concat!(
+    " => end end end \n",
+    "GET / HTTP/1.1^~^~ => GET / keep |end end end \n",
+    "GET /a%20b%2Fc?x=1%3F&y HTTP/1.1^~host: x^~^~ => GET /a%20b%2Fc?x=1%3F&y keep |end end end \n",
+    "GET / HTTP/1.1~~ => GET / keep |end end end \n",
+    "^~~GET / HTTP/1.1^~^~ => GET / keep |end end end \n",
+    "POST / HTTP/1.1^~cOnTent-LENGTH: \t2 ^~^~ab => POST / keep ab|end end end \n",
+    "POST /a HTTP/1.1^~content-length: 0^~^~PUT /b HTTP/1.1^~content-length: 3^~^~~^~GET /c HTTP/1.1^~^~ => POST /a keep |PUT /b keep ~^~|GET /c keep |end end end \n",
+    "GET / HTTP/1.1^~a: 1^~a: 1^~^~ => GET / keep |end end end \n",
+    "POST / HTTP/1.1^~Content-Length: 2^~content-length: 2^~^~ab => bad-head bad-head bad-head \n",
+    "POST / HTTP/1.1^~content-length: 2x^~^~ab => bad-head bad-head bad-head \n",
+    "POST / HTTP/1.1^~content-length: 0000000000000000002^~^~ab => bad-head bad-head bad-head \n",
+    "POST / HTTP/1.1^~host: x^~^~ab => no-length no-length no-length \n",
+    "GET / HTTP/1.1^~Transfer-Encoding: chunked^~^~0^~^~ => no-length no-length no-length \n",
+    "POST / HTTP/1.1^~content-length: 2^~transfer-encoding: identity^~^~ab => no-length no-length no-length \n",
+    "POST / HTTP/1.1^~content-length: 33554433^~^~ => body-too-long body-too-long body-too-long \n",
+    "POST / HTTP/1.1^~content-length: 33554433^~transfer-encoding: x^~^~ => no-length no-length no-length \n",
+    "GET / HTTP/1.1^~Connection: Close^~^~GET / HTTP/1.1^~connection: keep-alive, close^~^~ => GET / close |GET / keep |end end end \n",
+    "GET / HTTP/1.0^~connection: keep-alive^~^~ => GET / close |end end end \n",
+    "GET / HTTP/1.2^~^~ => bad-head bad-head bad-head \n",
+    "G@T / HTTP/1.1^~^~ => bad-head bad-head bad-head \n",
+    "GET  / HTTP/1.1^~^~ => bad-head bad-head bad-head \n",
+    "GET / HTTP/1.1^~host : x^~^~ => bad-head bad-head bad-head \n",
+    "G@T => bad-head bad-head bad-head \n",
+    "GET / HTTP/1.1^~^~^~ => GET / keep |cut cut cut \n",
+    "GET / HTTP/1.1^~host: x^~ => cut cut cut \n",
+    "POST / HTTP/1.1^~content-length: 3^~^~ab => cut cut cut \n",
+    "GET /a HTTP/1.1^~^~POST / HTTP/1.1^~content-length: 1^~^~ => GET /a keep |cut cut cut \n",
+);
+
+/// The same: heads of 64 and 65 fields, heads of 16,384 and 16,385 bytes, and as many without a line feed.
+const LONG: &str = concat!(
+    "GET / HTTP/1.1^~<a: b^~*64>^~ => GET / keep |end end end \n",
+    "GET / HTTP/1.1^~<a: b^~*65>^~ => bad-head bad-head bad-head \n",
+    "GET / HTTP/1.1^~a: <x*16361>^~^~ => GET / keep |end end end \n",
+    "GET / HTTP/1.1^~a: <x*16362>^~^~ => head-too-long head-too-long head-too-long \n",
+    "GET /<x*16379> => head-too-long head-too-long head-too-long \n",
+    "GET /<x*16378> => cut cut cut \n",
+);
+
+/// Compares what is read of bytes that come in this way.
+fn check_shown(rt: &impl Abort, read: &[u8], shown: &[u8], how: &str, name: &str) {
+    assert_eq!(rt; read, shown, "{how} {name}");
+}
+
+/// Compares what is read of a source.
+fn check_read<S: Source>(
+    rt: &impl Abort,
+    alloc: Global,
+    source: &mut S,
+    shown: &[u8],
+    how: &str,
+    name: &str,
+) -> Result<(), Fail> {
+    let read = read_all(alloc, source)?;
+    check_shown(rt, read.as_slice(), shown, how, name);
+    Ok(())
+}
+
+/// Compares what is read of bytes that come at once, and one by one.
+fn check_text(rt: &impl Abort, alloc: Global, row: &str) -> Result<(), Fail> {
+    let (text, shown) = row.split_once(" => ").unwrap_or((row, ""));
+    let shown = bytes_of(alloc, shown)?;
+    let mut whole = ReliableSource::new(long_bytes_of(alloc, text)?);
+    check_read(rt, alloc, &mut whole, shown.as_slice(), "at once", text)?;
+    let mut slow = Slow::new(long_bytes_of(alloc, text)?);
+    check_read(rt, alloc, &mut slow, shown.as_slice(), "one by one", text)
+}
 
 #[test]
 fn cuts_requests(rt: HostRuntime) -> Result<(), Fail> {
-    let alloc = rt.alloc();
-    for (i, (text, want)) in TEXTS.iter().enumerate() {
-        let shown = read_whole(alloc, text.to_vec(alloc)?)?;
-        assert_eq!(rt; shown.as_slice(), *want, "text {i}");
-        let shown = read_slowly(alloc, text.to_vec(alloc)?)?;
-        assert_eq!(rt; shown.as_slice(), *want, "slow text {i}");
+    for row in TEXTS.lines() {
+        check_text(&rt, rt.alloc(), row)?;
     }
     Ok(())
 }
-
-/// A piece so often, between a front and a back.
-fn repeated(
-    alloc: Global,
-    front: &[u8],
-    piece: &[u8],
-    count: usize,
-    back: &[u8],
-) -> Result<Vec<u8>, NoMemory> {
-    let mut text = front.to_vec(alloc)?;
-    for _ in 0..count {
-        text.extend_from_slice(piece)?;
-    }
-    text.extend_from_slice(back)?;
-    Ok(text)
-}
-
-/// Fronts, pieces with their count and backs: heads of 64 and 65 fields, heads of 16,384 and 16,385 bytes,
-/// as many without a line feed, a body over the first window, and the longest body.
-const LONG: [(&[u8], &[u8], usize, &[u8], &[u8]); 6] = [
-    (
-        b"GET / HTTP/1.1\r\n",
-        b"a: b\r\n",
-        64,
-        b"\r\n",
-        b"GET / keep |end end end ",
-    ),
-    (
-        b"GET / HTTP/1.1\r\n",
-        b"a: b\r\n",
-        65,
-        b"\r\n",
-        b"bad-head bad-head bad-head ",
-    ),
-    (
-        b"GET / HTTP/1.1\r\na: ",
-        b"x",
-        16_361,
-        b"\r\n\r\n",
-        b"GET / keep |end end end ",
-    ),
-    (
-        b"GET / HTTP/1.1\r\na: ",
-        b"x",
-        16_362,
-        b"\r\n\r\n",
-        b"head-too-long head-too-long head-too-long ",
-    ),
-    (
-        b"GET /",
-        b"x",
-        16_379,
-        b"",
-        b"head-too-long head-too-long head-too-long ",
-    ),
-    (b"GET /", b"x", 16_378, b"", b"cut cut cut "),
-];
 
 #[test]
 fn keeps_to_the_limits_of_heads(rt: HostRuntime) -> Result<(), Fail> {
-    let alloc = rt.alloc();
-    for (i, (front, piece, count, back, want)) in LONG.iter().enumerate() {
-        let shown = read_whole(alloc, repeated(alloc, front, piece, *count, back)?)?;
-        assert_eq!(rt; shown.as_slice(), *want, "text {i}");
-        let shown = read_slowly(alloc, repeated(alloc, front, piece, *count, back)?)?;
-        assert_eq!(rt; shown.as_slice(), *want, "slow text {i}");
+    for row in LONG.lines() {
+        check_text(&rt, rt.alloc(), row)?;
     }
     Ok(())
 }
 
-/// Heads, and the bodies that they say.
-const BODIES: [(&[u8], usize); 3] = [
-    (b"PUT /a HTTP/1.1\r\ncontent-length: 20000\r\n\r\n", 20_000),
-    (
-        b"PUT /b HTTP/1.1\r\ncontent-length: 100000\r\n\r\n",
-        100_000,
-    ),
-    (
-        b"PUT /c HTTP/1.1\r\ncontent-length: 33554432\r\n\r\n",
-        33_554_432,
-    ),
-];
+/// What stands in front of `=>` in a row, as bytes.
+fn request_of(alloc: Global, row: &str) -> Result<Vec<u8>, AllocError> {
+    let (request, _) = row.split_once(" => ").unwrap_or((row, ""));
+    bytes_of(alloc, request)
+}
+
+/// Heads, and how long the bodies are that they say, a line each.
+const BODIES: &str = concat!(
+    "PUT /a HTTP/1.1^~content-length: 20000^~^~ => 20000\n",
+    "PUT /b HTTP/1.1^~content-length: 100000^~^~ => 100000\n",
+    "PUT /c HTTP/1.1^~content-length: 33554432^~^~ => 33554432\n",
+);
+
+/// A body as long as the head of a row says.
+fn body_of(alloc: Global, row: &str) -> Result<Vec<u8>, AllocError> {
+    let (_, len) = row.split_once(" => ").unwrap_or((row, ""));
+    vec![in alloc; b'x'; len.parse::<usize>().unwrap_or(0)]
+}
+
+/// All heads with their bodies.
+fn bodies(alloc: Global) -> Result<Vec<u8>, AllocError> {
+    let mut text = Vec::new(alloc);
+    for row in BODIES.lines() {
+        text.extend_from_slice(request_of(alloc, row)?.as_slice())?;
+        text.extend_from_slice(body_of(alloc, row)?.as_slice())?;
+    }
+    Ok(text)
+}
+
+/// Compares the next body.
+fn check_body<S: Source>(
+    rt: &impl Abort,
+    alloc: Global,
+    reader: &mut HttpReader,
+    source: &mut S,
+    row: &str,
+) -> Result<(), Fail> {
+    let body = body_of(alloc, row)?;
+    let name = name_of(&reader.next_request(source));
+    check_bytes(rt, name, b"request", row);
+    check_bytes(rt, reader.body(), body.as_slice(), row);
+    Ok(())
+}
+
+/// Compares all bodies, and what comes behind them.
+fn check_bodies<S: Source>(
+    rt: &impl Abort,
+    alloc: Global,
+    reader: &mut HttpReader,
+    source: &mut S,
+) -> Result<(), Fail> {
+    for row in BODIES.lines() {
+        check_body(rt, alloc, reader, source, row)?;
+    }
+    assert_eq!(rt; name_of(&reader.next_request(source)), b"end".as_slice());
+    Ok(())
+}
 
 #[test]
 fn gives_long_bodies(rt: HostRuntime) -> Result<(), Fail> {
     let alloc = rt.alloc();
-    let mut text = Vec::new(alloc);
-    for (head, len) in BODIES {
-        text.extend_from_slice(head)?;
-        text.extend_from_slice(vec![in alloc; b'x'; len]?.as_slice())?;
-    }
-    let mut source = ReliableSource::new(text);
+    let mut source = ReliableSource::new(bodies(alloc)?);
     let mut reader = HttpReader::new(alloc)?;
-    for (_, len) in BODIES {
-        assert_eq!(rt;
-            name_of(&reader.next_request(&mut source)),
-            b"request".as_slice()
-        );
-        assert_eq!(rt; reader.body(), vec![in alloc; b'x'; len]?.as_slice());
-    }
-    assert_eq!(rt;
-        name_of(&reader.next_request(&mut source)),
-        b"end".as_slice()
-    );
-    Ok(())
+    check_bodies(&rt, alloc, &mut reader, &mut source)
 }
 
-/// A judgehost that registers, asks for work and posts a result.
-const REQUESTS: [(&[u8], &[u8]); 3] = [
-    (
-        b"POST /judgehosts HTTP/1.1\r\nhost: x\r\ncontent-length: 17\r\n\r\n{\"hostname\":\"h1\"}",
-        b"POST /judgehosts keep {\"hostname\":\"h1\"}|",
-    ),
-    (
-        b"POST /judgehosts/fetch-work HTTP/1.1\r\nhost: x\r\ncontent-length: 17\r\n\r\n{\"hostname\":\"h1\"}",
-        b"POST /judgehosts/fetch-work keep {\"hostname\":\"h1\"}|",
-    ),
-    (
-        b"POST /judgehosts/add-judging-run HTTP/1.1\r\nhost: x\r\ncontent-length: 57\r\n\r\n{\"hostname\":\"h1\",\"judging\":1,\"test\":1,\"result\":\"correct\"}",
-        b"POST /judgehosts/add-judging-run keep {\"hostname\":\"h1\",\"judging\":1,\"test\":1,\"result\":\"correct\"}|",
-    ),
-];
+/// A judgehost that registers, asks for work and posts a result: its requests, and what is read of them, a line each.
+const REQUESTS: &str = concat!(
+    "POST /judgehosts HTTP/1.1^~host: x^~content-length: 17^~^~{\"hostname\":\"h1\"} => POST /judgehosts keep {\"hostname\":\"h1\"}|\n",
+    "POST /judgehosts/fetch-work HTTP/1.1^~host: x^~content-length: 17^~^~{\"hostname\":\"h1\"} => POST /judgehosts/fetch-work keep {\"hostname\":\"h1\"}|\n",
+    "POST /judgehosts/add-judging-run HTTP/1.1^~host: x^~content-length: 57^~^~{\"hostname\":\"h1\",\"judging\":1,\"test\":1,\"result\":\"correct\"} => POST /judgehosts/add-judging-run keep {\"hostname\":\"h1\",\"judging\":1,\"test\":1,\"result\":\"correct\"}|\n",
+);
+
+/// These bytes, one behind the other.
+fn joined(alloc: Global, front: &[u8], back: &[u8]) -> Result<Vec<u8>, AllocError> {
+    let mut bytes = front.to_vec(alloc)?;
+    bytes.extend_from_slice(back)?;
+    Ok(bytes)
+}
+
+/// Compares what is read where nothing comes behind the first bytes of a request.
+fn check_cut(
+    rt: &impl Abort,
+    alloc: Global,
+    before: &[u8],
+    shown: &[u8],
+    part: &[u8],
+) -> Result<(), Fail> {
+    let end = if part.is_empty() {
+        b"end end end "
+    } else {
+        b"cut cut cut "
+    };
+    let at = part.len().to_string(alloc)?;
+    let shown = joined(alloc, shown, end)?;
+    let mut source = ReliableSource::new(joined(alloc, before, part)?);
+    check_read(
+        rt,
+        alloc,
+        &mut source,
+        shown.as_slice(),
+        "cut at byte",
+        at.as_str(),
+    )
+}
+
+/// Compares what is read where reading fails behind the first bytes of a request.
+fn check_fault(
+    rt: &impl Abort,
+    alloc: Global,
+    before: &[u8],
+    shown: &[u8],
+    part: &[u8],
+) -> Result<(), Fail> {
+    let call = if before.is_empty() && part.is_empty() {
+        0
+    } else {
+        1
+    };
+    let at = part.len().to_string(alloc)?;
+    let shown = joined(alloc, shown, b"read-fault read-fault read-fault ")?;
+    let calls = [call].to_vec(alloc)?;
+    let mut source = MemorySource::new(joined(alloc, before, part)?, calls);
+    check_read(
+        rt,
+        alloc,
+        &mut source,
+        shown.as_slice(),
+        "fault at byte",
+        at.as_str(),
+    )
+}
+
+/// Compares what is read where a request is cut at each byte, and adds it to those before it.
+fn check_request(
+    rt: &impl Abort,
+    alloc: Global,
+    before: &mut Vec<u8>,
+    shown: &mut Vec<u8>,
+    row: &str,
+) -> Result<(), Fail> {
+    let (request, read) = row.split_once(" => ").unwrap_or((row, ""));
+    let request = bytes_of(alloc, request)?;
+    for at in 0..request.len() {
+        let part = &request.as_slice()[..at];
+        check_cut(rt, alloc, before.as_slice(), shown.as_slice(), part)?;
+        check_fault(rt, alloc, before.as_slice(), shown.as_slice(), part)?;
+    }
+    before.extend_from_slice(request.as_slice())?;
+    shown.extend_from_slice(read.as_bytes())?;
+    Ok(())
+}
 
 #[test]
 fn requests_cut_at_each_byte(rt: HostRuntime) -> Result<(), Fail> {
     let alloc = rt.alloc();
     let mut before = Vec::new(alloc);
-    let mut want = Vec::new(alloc);
-    for (request, shown) in REQUESTS {
-        for at in 0..request.len() {
-            let end = if at == 0 {
-                b"end end end ".as_slice()
-            } else {
-                b"cut cut cut "
-            };
-            let bytes = repeated(alloc, before.as_slice(), &request[..at], 1, b"")?;
-            let wanted = repeated(alloc, want.as_slice(), end, 1, b"")?;
-            let read = read_whole(alloc, bytes)?;
-            assert_eq!(rt; read.as_slice(), wanted.as_slice(), "byte {at}");
-            let bytes = repeated(alloc, before.as_slice(), &request[..at], 1, b"")?;
-            let wanted = repeated(alloc, want.as_slice(), b"read-fault ", 3, b"")?;
-            let call = if bytes.is_empty() { 0 } else { 1 };
-            let mut source = MemorySource::new(bytes, [call].to_vec(alloc)?);
-            let read = read_all(alloc, &mut source)?;
-            assert_eq!(rt; read.as_slice(), wanted.as_slice(), "fault at byte {at}");
-        }
-        before.extend_from_slice(request)?;
-        want.extend_from_slice(shown)?;
+    let mut shown = Vec::new(alloc);
+    for row in REQUESTS.lines() {
+        check_request(&rt, alloc, &mut before, &mut shown, row)?;
     }
-    want.extend_from_slice(b"end end end ")?;
-    let read = read_whole(alloc, before)?;
-    assert_eq!(rt; read.as_slice(), want.as_slice());
+    check_cut(&rt, alloc, before.as_slice(), shown.as_slice(), b"")
+}
+
+/// All requests.
+fn requests(alloc: Global) -> Result<Vec<u8>, AllocError> {
+    let mut text = Vec::new(alloc);
+    for row in REQUESTS.lines() {
+        text.extend_from_slice(request_of(alloc, row)?.as_slice())?;
+    }
+    Ok(text)
+}
+
+/// Compares how many bytes were taken behind each request.
+fn check_taken(
+    rt: &impl Abort,
+    alloc: Global,
+    reader: &mut HttpReader,
+    slow: &mut Slow,
+) -> Result<(), Fail> {
+    let mut sent = 0u64;
+    for row in REQUESTS.lines() {
+        sent = sent.saturating_add(request_of(alloc, row)?.len() as u64);
+        let name = name_of(&reader.next_request(slow));
+        assert_eq!(rt; (name, slow.calls), (b"request".as_slice(), sent));
+    }
     Ok(())
 }
 
 #[test]
 fn takes_nothing_behind_a_request(rt: HostRuntime) -> Result<(), Fail> {
     let alloc = rt.alloc();
-    let mut text = Vec::new(alloc);
-    for (request, _) in REQUESTS {
-        text.extend_from_slice(request)?;
-    }
-    let mut slow = Slow::new(text);
+    let mut slow = Slow::new(requests(alloc)?);
     let mut reader = HttpReader::new(alloc)?;
-    let mut sent = 0u64;
-    for (request, _) in REQUESTS {
-        sent = sent.saturating_add(request.len() as u64);
-        assert_eq!(rt;
-            name_of(&reader.next_request(&mut slow)),
-            b"request".as_slice()
-        );
-        assert_eq!(rt; slow.calls, sent);
-    }
+    check_taken(&rt, alloc, &mut reader, &mut slow)
+}
+
+/// Statuses and bodies, and the responses that are put of them, a line each.
+const RESPONSES: &str = concat!(
+    "200|{\"reply\":\"nothing\"} => HTTP/1.1 200 OK^~content-length: 19^~content-type: application/json^~^~{\"reply\":\"nothing\"}\n",
+    "404|{\"reply\":\"no-route\"} => HTTP/1.1 404 Not Found^~content-length: 20^~content-type: application/json^~^~{\"reply\":\"no-route\"}\n",
+    "405|{\"reply\":\"no-method\"} => HTTP/1.1 405 Method Not Allowed^~content-length: 21^~content-type: application/json^~^~{\"reply\":\"no-method\"}\n",
+    "409|{} => HTTP/1.1 409 Conflict^~content-length: 2^~content-type: application/json^~^~{}\n",
+    "400| => HTTP/1.1 400 Bad Request^~content-length: 0^~content-type: application/json^~^~\n",
+);
+
+/// Compares how a put of a response ended, and what was put.
+fn check_put(
+    rt: &impl Abort,
+    end: Result<(), ResponseFault>,
+    wanted: Result<(), ResponseFault>,
+    put: &[u8],
+    response: &[u8],
+) {
+    assert_eq!(rt; (end, put), (wanted, response));
+}
+
+/// Compares the response that is put.
+fn check_response(
+    rt: &impl Abort,
+    alloc: Global,
+    status: StatusCode,
+    body: &[u8],
+    response: &str,
+) -> Result<(), Fail> {
+    let expected = bytes_of(alloc, response)?;
+    let mut sink = ReliableSink::new(Vec::with_capacity(alloc, 200)?);
+    let end = write_response(alloc, &mut sink, status, body);
+    check_put(rt, end, Ok(()), sink.bytes(), expected.as_slice());
     Ok(())
 }
 
-/// Statuses, bodies, and the responses that are put of them.
-const RESPONSES: [(StatusCode, &[u8], &[u8]); 5] = [
-    (
-        StatusCode::OK,
-        b"{\"reply\":\"nothing\"}",
-        b"HTTP/1.1 200 OK\r\ncontent-length: 19\r\ncontent-type: application/json\r\n\r\n{\"reply\":\"nothing\"}",
-    ),
-    (
-        StatusCode::NOT_FOUND,
-        b"{\"reply\":\"no-route\"}",
-        b"HTTP/1.1 404 Not Found\r\ncontent-length: 20\r\ncontent-type: application/json\r\n\r\n{\"reply\":\"no-route\"}",
-    ),
-    (
-        StatusCode::METHOD_NOT_ALLOWED,
-        b"{\"reply\":\"no-method\"}",
-        b"HTTP/1.1 405 Method Not Allowed\r\ncontent-length: 21\r\ncontent-type: application/json\r\n\r\n{\"reply\":\"no-method\"}",
-    ),
-    (
-        StatusCode::CONFLICT,
-        b"{}",
-        b"HTTP/1.1 409 Conflict\r\ncontent-length: 2\r\ncontent-type: application/json\r\n\r\n{}",
-    ),
-    (
-        StatusCode::BAD_REQUEST,
-        b"",
-        b"HTTP/1.1 400 Bad Request\r\ncontent-length: 0\r\ncontent-type: application/json\r\n\r\n",
-    ),
-];
+/// Checks that nothing is put where the first put fails.
+fn check_broken_sink(
+    rt: &impl Abort,
+    alloc: Global,
+    status: StatusCode,
+    body: &[u8],
+) -> Result<(), Fail> {
+    let mut sink = MemorySink::new(Vec::with_capacity(alloc, 200)?, [0].to_vec(alloc)?);
+    let end = write_response(alloc, &mut sink, status, body);
+    check_put(rt, end, Err(ResponseFault::WriteFault), sink.bytes(), b"");
+    Ok(())
+}
 
 #[test]
 fn puts_responses(rt: HostRuntime) -> Result<(), Fail> {
-    let alloc = rt.alloc();
-    for (status, body, want) in RESPONSES {
-        let mut sink = ReliableSink::new(Vec::with_capacity(alloc, 200)?);
-        assert_eq!(rt; write_response(alloc, &mut sink, status, body), Ok(()));
-        assert_eq!(rt; sink.bytes(), want);
-        let mut broken = MemorySink::new(Vec::with_capacity(alloc, 200)?, [0u64].to_vec(alloc)?);
-        let end = write_response(alloc, &mut broken, status, body);
-        assert_eq!(rt; end, Err(ResponseFault::WriteFault));
-        assert_eq!(rt; broken.bytes(), b"".as_slice());
+    for row in RESPONSES.lines() {
+        let (given, response) = row.split_once(" => ").unwrap_or((row, ""));
+        let (status, body) = given.split_once('|').unwrap_or((given, ""));
+        let Ok(status) = StatusCode::from_bytes(status.as_bytes()) else {
+            return Err(Fail::new("no status"));
+        };
+        check_response(&rt, rt.alloc(), status, body.as_bytes(), response)?;
+        check_broken_sink(&rt, rt.alloc(), status, body.as_bytes())?;
     }
     Ok(())
 }
 
-/// Heads that are refused, and the responses to them.
-const REFUSED: [(&[u8], &[u8]); 4] = [
-    (
-        b"GET\r\n\r\n",
-        b"HTTP/1.1 400 Bad Request\r\ncontent-length: 20\r\ncontent-type: application/json\r\n\r\n{\"reply\":\"bad-head\"}",
-    ),
-    (
-        b"PUT / HTTP/1.1\r\ncontent-length: 33554433\r\n\r\n",
-        b"HTTP/1.1 413 Payload Too Large\r\ncontent-length: 25\r\ncontent-type: application/json\r\n\r\n{\"reply\":\"body-too-long\"}",
-    ),
-    (
-        b"POST / HTTP/1.1\r\n\r\n",
-        b"HTTP/1.1 411 Length Required\r\ncontent-length: 21\r\ncontent-type: application/json\r\n\r\n{\"reply\":\"no-length\"}",
-    ),
-    (
-        &[b'\n'; 16_384],
-        b"HTTP/1.1 431 Request Header Fields Too Large\r\ncontent-length: 25\r\ncontent-type: application/json\r\n\r\n{\"reply\":\"head-too-long\"}",
-    ),
-];
+/// Heads that are refused, and the responses to them, a line each, which `long_bytes_of` reads.
+const REFUSED: &str = concat!(
+    "GET^~^~ => HTTP/1.1 400 Bad Request^~content-length: 20^~content-type: application/json^~^~{\"reply\":\"bad-head\"}\n",
+    "PUT / HTTP/1.1^~content-length: 33554433^~^~ => HTTP/1.1 413 Payload Too Large^~content-length: 25^~content-type: application/json^~^~{\"reply\":\"body-too-long\"}\n",
+    "POST / HTTP/1.1^~^~ => HTTP/1.1 411 Length Required^~content-length: 21^~content-type: application/json^~^~{\"reply\":\"no-length\"}\n",
+    "<~*16384> => HTTP/1.1 431 Request Header Fields Too Large^~content-length: 25^~content-type: application/json^~^~{\"reply\":\"head-too-long\"}\n",
+);
+
+/// Why what comes is refused, if it is.
+fn refusal_of(alloc: Global, text: &str) -> Result<Option<Refusal>, NoMemory> {
+    let mut source = ReliableSource::new(long_bytes_of(alloc, text)?);
+    let mut reader = HttpReader::new(alloc)?;
+    Ok(Refusal::of(&reader.next_request(&mut source)))
+}
 
 #[test]
 fn answers_refusals(rt: HostRuntime) -> Result<(), Fail> {
     let alloc = rt.alloc();
-    for (text, want) in REFUSED {
-        let mut source = ReliableSource::new(text.to_vec(alloc)?);
-        let mut reader = HttpReader::new(alloc)?;
-        let mut sink = ReliableSink::new(Vec::with_capacity(alloc, 200)?);
-        if let Some(refusal) = Refusal::of(&reader.next_request(&mut source)) {
-            let end = write_response(alloc, &mut sink, refusal.status(), refusal.body());
-            assert_eq!(rt; end, Ok(()));
-        }
-        assert_eq!(rt; sink.bytes(), want);
+    for row in REFUSED.lines() {
+        let (text, response) = row.split_once(" => ").unwrap_or((row, ""));
+        let Some(refusal) = refusal_of(alloc, text)? else {
+            return Err(Fail::new("not refused"));
+        };
+        check_response(&rt, alloc, refusal.status(), refusal.body(), response)?;
     }
-    let mut source = ReliableSource::new(b"".to_vec(alloc)?);
-    assert_eq!(rt;
-        Refusal::of(&HttpReader::new(alloc)?.next_request(&mut source)),
-        None
-    );
+    assert_eq!(rt; refusal_of(alloc, "")?, None);
     Ok(())
 }

@@ -1,11 +1,13 @@
 ghost use Rattle.std.specs.Prelude.{◌≡◌, ◌≢◌, IsUtf8, IfOk};
 
+use crate::talks::{ROOM, bytes_of, check_bytes, said};
 use command_text::write_event;
 use farm_io::ReliableSink;
 use farm_kinds::{Kind, Name, NoMemory, Reply, Task, Text};
 use http_door::Head;
 use judge_server::{Asked, Paths, RequestFault, answer_fault, answer_reply, read_request};
 use std::alloc::{AllocError, Global};
+use std::process::Abort;
 use std::test::Fail;
 use wire_json::BodyFault;
 
@@ -42,204 +44,109 @@ fn shown(alloc: Global, asked: &Asked) -> Result<Text, NoMemory>
     }
 }
 
-/// Method, target and body of requests, and what they ask.
-const ASKED: [(&str, &str, &str, &str); 18] = [
-    ("POST", "/judgehosts", "{\"hostname\":\"h1\"}", "host h1"),
-    (
-        "POST",
-        "/judgehosts/fetch-work",
-        "{\"hostname\":\"h1\"}",
-        "tick claim h1",
-    ),
-    (
-        "POST",
-        "/judgehosts/fetch-work",
-        "{\"hostname\":\"h1\",\"max\":16}",
-        "tick fetch h1 16",
-    ),
-    (
-        "POST",
-        "/judgehosts/add-judging-run",
-        "{\"hostname\":\"h1\",\"judging\":1,\"test\":2,\"result\":\"correct\"}",
-        "result h1 1 2 correct",
-    ),
-    (
-        "POST",
-        "/judgehosts/renew",
-        "{\"test\":2,\"judging\":1,\"hostname\":\"h1\"}",
-        "tick renew h1 1 2",
-    ),
-    (
-        "POST",
-        "/judgehosts/down",
-        "{\"hostname\":\"h1\"}",
-        "down h1",
-    ),
-    ("GET", "/judgements/12", "{", "show 12"),
-    ("GET", "/judgements/12?strict=true", "", "show 12"),
-    ("POST", "/judgements/12/verify", "", "verify 12"),
-    (
-        "POST",
-        "/judgements/12/verify",
-        "{\"who\":\"eve\"}",
-        "@eve verify 12",
-    ),
-    ("GET", "/judgements/12/submission", "", "owner 12"),
-    (
-        "POST",
-        "/judgements/12/ask",
-        "{\"who\":\"eve\"}",
-        "@eve ask 12",
-    ),
-    ("GET", "/board", "", "board"),
-    ("GET", "/audit", "", "audit"),
-    (
-        "POST",
-        "/rejudgings",
-        "{\"submissions\":[3,1]}",
-        "rejudge 3,1",
-    ),
-    ("GET", "/rejudgings/4", "", "matrix 4"),
-    ("POST", "/rejudgings/4/apply", "{}", "apply 4"),
-    ("POST", "/rejudgings/4/cancel", "", "cancel 4"),
-];
+/// What a request with this method, target and body asks, as `shown` gives it.
+fn asked(
+    alloc: Global,
+    paths: &Paths,
+    method: &str,
+    target: &str,
+    body: &str,
+) -> Result<Text, NoMemory> {
+    let head = head(alloc, method, target)?;
+    let asked = read_request(alloc, paths, &head, body.as_bytes())?;
+    shown(alloc, &asked)
+}
+
+/// Requests, and what they ask, a line each: the method and the target, and behind `|` the body.
+const ASKED: &str = concat!(
+    "POST /judgehosts|{\"hostname\":\"h1\"} => host h1\n",
+    "POST /judgehosts/fetch-work|{\"hostname\":\"h1\"} => tick claim h1\n",
+    "POST /judgehosts/fetch-work|{\"hostname\":\"h1\",\"max\":16} => tick fetch h1 16\n",
+    "POST /judgehosts/add-judging-run|{\"hostname\":\"h1\",\"judging\":1,\"test\":2,\"result\":\"correct\"} => result h1 1 2 correct\n",
+    "POST /judgehosts/renew|{\"test\":2,\"judging\":1,\"hostname\":\"h1\"} => tick renew h1 1 2\n",
+    "POST /judgehosts/down|{\"hostname\":\"h1\"} => down h1\n",
+    "GET /judgements/12|{ => show 12\n",
+    "GET /judgements/12?strict=true| => show 12\n",
+    "POST /judgements/12/verify| => verify 12\n",
+    "POST /judgements/12/verify|{\"who\":\"eve\"} => @eve verify 12\n",
+    "GET /judgements/12/submission| => owner 12\n",
+    "POST /judgements/12/ask|{\"who\":\"eve\"} => @eve ask 12\n",
+    "GET /board| => board\n",
+    "GET /audit| => audit\n",
+    "POST /rejudgings|{\"submissions\":[3,1]} => rejudge 3,1\n",
+    "GET /rejudgings/4| => matrix 4\n",
+    "POST /rejudgings/4/apply|{} => apply 4\n",
+    "POST /rejudgings/4/cancel| => cancel 4\n",
+);
+
+/// Requests that ask nothing, and the responses, in which `^` is a carriage return and `~` a line feed.
+const REFUSED: &str = concat!(
+    "GET /| => HTTP/1.1 404 Not Found^~content-length: 20^~content-type: application/json^~^~{\"reply\":\"no-route\"}\n",
+    "GET /board/| => HTTP/1.1 404 Not Found^~content-length: 20^~content-type: application/json^~^~{\"reply\":\"no-route\"}\n",
+    "GET /judgements/012| => HTTP/1.1 404 Not Found^~content-length: 20^~content-type: application/json^~^~{\"reply\":\"no-route\"}\n",
+    "GET /judgements/4294967296| => HTTP/1.1 404 Not Found^~content-length: 20^~content-type: application/json^~^~{\"reply\":\"no-route\"}\n",
+    "PUT /judgements/x/verify| => HTTP/1.1 404 Not Found^~content-length: 20^~content-type: application/json^~^~{\"reply\":\"no-route\"}\n",
+    "POST /board| => HTTP/1.1 405 Method Not Allowed^~content-length: 21^~content-type: application/json^~^~{\"reply\":\"no-method\"}\n",
+    "get /board| => HTTP/1.1 405 Method Not Allowed^~content-length: 21^~content-type: application/json^~^~{\"reply\":\"no-method\"}\n",
+    "POST /judgehosts|[] => HTTP/1.1 400 Bad Request^~content-length: 37^~content-type: application/json^~^~{\"reply\":\"bad-body\",\"why\":\"not-json\"}\n",
+    "POST /judgehosts/down| => HTTP/1.1 400 Bad Request^~content-length: 45^~content-type: application/json^~^~{\"reply\":\"bad-body\",\"why\":\"missing hostname\"}\n",
+);
+
+/// Compares what a request asks.
+fn check_request(rt: &impl Abort, alloc: Global, paths: &Paths, row: &str) -> Result<(), Fail> {
+    let (request, expected) = row.split_once(" => ").unwrap_or((row, ""));
+    let (line, body) = request.split_once('|').unwrap_or((request, ""));
+    let (method, target) = line.split_once(' ').unwrap_or((line, ""));
+    let expected = bytes_of(alloc, expected)?;
+    let shown = asked(alloc, paths, method, target, body)?;
+    check_bytes(rt, shown.as_slice(), expected.as_slice(), line);
+    Ok(())
+}
+
+/// Compares what the requests of these rows ask.
+fn check_requests(rt: &impl Abort, alloc: Global, rows: &str) -> Result<(), Fail> {
+    let paths = Paths::new(alloc)?;
+    for row in rows.lines() {
+        check_request(rt, alloc, &paths, row)?;
+    }
+    Ok(())
+}
 
 #[test]
 fn requests_ask_for_events(rt: HostRuntime) -> Result<(), Fail> {
-    let alloc = rt.alloc();
-    let paths = Paths::new(alloc)?;
-    for (method, target, body, want) in ASKED {
-        let asked = read_request(
-            alloc,
-            &paths,
-            &head(alloc, method, target)?,
-            body.as_bytes(),
-        )?;
-        assert_eq!(rt;
-            shown(alloc, &asked)?.as_slice(),
-            want.as_bytes(),
-            "{method} {target}"
-        );
-    }
-    Ok(())
+    check_requests(&rt, rt.alloc(), ASKED)
 }
-
-const NO_ROUTE: &str = concat!(
-    "HTTP/1.1 404 Not Found\r\ncontent-length: 20\r\n",
-    "content-type: application/json\r\n\r\n{\"reply\":\"no-route\"}"
-);
-
-const NO_METHOD: &str = concat!(
-    "HTTP/1.1 405 Method Not Allowed\r\ncontent-length: 21\r\n",
-    "content-type: application/json\r\n\r\n{\"reply\":\"no-method\"}"
-);
-
-const NOT_JSON: &str = concat!(
-    "HTTP/1.1 400 Bad Request\r\ncontent-length: 37\r\n",
-    "content-type: application/json\r\n\r\n{\"reply\":\"bad-body\",\"why\":\"not-json\"}"
-);
-
-const MISSING: &str = concat!(
-    "HTTP/1.1 400 Bad Request\r\ncontent-length: 45\r\n",
-    "content-type: application/json\r\n\r\n{\"reply\":\"bad-body\",\"why\":\"missing hostname\"}"
-);
-
-/// Method, target and body of requests without an event, and their responses.
-const REFUSED: [(&str, &str, &str, &str); 9] = [
-    ("GET", "/", "", NO_ROUTE),
-    ("GET", "/board/", "", NO_ROUTE),
-    ("GET", "/judgements/012", "", NO_ROUTE),
-    ("GET", "/judgements/4294967296", "", NO_ROUTE),
-    ("PUT", "/judgements/x/verify", "", NO_ROUTE),
-    ("POST", "/board", "", NO_METHOD),
-    ("get", "/board", "", NO_METHOD),
-    ("POST", "/judgehosts", "[]", NOT_JSON),
-    ("POST", "/judgehosts/down", "", MISSING),
-];
 
 #[test]
 fn other_requests_are_refused(rt: HostRuntime) -> Result<(), Fail> {
-    let alloc = rt.alloc();
-    let paths = Paths::new(alloc)?;
-    for (method, target, body, want) in REFUSED {
-        let asked = read_request(
-            alloc,
-            &paths,
-            &head(alloc, method, target)?,
-            body.as_bytes(),
-        )?;
-        assert_eq!(rt;
-            shown(alloc, &asked)?.as_slice(),
-            want.as_bytes(),
-            "{method} {target}"
-        );
-    }
-    Ok(())
+    check_requests(&rt, rt.alloc(), REFUSED)
 }
 
-/// Whether this is the response to the reply: a status line, the length of a body, and the body.
-fn is_response(alloc: Global, reply: &Reply, head: &str, body: &str) -> Result<bool, AllocError>
+/// Compares the response to a reply, which stands by a word.
+fn check_reply(rt: &impl Abort, alloc: Global, reply: &Reply, response: &str) -> Result<(), Fail>
     requires { reply.now ≢ Reply.NoMemory }
 {
-    let mut wanted = Vec::new(alloc);
-    for piece in [head, "\r\ncontent-type: application/json\r\n\r\n", body] {
-        wanted.extend_from_slice(piece.as_bytes())?;
-    }
-    let mut sink = ReliableSink::new(Vec::with_capacity(alloc, 1000)?);
+    let expected = said(alloc, response)?;
+    let mut sink = ReliableSink::new(Vec::with_capacity(alloc, ROOM)?);
     let _end = answer_reply(alloc, &mut sink, reply);
-    Ok(sink.bytes() == wanted.as_slice())
+    check_bytes(rt, sink.bytes(), expected.as_slice(), response);
+    Ok(())
 }
 
 #[test]
 fn replies_have_responses(rt: HostRuntime) -> Result<(), Fail> {
-    let alloc = rt.alloc();
-    let handed = Reply::Handed {
-        task: Task {
-            judging: 1,
-            test: 1,
-        },
-        until: 60,
+    let task = Task {
+        judging: 1,
+        test: 1,
     };
-    let body = "{\"judging\":1,\"reply\":\"task\",\"test\":1,\"until\":60}";
-    assert!(rt;
-        is_response(
-            alloc,
-            &handed,
-            "HTTP/1.1 200 OK\r\ncontent-length: 48",
-            body
-        )?
-    );
-    let body = "{\"reply\":\"counted\"}";
-    assert!(rt;
-        is_response(
-            alloc,
-            &Reply::Counted,
-            "HTTP/1.1 200 OK\r\ncontent-length: 19",
-            body
-        )?
-    );
+    let handed = Reply::Handed { task, until: 60 };
+    check_reply(&rt, rt.alloc(), &handed, "handed")?;
+    check_reply(&rt, rt.alloc(), &Reply::Counted, "counted")?;
     let differs = Reply::Differs {
         kept: Kind::Correct,
         given: Kind::WrongAnswer,
     };
-    let body = "{\"given\":\"wrong-answer\",\"kept\":\"correct\",\"reply\":\"differs\"}";
-    assert!(rt;
-        is_response(
-            alloc,
-            &differs,
-            "HTTP/1.1 409 Conflict\r\ncontent-length: 59",
-            body
-        )?
-    );
+    check_reply(&rt, rt.alloc(), &differs, "differs")?;
     let none = Reply::NoHost { name: Name::jury() };
-    let body = "{\"name\":\"jury\",\"reply\":\"no-host\"}";
-    assert!(rt;
-        is_response(
-            alloc,
-            &none,
-            "HTTP/1.1 404 Not Found\r\ncontent-length: 33",
-            body
-        )?
-    );
-    Ok(())
+    check_reply(&rt, rt.alloc(), &none, "no-jury")
 }

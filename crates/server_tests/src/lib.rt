@@ -21,3 +21,5 @@ mod meeting_tests;
 #[cfg(test)]
 mod serving_tests;
 pub mod slow;
+#[cfg(test)]
+mod talks;

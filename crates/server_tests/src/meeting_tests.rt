@@ -1,12 +1,15 @@
 ghost use Rattle.std.specs.Prelude.{◌<◌, None, refl};
 ghost use Rattle.farm_io.specs.Beside.{side};
 
-use crate::contest_server_tests::{HOST, one_roster};
+use crate::contest_server_tests::{check_served, one_roster};
+use crate::talks::said;
+use contest_folder::Roster;
 use contest_server::{ServeEnd, serve_contest};
 use farm_io::{
     Accepted, Door, DoorErr, FixedClock, PutEnd, ReliableSink, ReliableSource, Sink, Source, Taken,
 };
 use std::alloc::Global;
+use std::process::Abort;
 use std::sync::{Mutex, Wait};
 use std::test::Fail;
 use std::thread;
@@ -120,7 +123,7 @@ impl<'a, R: Wait + Sync> Door for MeetingDoor<'a, R> {
         if self.accepted == 1 {
             await_answer(self.rt, self.answers, true);
         }
-        let Ok(bytes) = HOST.as_bytes().to_vec(self.alloc) else {
+        let Ok(bytes) = said(self.alloc, "host") else {
             return Accepted::End;
         };
         self.accepted += 1;
@@ -145,8 +148,9 @@ impl<'a, R: Wait + Sync> Door for MeetingDoor<'a, R> {
 fn serve_meeting<R: Threads + Wait + Sync>(
     rt: &R,
     alloc: Global,
-) -> Result<(ServeEnd, ReliableSink, bool), Fail> {
-    let roster = one_roster(alloc)?;
+    roster: &Roster,
+    out: &mut ReliableSink,
+) -> (ServeEnd, bool) {
     let answers = Mutex::new(Answers {
         first: false,
         second: false,
@@ -159,21 +163,25 @@ fn serve_meeting<R: Threads + Wait + Sync>(
         accepted: 0,
         returned: 0,
     };
-    let mut out = ReliableSink::new(Vec::with_capacity(alloc, 200)?);
     let clock = FixedClock::new(0);
-    let end = serve_contest(rt, alloc, &roster, 2, 2, &clock, &mut door, &mut out);
+    let end = serve_contest(rt, alloc, roster, 2, 2, &clock, &mut door, out);
     let gave_up = answers.lock(rt).gave_up;
-    Ok((end, out, gave_up))
+    (end, gave_up)
+}
+
+/// Checks that no connection gave up.
+fn check_met(rt: &impl Abort, gave_up: bool) {
+    assert!(rt; !gave_up);
 }
 
 #[test]
 fn connections_are_served_at_the_same_time(rt: HostRuntime) -> Result<(), Fail> {
-    let (end, out, gave_up) = serve_meeting(&rt, rt.alloc())?;
-    assert_eq!(rt; end, ServeEnd::Done);
-    assert!(rt; !gave_up);
-    assert_eq!(rt;
-        out.bytes(),
-        b"conn 1 requests 1 end\nconn 2 requests 1 end\n1 pending\nboard 1\n".as_slice()
-    );
+    let alloc = rt.alloc();
+    let mut out = ReliableSink::new(Vec::with_capacity(alloc, 200)?);
+    let roster = one_roster(alloc)?;
+    let (end, gave_up) = serve_meeting(&rt, alloc, &roster, &mut out);
+    let text = b"conn 1 requests 1 end\nconn 2 requests 1 end\n1 pending\nboard 1\n";
+    check_served(&rt, end, ServeEnd::Done, out.bytes(), text, "");
+    check_met(&rt, gave_up);
     Ok(())
 }
