@@ -232,12 +232,16 @@ fn changed_told(alloc: Global, changes: &str) -> Result<String, Fail> {
     files_told(alloc, changed(alloc, changes)?, "c")
 }
 
+/// Compares a text with the one that is expected.
+pub(crate) fn check_text(rt: &impl Abort, shown: &str, expected: &str, name: &str) {
+    assert_eq!(rt; shown, expected, "{name}");
+}
+
 fn check_row(rt: &impl Abort, alloc: Global, row: &str) -> Result<(), Fail> {
-    if let Some((changes, expected)) = row.split_once(" => ") {
-        let expected = if expected == "READ" { READ } else { expected };
-        let shown = changed_told(alloc, changes)?;
-        assert_eq!(rt; shown.as_str(), expected, "{changes}");
-    }
+    let (changes, expected) = row.split_once(" => ").unwrap_or((row, ""));
+    let expected = if expected == "READ" { READ } else { expected };
+    let shown = changed_told(alloc, changes)?;
+    check_text(rt, shown.as_str(), expected, changes);
     Ok(())
 }
 
@@ -255,10 +259,15 @@ fn failing_tree(alloc: Global, failing: u64) -> Result<MemoryTree, Fail> {
     Ok(MemoryTree::new(alloc, changed(alloc, "")?, failing))
 }
 
-fn check_failing(rt: &impl Abort, alloc: Global, failing: u64) -> Result<(), Fail> {
+/// What is read where the call of this number fails, in words.
+fn failing_told(alloc: Global, failing: u64) -> Result<String, Fail> {
     let mut tree = failing_tree(alloc, failing)?;
-    let shown = read_told(alloc, &mut tree, "c")?;
+    read_told(alloc, &mut tree, "c")
+}
+
+fn check_failing(rt: &impl Abort, alloc: Global, failing: u64) -> Result<(), Fail> {
     let expected = if failing < 30 { "tree" } else { READ };
+    let shown = failing_told(alloc, failing)?;
     assert_eq!(rt; shown.as_str(), expected, "{failing}");
     Ok(())
 }
@@ -327,7 +336,7 @@ fn check_case(rt: &impl Abort, alloc: Global, roster: &Roster, row: &str) -> Res
     let judging = judging.parse::<u32>().unwrap_or(0);
     let test = test.parse::<u16>().unwrap_or(0);
     let case = case_told(alloc, roster, judging, test)?;
-    assert_eq!(rt; case.as_str(), expected, "{row}");
+    check_text(rt, case.as_str(), expected, row);
     Ok(())
 }
 
@@ -386,7 +395,7 @@ fn check_file(
         _ => expected,
     };
     let shown = files_told(alloc, with_file(alloc, path, bytes)?, "c")?;
-    assert_eq!(rt; shown.as_str(), expected, "{path}");
+    check_text(rt, shown.as_str(), expected, path);
     Ok(())
 }
 
@@ -482,7 +491,7 @@ fn submissions_told(alloc: Global, answer: &Result<Roster, ContestFault>) -> Res
 fn check_heavy(rt: &impl Abort, alloc: Global, count: u32, expected: &str) -> Result<(), Fail> {
     let tree = ReliableTree::new(alloc, with_submissions(alloc, count, "x.heavy")?);
     let shown = count_told(alloc, &mut Heavy { alloc, tree })?;
-    assert_eq!(rt; shown.as_str(), expected);
+    check_text(rt, shown.as_str(), expected, "x.heavy");
     Ok(())
 }
 
@@ -496,7 +505,7 @@ fn a_contest_has_at_most_1_gibibyte(rt: HostRuntime) -> Result<(), Fail> {
 fn check_many(rt: &impl Abort, alloc: Global, count: u32, expected: &str) -> Result<(), Fail> {
     let mut tree = ReliableTree::new(alloc, with_submissions(alloc, count, "9.rv32")?);
     let shown = count_told(alloc, &mut tree)?;
-    assert_eq!(rt; shown.as_str(), expected);
+    check_text(rt, shown.as_str(), expected, "9.rv32");
     Ok(())
 }
 
@@ -528,7 +537,7 @@ fn with_problems(alloc: Global, count: u32) -> Result<TreeFiles, Fail> {
 
 fn check_problems(rt: &impl Abort, alloc: Global, count: u32, expected: &str) -> Result<(), Fail> {
     let shown = files_told(alloc, with_problems(alloc, count)?, "c")?;
-    assert_eq!(rt; shown.as_str(), expected);
+    check_text(rt, shown.as_str(), expected, "problems");
     Ok(())
 }
 

@@ -1,11 +1,12 @@
-use crate::farm_cli_tests::{end_of, words};
+use crate::farm_cli_tests::{check_ended, end_of};
 use crate::gates::{DeathGate, Meeting, MeetingGate, RecordingGate, SeededGate};
 use farm_cli::Exit;
-use farm_io::{ReliableSink, ReliableSource, Sink};
+use farm_io::{ReliableSink, ReliableSource};
 use farm_kinds::Text;
-use farm_tree::{MemoryTree, ReliableTree, Tree, TreeFile, TreeFiles};
+use farm_tree::{MemoryTree, ReliableTree, TreeFile, TreeFiles};
 use judgehost::{AlwaysOn, Gate, Point};
 use std::alloc::{AllocError, Global};
+use std::process::Abort;
 use std::str;
 use std::sync::{Mutex, Wait};
 use std::test::Fail;
@@ -105,7 +106,7 @@ const ROWS: &str = concat!(
 );
 
 /// The bytes of a file's content.
-fn bytes_of(alloc: Global, content: &str) -> Result<Vec<u8>, AllocError> {
+pub(crate) fn bytes_of(alloc: Global, content: &str) -> Result<Vec<u8>, AllocError> {
     match content.strip_prefix("#") {
         Some(digits) => bytes_of_digits(alloc, digits.as_bytes()),
         None => Ok(content.replace(alloc, '~', "\n")?.into_bytes()),
@@ -140,8 +141,8 @@ fn path_of(change: &str) -> &str {
     }
 }
 
-/// A contest's files with these changes.
-fn files_of(alloc: Global, contest: &str, change: &str) -> Result<TreeFiles, Fail> {
+/// A contest's files with this change.
+pub(crate) fn files_of(alloc: Global, contest: &str, change: &str) -> Result<TreeFiles, Fail> {
     let mut files = TreeFiles::new(alloc);
     for line in contest.lines() {
         if let Some((path, content)) = line.split_once('|') {
@@ -164,54 +165,106 @@ fn put(alloc: Global, files: &mut TreeFiles, path: &str, content: &str) -> Resul
     Ok(())
 }
 
-/// How `farm judge c` ends with these options, which writes to `out`.
-fn judge<T: Tree, K: Sink, G: Gate + Sync>(
-    rt: &(impl Threads + Wait + Sync),
-    alloc: Global,
-    options: &[&str],
-    tree: &mut T,
-    out: &mut K,
-    gate: &G,
-) -> Result<Exit, AllocError> {
-    let mut words = words(alloc, &["farm", "judge", "c"])?;
-    for option in options {
-        words.push(String::from_str(alloc, option)?)?;
-    }
-    let mut input = ReliableSource::new(Vec::new(alloc));
-    end_of(rt, alloc, words.as_slice(), tree, &mut input, out, gate)
-}
-
-/// What `farm judge c` writes with these options over a contest's files, and how it ends.
+/// What a command line writes over a contest's files with this change, and how it ends.
 fn judged<G: Gate + Sync>(
     rt: &(impl Threads + Wait + Sync),
     alloc: Global,
-    options: &[&str],
-    files: TreeFiles,
+    line: &str,
+    contest: &str,
+    change: &str,
     gate: &G,
-) -> Result<(Exit, ReliableSink), AllocError> {
-    let mut tree = ReliableTree::new(alloc, files);
+) -> Result<(Exit, ReliableSink), Fail> {
+    let mut input = ReliableSource::new(Vec::new(alloc));
     let mut out = ReliableSink::new(Vec::with_capacity(alloc, ROOM)?);
-    let exit = judge(rt, alloc, options, &mut tree, &mut out, gate)?;
+    let mut tree = ReliableTree::new(alloc, files_of(alloc, contest, change)?);
+    let exit = end_of(rt, alloc, line, &mut tree, &mut input, &mut out, gate)?;
     Ok((exit, out))
+}
+
+/// Compares what is written for a row.
+fn check_row(
+    rt: &(impl Threads + Wait + Sync + Abort),
+    alloc: Global,
+    row: &str,
+) -> Result<(), Fail> {
+    let (change, text) = row.split_once(" => ").unwrap_or((row, ""));
+    let exit = if text.starts_with("bad contest") {
+        Exit::BadContest
+    } else {
+        Exit::Done
+    };
+    let text = text.replace(alloc, '~', "\n")?;
+    let (ended, out) = judged(
+        rt,
+        alloc,
+        "farm judge c --hosts 1",
+        CONTEST,
+        change,
+        &AlwaysOn,
+    )?;
+    check_ended(rt, ended, exit, out.bytes(), text.as_bytes(), change);
+    Ok(())
 }
 
 #[test]
 fn a_realistic_contest_and_what_may_be_wrong_with_it(rt: HostRuntime) -> Result<(), Fail> {
-    let alloc = rt.alloc();
     for row in ROWS.lines() {
-        if let Some((change, text)) = row.split_once(" => ") {
-            let files = files_of(alloc, CONTEST, change)?;
-            let (exit, out) = judged(&rt, alloc, &["--hosts", "1"], files, &AlwaysOn)?;
-            let expected = text.replace(alloc, '~', "\n")?;
-            assert_eq!(rt; out.bytes(), expected.as_bytes(), "{change}");
-            assert_eq!(rt;
-                exit == Exit::BadContest,
-                text.starts_with("bad contest"),
-                "{change}"
-            );
-            assert!(rt; exit == Exit::BadContest || exit == Exit::Done, "{change}");
-        }
+        check_row(&rt, rt.alloc(), row)?;
     }
+    Ok(())
+}
+
+/// Compares what a command line writes for a contest.
+fn check_judged<G: Gate + Sync>(
+    rt: &(impl Threads + Wait + Sync + Abort),
+    alloc: Global,
+    line: &str,
+    contest: &str,
+    gate: &G,
+    text: &str,
+    name: &str,
+) -> Result<(), Fail> {
+    let (exit, out) = judged(rt, alloc, line, contest, "", gate)?;
+    check_ended(rt, exit, Exit::Done, out.bytes(), text.as_bytes(), name);
+    Ok(())
+}
+
+/// Compares what so many hosts write for the realistic contest.
+fn check_table<G: Gate + Sync>(
+    rt: &(impl Threads + Wait + Sync + Abort),
+    alloc: Global,
+    hosts: u64,
+    gate: &G,
+    name: &str,
+) -> Result<(), Fail> {
+    let line = format!(in alloc; "farm judge c --hosts {hosts}")?;
+    check_judged(rt, alloc, line.as_str(), CONTEST, gate, TABLE, name)
+}
+
+/// Checks that the table stands in front of a journal, and, where the hosts do all the work, that the caller finds nothing
+/// to do.
+fn check_journal(rt: &impl Abort, written: &[u8], hosts: u64, at_work: bool) {
+    assert!(rt; written.starts_with(TABLE.as_bytes()), "{hosts}");
+    if at_work {
+        let journal = str::from_utf8(written).unwrap_or("no text");
+        assert_eq!(rt; journal.matches("claim h0").count(), 1, "{hosts}");
+        assert!(rt;
+            journal.contains("\njournal 0 claim h0 => nothing\n"),
+            "{hosts}"
+        );
+    }
+}
+
+/// The same of the journal that so many hosts write.
+fn check_journal_of(
+    rt: &(impl Threads + Wait + Sync + Abort),
+    alloc: Global,
+    hosts: u64,
+    gate: &DeathGate,
+) -> Result<(), Fail> {
+    let line = format!(in alloc; "farm judge c --journal --hosts {hosts}")?;
+    let (_, out) = judged(rt, alloc, line.as_str(), CONTEST, "", gate)?;
+    check_journal(rt, out.bytes(), hosts, gate.death.is_none() && hosts != 0);
     Ok(())
 }
 
@@ -221,52 +274,36 @@ fn a_realistic_contest_and_what_may_be_wrong_with_it(rt: HostRuntime) -> Result<
 fn hosts_at_work(rt: HostRuntime) -> Result<(), Fail> {
     let alloc = rt.alloc();
     let first_claim = Some((1, Point::AfterClaim, 1));
-    for hosts in ["0", "1", "4"] {
+    for hosts in [0, 1, 4] {
         for death in [None, first_claim] {
             let gate = DeathGate { death };
-            let (exit, out) = judged(
-                &rt,
-                alloc,
-                &["--hosts", hosts],
-                files_of(alloc, CONTEST, "")?,
-                &gate,
-            )?;
-            assert_eq!(rt; exit, Exit::Done, "{hosts}");
-            assert_eq!(rt; out.bytes(), TABLE.as_bytes(), "{hosts}");
-            let (_, out) = judged(
-                &rt,
-                alloc,
-                &["--journal", "--hosts", hosts],
-                files_of(alloc, CONTEST, "")?,
-                &gate,
-            )?;
-            assert!(rt; out.bytes().starts_with(TABLE.as_bytes()), "{hosts}");
-            if death.is_none() && hosts != "0" {
-                let journal = str::from_utf8(out.bytes()).map_err(|_| "no text")?;
-                assert_eq!(rt; journal.matches("claim h0").count(), 1, "{hosts}");
-                assert!(rt;
-                    journal.contains("\njournal 0 claim h0 => nothing\n"),
-                    "{hosts}"
-                );
-            }
+            let name = format!(in alloc; "{hosts}")?;
+            check_table(&rt, alloc, hosts, &gate, name.as_str())?;
+            check_journal_of(&rt, alloc, hosts, &gate)?;
         }
     }
     Ok(())
 }
 
+/// Compares what three hosts write, of which one dies.
+fn check_death(
+    rt: &(impl Threads + Wait + Sync + Abort),
+    alloc: Global,
+    host: u32,
+    point: Point,
+    turn: u64,
+) -> Result<(), Fail> {
+    let name = format!(in alloc; "{host} {point:?} {turn}")?;
+    let death = Some((host, point, turn));
+    check_table(rt, alloc, 3, &DeathGate { death }, name.as_str())
+}
+
 #[test]
 fn deaths_at_each_moment(rt: HostRuntime) -> Result<(), Fail> {
-    let alloc = rt.alloc();
     for host in 1..=3u32 {
         for point in [Point::AfterClaim, Point::BeforePost, Point::AfterPost] {
             for turn in 1..=4u64 {
-                let gate = DeathGate {
-                    death: Some((host, point, turn)),
-                };
-                let files = files_of(alloc, CONTEST, "")?;
-                let (exit, out) = judged(&rt, alloc, &["--hosts", "3"], files, &gate)?;
-                assert_eq!(rt; exit, Exit::Done, "{host} {point:?} {turn}");
-                assert_eq!(rt; out.bytes(), TABLE.as_bytes(), "{host} {point:?} {turn}");
+                check_death(&rt, rt.alloc(), host, point, turn)?;
             }
         }
     }
@@ -275,26 +312,35 @@ fn deaths_at_each_moment(rt: HostRuntime) -> Result<(), Fail> {
 
 #[test]
 fn a_journal_of_one_test(rt: HostRuntime) -> Result<(), Fail> {
-    let alloc = rt.alloc();
-    let files = files_of(alloc, ONE_TEST, "")?;
-    let (exit, out) = judged(&rt, alloc, &["--hosts", "0", "--journal"], files, &AlwaysOn)?;
-    assert_eq!(rt; exit, Exit::Done);
-    assert_eq!(rt; out.bytes(), ONE_TEST_JOURNAL.as_bytes());
-    Ok(())
+    let line = "farm judge c --hosts 0 --journal";
+    check_judged(
+        &rt,
+        rt.alloc(),
+        line,
+        ONE_TEST,
+        &AlwaysOn,
+        ONE_TEST_JOURNAL,
+        "",
+    )
 }
 
 /// After a run error on the first test no other test can matter.
 #[test]
 fn a_host_runs_one_of_three_tests(rt: HostRuntime) -> Result<(), Fail> {
-    let alloc = rt.alloc();
-    let files = files_of(alloc, FAILING, "")?;
     let gate = RecordingGate {
         rt: &rt,
-        moments: Mutex::new(Vec::new(alloc)),
+        moments: Mutex::new(Vec::new(rt.alloc())),
     };
-    let (exit, out) = judged(&rt, alloc, &["--hosts", "1"], files, &gate)?;
-    assert_eq!(rt; exit, Exit::Done);
-    assert_eq!(rt; out.bytes(), b"1 alpha echo run-error\n".as_slice());
+    let text = "1 alpha echo run-error\n";
+    check_judged(
+        &rt,
+        rt.alloc(),
+        "farm judge c --hosts 1",
+        FAILING,
+        &gate,
+        text,
+        "",
+    )?;
     let expected = [
         (1, Point::AfterClaim, 1),
         (1, Point::BeforePost, 1),
@@ -307,7 +353,6 @@ fn a_host_runs_one_of_three_tests(rt: HostRuntime) -> Result<(), Fail> {
 /// Two hosts work at the same time: neither posts its first result before the other has claimed a task.
 #[test]
 fn two_hosts_at_once(rt: HostRuntime) -> Result<(), Fail> {
-    let alloc = rt.alloc();
     let gate = MeetingGate {
         rt: &rt,
         meeting: Mutex::new(Meeting {
@@ -316,48 +361,48 @@ fn two_hosts_at_once(rt: HostRuntime) -> Result<(), Fail> {
             gave_up: false,
         }),
     };
-    let files = files_of(alloc, CONTEST, "")?;
-    let (exit, out) = judged(&rt, alloc, &["--hosts", "2"], files, &gate)?;
-    assert_eq!(rt; exit, Exit::Done);
-    assert_eq!(rt; out.bytes(), TABLE.as_bytes());
+    check_table(&rt, rt.alloc(), 2, &gate, "")?;
     let meeting = gate.meeting.into_inner();
-    assert!(rt; meeting.one_came);
-    assert!(rt; meeting.two_came);
-    assert!(rt; !meeting.gave_up);
+    assert_eq!(rt;
+        (meeting.one_came, meeting.two_came, meeting.gave_up),
+        (true, true, false)
+    );
     Ok(())
 }
 
 /// Contests of 1 to 16 hosts, which die at moments that are drawn.
 #[test]
 fn deaths_at_random(rt: HostRuntime) -> Result<(), Fail> {
-    let alloc = rt.alloc();
     for seed in 0..64u64 {
-        let hosts = seed % 16 + 1;
-        let count = format!(in alloc; "{hosts}")?;
-        let files = files_of(alloc, CONTEST, "")?;
-        let gate = SeededGate { seed };
-        let (exit, out) = judged(&rt, alloc, &["--hosts", count.as_str()], files, &gate)?;
-        assert_eq!(rt; exit, Exit::Done, "{seed}");
-        assert_eq!(rt; out.bytes(), TABLE.as_bytes(), "{seed}");
+        let name = format!(in rt.alloc(); "{seed}")?;
+        check_table(
+            &rt,
+            rt.alloc(),
+            seed % 16 + 1,
+            &SeededGate { seed },
+            name.as_str(),
+        )?;
     }
     Ok(())
 }
 
+/// How judging ends where the first call of the contest's tree fails, and what is written.
+fn judge_unread(
+    rt: &(impl Threads + Wait + Sync),
+    alloc: Global,
+) -> Result<(Exit, ReliableSink), Fail> {
+    let mut input = ReliableSource::new(Vec::new(alloc));
+    let mut out = ReliableSink::new(Vec::with_capacity(alloc, ROOM)?);
+    let failing = [0].to_vec(alloc)?;
+    let mut tree = MemoryTree::new(alloc, files_of(alloc, CONTEST, "")?, failing);
+    let line = "farm judge c --hosts 0";
+    let exit = end_of(rt, alloc, line, &mut tree, &mut input, &mut out, &AlwaysOn)?;
+    Ok((exit, out))
+}
+
 #[test]
 fn a_tree_whose_first_read_fails(rt: HostRuntime) -> Result<(), Fail> {
-    let alloc = rt.alloc();
-    let files = files_of(alloc, CONTEST, "")?;
-    let mut tree = MemoryTree::new(alloc, files, [0].to_vec(alloc)?);
-    let mut out = ReliableSink::new(Vec::with_capacity(alloc, ROOM)?);
-    let exit = judge(
-        &rt,
-        alloc,
-        &["--hosts", "0"],
-        &mut tree,
-        &mut out,
-        &AlwaysOn,
-    )?;
-    assert_eq!(rt; exit, Exit::TreeFault);
-    assert!(rt; out.bytes().is_empty());
+    let (exit, out) = judge_unread(&rt, rt.alloc())?;
+    check_ended(&rt, exit, Exit::TreeFault, out.bytes(), b"", "");
     Ok(())
 }

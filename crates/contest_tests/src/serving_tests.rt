@@ -1,7 +1,7 @@
 ghost use Rattle.std.specs.Prelude.{◌≡◌, ◌≤◌, [], IfOk};
 ghost use Rattle.farm_io.specs.MemoryDoors.{IsReliableNew};
 
-use crate::farm_cli_tests::{tree_of, words};
+use crate::farm_cli_tests::{check_ended, tree_of, words_of};
 use farm_cli::{Exit, farm_main};
 use farm_io::{
     Connection, Door, FixedClock, MemoryDoor, ReliableConn, ReliableDoor, ReliableSink,
@@ -17,17 +17,7 @@ use std::thread::Threads;
 /// How many bytes a sink of these tests holds.
 const ROOM: usize = 2000;
 
-const SERVE: [&str; 9] = [
-    "farm",
-    "serve",
-    "c",
-    "--port",
-    "0",
-    "--lanes",
-    "2",
-    "--connections",
-    "1",
-];
+const SERVE: &str = "farm serve c --port 0 --lanes 2 --connections 1";
 
 /// A connection that asks for the board and has room for the response.
 fn conn(alloc: Global) -> Result<ReliableConn, AllocError>
@@ -57,10 +47,10 @@ where
     D::Conn: Drop,
     requires { (D.state door.old).returned ≤ (D.state door.old).accepted }
 {
-    let mut tree = tree_of(alloc, "c/submissions.txt", b"")?;
+    let words = words_of(alloc, SERVE)?;
     let mut input = ReliableSource::new(Vec::new(alloc));
     let mut out = ReliableSink::new(Vec::with_capacity(alloc, ROOM)?);
-    let words = words(alloc, &SERVE)?;
+    let mut tree = tree_of(alloc, "c/submissions.txt", b"")?;
     let exit = farm_main(
         rt,
         alloc,
@@ -80,8 +70,8 @@ where
 fn one_connection_asks_for_the_board(rt: HostRuntime) -> Result<(), Fail> {
     let mut door = door(rt.alloc())?;
     let (exit, out) = served(&rt, rt.alloc(), &mut door)?;
-    assert_eq!(rt; exit, Exit::Done);
-    assert_eq!(rt; out.bytes(), b"conn 1 requests 1 end\nboard 0\n".as_slice());
+    let text = b"conn 1 requests 1 end\nboard 0\n";
+    check_ended(&rt, exit, Exit::Done, out.bytes(), text, "");
     Ok(())
 }
 
@@ -90,7 +80,6 @@ fn a_port_that_is_taken(rt: HostRuntime) -> Result<(), Fail> {
     let failing = [0].to_vec(rt.alloc())?;
     let mut door = MemoryDoor::new(rt.alloc(), Vec::new(rt.alloc()), failing)?;
     let (exit, out) = served(&rt, rt.alloc(), &mut door)?;
-    assert_eq!(rt; exit.status(), 8);
-    assert_eq!(rt; out.bytes(), b"".as_slice());
+    assert_eq!(rt; (exit.status(), out.bytes()), (8, b"".as_slice()));
     Ok(())
 }
