@@ -1,9 +1,10 @@
-ghost use Rattle.std.specs.Prelude.{◌≡◌, ◌≢◌, ◌<◌, List, ℕ, length, Result, Err, IfOk, OnErr};
+ghost use Rattle.std.specs.Prelude.{◌≡◌, ◌≢◌, ◌<◌, List, ℕ, length, Result, Err, IfOk, OnErr, false, codes};
+ghost use Rattle.std.specs.Str.{bytes_eq};
 ghost use Rattle.farm_kinds.specs.Names.{jury};
 ghost use Rattle.farm_kinds.specs.declared.events.Event.TheVariants as event;
 ghost use Rattle.farm_kinds.specs.declared.events.LineFault.TheVariants as fault;
 ghost use Rattle.farm_model.specs.Words.{words};
-ghost use Rattle.farm_model.specs.Grammar.{class_named, broken_words, submit_words, submit_line, record_line, tick_line, number_line, host_event_of, other_event_of, unnamed_event_of, named_event_of, event_of, is_comment, event_or_bad, line_read};
+ghost use Rattle.farm_model.specs.Grammar.{class_named, broken_words, submit_words, submit_line, tick_line, number_line, host_event_of, other_event_of, unnamed_event_of, named_event_of, event_of, is_comment, event_or_bad, line_read};
 ghost use Rattle.command_text.specs.Recorded.{recorded_of, entry_of};
 ghost use Rattle.command_text.specs.Listed.{listed, ListsSome};
 
@@ -115,15 +116,6 @@ fn read_recorded(rest: &[u8]) -> Option<Recorded>
     })
 }
 
-/// What `record J T KIND` asks.
-#[tactic(auto, using(crate::proofs::LineLemmas::record_line_by))]
-fn record_line(rest: &[u8]) -> Option<Event>
-    ensures { result ≡ record_line (words rest.now) }
-{
-    let said = read_recorded(rest)?;
-    Some(said.event())
-}
-
 /// What `tick N` asks.
 fn tick_line(rest: &[u8]) -> Option<Event>
     ensures { result ≡ tick_line (words rest.now) }
@@ -134,15 +126,6 @@ fn tick_line(rest: &[u8]) -> Option<Event>
     }
     let moment = read_moment(moment)?;
     Some(Event::Tick { moment })
-}
-
-/// What `show J` asks.
-#[tactic(auto, using(crate::proofs::LineLemmas::number_line_by))]
-fn show_line(rest: &[u8]) -> Option<Event>
-    ensures { result ≡ number_line event.Show (words rest.now) }
-{
-    let judging = number_alone(rest)?;
-    Some(Event::Show { judging })
 }
 
 /// What `owner J` asks.
@@ -163,18 +146,17 @@ fn matrix_line(rest: &[u8]) -> Option<Event>
     Some(Event::Matrix { rejudging })
 }
 
-/// The event of a line that begins with this word, and is no host's and none of the jury's.
+/// The event of a line that begins with this word, and is no host's and none of the jury's. `record` and `show` are
+/// read before.
 fn other_event_of(word: &[u8], rest: &[u8]) -> Option<Event>
+    requires no_record { bytes_eq word.now (codes "record") ≡ false }
+    requires no_show { bytes_eq word.now (codes "show") ≡ false }
     ensures { result ≡ other_event_of word.now (words rest.now) }
 {
     if word == b"submit".as_slice() {
         submit_line(rest)
-    } else if word == b"record".as_slice() {
-        record_line(rest)
     } else if word == b"tick".as_slice() {
         tick_line(rest)
-    } else if word == b"show".as_slice() {
-        show_line(rest)
     } else if word == b"owner".as_slice() {
         owner_line(rest)
     } else if word == b"board".as_slice() {
@@ -193,6 +175,8 @@ fn other_event_of(word: &[u8], rest: &[u8]) -> Option<Event>
 /// No word begins lines of two kinds, so the most frequent lines are read first.
 #[tactic(auto, using(crate::proofs::LineLemmas::other_first, crate::proofs::LineLemmas::host_then, crate::proofs::LineLemmas::jury_last))]
 fn unnamed_event_of(alloc: Global, word: &[u8], rest: &[u8]) -> Result<Option<Event>, NoMemory>
+    requires no_record { bytes_eq word.now (codes "record") ≡ false }
+    requires no_show { bytes_eq word.now (codes "show") ≡ false }
     ensures read { IfOk result (λ read. read ≡ unnamed_event_of word.now (words rest.now)) }
     ensures wanted { OnErr result (0 < length (listed (unnamed_event_of word.now (words rest.now)))) }
 {
@@ -223,6 +207,8 @@ fn named_event_of(alloc: Global, name: &[u8], rest: &[u8]) -> Result<Option<Even
 
 /// The event of a line that begins with this word.
 fn event_of(alloc: Global, word: &[u8], rest: &[u8]) -> Result<Option<Event>, NoMemory>
+    requires no_record { bytes_eq word.now (codes "record") ≡ false }
+    requires no_show { bytes_eq word.now (codes "show") ≡ false }
     ensures read { IfOk result (λ read. read ≡ event_of word.now (words rest.now)) }
     ensures wanted { OnErr result (0 < length (listed (event_of word.now (words rest.now)))) }
 {
@@ -245,6 +231,8 @@ fn is_comment(word: &[u8]) -> bool
 
 /// What a line asks that begins with this word, and is no comment.
 fn read_event(alloc: Global, word: &[u8], rest: &[u8]) -> Result<Option<Event>, LineFault>
+    requires no_record { bytes_eq word.now (codes "record") ≡ false }
+    requires no_show { bytes_eq word.now (codes "show") ≡ false }
     ensures read { result ≢ Err fault.NoMemory → result ≡ event_or_bad (event_of word.now (words rest.now)) }
     ensures wanted { result ≡ Err fault.NoMemory → 0 < length (listed (event_of word.now (words rest.now))) }
 {
