@@ -55,18 +55,23 @@ impl Cell {
 }
 
 /// The cells of a judging, a byte each. Contracts see a list of what they hold.
+///
+/// There are at most 2^16 - 1 of them, so that a place takes two bytes.
 #[derive(Drop)]
 pub struct Cells {
     cells: Vec<Cell>,
 }
 
 impl Model for Cells {
+    ghost use Rattle.std.specs.Prelude.{◌<◌, ◌^◌, length};
     ghost use Rattle.lazy_stop.specs.CellKinds.{kinds_in};
     ghost use Rattle.farm_model.specs.Rows.{Row};
 
     ghost Value = { Row };
 
     ghost view = { λ c. kinds_in c.cells.items };
+
+    ghost invariant = { λ c. length c.cells.items < 2 ^ 16 };
 }
 
 impl Cells {
@@ -79,25 +84,25 @@ impl Cells {
     }
 
     /// How many cells there are.
-    pub fn len(&self) -> usize
+    pub fn len(&self) -> u16
         ensures { result ≡ length self.now }
     {
-        self.cells.len()
+        self.cells.len() as u16
     }
 
     /// What the cell at the place holds.
-    pub fn get(&self, at: usize) -> Option<Kind>
+    pub fn get(&self, at: u16) -> Option<Kind>
         requires { at < length self.now }
         ensures { slice_get self.now at ≡ Some result }
     {
-        self.cells[at].kind()
+        self.cells[at as usize].kind()
     }
 
     /// Puts the kind into the cell at the place.
-    pub fn fill(&mut self, at: usize, kind: Kind)
+    pub fn fill(&mut self, at: u16, kind: Kind)
         requires { at < length self.old }
         ensures { self.new ≡ slice_set self.old at (Some kind) }
     {
-        self.cells[at] = Cell::filled(kind);
+        self.cells[at as usize] = Cell::filled(kind);
     }
 }

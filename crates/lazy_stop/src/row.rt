@@ -15,7 +15,7 @@ use std::marker::Model;
 #[derive(Clone, Copy, Debug)]
 pub struct Best {
     kind: Kind,
-    at: usize,
+    at: u16,
 }
 
 /// The results of one judging: a cell for each test in rank order, empty or with the kind that its
@@ -27,7 +27,7 @@ pub struct Row {
     rule: Rule,
     extremes: Extremes,
     best: Option<Best>,
-    first_empty: usize,
+    first_empty: u16,
     cells: Cells,
 }
 
@@ -82,7 +82,7 @@ impl Row {
             → (result ≡ Put.Kept kept) × (self.new ≡ self.old) }
         ensures same_rule { self.new.rule ≡ self.old.rule }
     {
-        let at = rank as usize - 1;
+        let at = rank - 1;
         if let Some(kept) = self.cells.get(at) {
             return Put::Kept(kept);
         }
@@ -98,7 +98,7 @@ impl Row {
         requires high { rank ≤ length self.now.cells }
         ensures { slice_get self.now.cells (rank - 1) ≡ Some result }
     {
-        self.cells.get(rank as usize - 1)
+        self.cells.get(rank - 1)
     }
 
     /// Whether the result of this test, whose cell is empty, can decide the verdict: two ways to fill
@@ -117,7 +117,7 @@ impl Row {
         ensures { (rank : ℕ) → 1 ≤ rank → slice_get self.now.cells (rank - 1) ≡ Some None
             → matters self.now.rule self.now.cells rank ≡ nat_le rank result }
     {
-        matters_before(&self.rule, self.extremes, self.best, self.cells.len())
+        matters_before(&self.rule, self.extremes, self.best, self.cells.len()) as usize
     }
 
     /// What is reported of the judging. Lazily, `Final` comes as soon as no outcome of the empty cells can
@@ -143,7 +143,7 @@ impl Row {
 }
 
 /// The better of the best cell so far and a cell that was filled.
-fn best_with(rule: &Rule, best: Option<Best>, kind: Kind, at: usize) -> Best
+fn best_with(rule: &Rule, best: Option<Best>, kind: Kind, at: u16) -> Best
     ensures { (cells : List (Option Kind)) → slice_get cells at ≡ Some None → BestIs rule.now cells best
         → BestIs rule.now (slice_set cells at (Some kind)) (Some result) }
 {
@@ -161,7 +161,7 @@ fn best_with(rule: &Rule, best: Option<Best>, kind: Kind, at: usize) -> Best
 }
 
 /// The place of the first empty cell, at this place or behind it. The row's length where none is.
-fn first_empty(cells: &Cells, from: usize) -> usize
+fn first_empty(cells: &Cells, from: u16) -> u16
     requires within { from ≤ length cells.now }
     requires filled { (i : ℕ) → i < from → slice_get cells.now i ≢ Some None }
     ensures { IsFirstEmpty cells.now result }
@@ -181,13 +181,13 @@ fn first_empty(cells: &Cells, from: usize) -> usize
 /// Where all possible kinds have one priority, the first cell decides alone. Else each empty cell matters
 /// while the best one is below the greatest priority, and after that those before the best one, where they
 /// could tie with it by another kind.
-fn matters_before(rule: &Rule, extremes: Extremes, best: Option<Best>, tests: usize) -> usize
+fn matters_before(rule: &Rule, extremes: Extremes, best: Option<Best>, tests: u16) -> u16
     // of each row of which these are kept
     ensures { (cells : List (Option Kind)) (first_empty at : ℕ) → IsRow rule.now extremes best first_empty cells
         → length cells ≡ tests → slice_get cells at ≡ Some None → IsTrue (nat_lt at result) ↔ Matters rule.now cells at }
 {
     if rule.prio(extremes.least) == rule.prio(extremes.greatest) {
-        return usize::from(extremes.rival.is_some());
+        return u16::from(extremes.rival.is_some());
     }
     let Some(best) = best else {
         return tests;
