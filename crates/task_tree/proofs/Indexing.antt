@@ -117,14 +117,19 @@ index_kept ks classes p k y h a e b sub =
       | inr other ↦ other_index ks (of_class classes c).numbers y.class c p y h e refl other (a.each c)
     ])
 
--- a judging of which no task is shown changes to another
-pub index_classed : (ks : List KeptTasks) (classes : Classes) (p : ℕ) (y : KeptTasks) → p < length ks → IsIndexed ks classes → y.shown ≡ (kept_at ks p).shown
+-- a judging of which no task is shown changes to another such
+pub index_unshown : (ks : List KeptTasks) (classes : Classes) (p : ℕ) (y : KeptTasks) → p < length ks → IsIndexed ks classes → ((k : ℕ) → bit y.shown k ≢ 1)
     → ((k : ℕ) → bit (kept_at ks p).shown k ≢ 1) → IsIndexed (set ks p y) classes
-index_classed ks classes p y h a e none =
+index_unshown ks classes p y h a after none =
     changed_index ks classes classes y.class p y a (record { others = λ _ _. refl; size = refl; top_words = refl }) (λ c.
     let ns = (of_class classes c).numbers in
     let out : bit ns p ≢ 1 = λ b. let u = (a.each c).some p b in none u.0 u.1 in
-    index_change c ks ns ns p y h (a.each c) (λ _ _. refl) (λ _ k b. absurd (none k (ap (λ w. bit w k) (sym e) ∙ b))) (λ b. absurd (out b)) (λ b. absurd (out b)))
+    index_change c ks ns ns p y h (a.each c) (λ _ _. refl) (λ _ k b. absurd (after k b)) (λ b. absurd (out b)) (λ b. absurd (out b)))
+
+-- its class changes
+pub index_classed : (ks : List KeptTasks) (classes : Classes) (p : ℕ) (y : KeptTasks) → p < length ks → IsIndexed ks classes → y.shown ≡ (kept_at ks p).shown
+    → ((k : ℕ) → bit (kept_at ks p).shown k ≢ 1) → IsIndexed (set ks p y) classes
+index_classed ks classes p y h a e none = index_unshown ks classes p y h a (λ k b. none k (ap (λ w. bit w k) (sym e) ∙ b)) none
 
 -- ---- a judging is added
 

@@ -1,19 +1,20 @@
--- A task is shown or hidden, and a judging is added.
-use Rattle.std.proofs.Common.{ℕ, zero, suc, ◌≡◌, ◌+◌, ◌-◌, ◌/◌, ◌<◌, ◌≤◌, List, [], ◌∷◌, ◌++◌, length, get_or, set, Bool, refl, sym, ap, ◌∙◌, arith, subst, inl, inr}
+-- A task is shown or hidden, and a judging is added or gets room for more tests.
+use Rattle.std.proofs.Common.{ℕ, zero, suc, ◌≡◌, ◌≢◌, ◌+◌, ◌-◌, ◌/◌, ◌<◌, ◌≤◌, List, [], ◌∷◌, ◌++◌, length, get_or, set, Bool, false, refl, sym, ap, ◌∙◌, arith, subst, inl, inr}
 use Rattle.std.proofs.lemmas.Bool.{cases_eq}
-use Rattle.std.specs.Prelude.{replicate}
+use Rattle.std.proofs.lemmas.Bool.Decides.{nat_tests}
+use Rattle.std.specs.Prelude.{◌==◌, replicate}
 use Rattle.std.proofs.lemmas.List.{get_or_read, map_push, length-replicate}
 use Rattle.farm_kinds.specs.declared.outcomes.Class.{Class}
 use Rattle.farm_kinds.specs.declared.outcomes.Task.{Task}
 use Rattle.farm_model.specs.Numbered.{with_item}
 use Rattle.task_tree.specs.Bits.{word, bit, IsRemoved, IsEmpty}
-use Rattle.task_tree.specs.Shown.{JudgingTasks, hidden, with_shown}
+use Rattle.task_tree.specs.Shown.{JudgingTasks, hidden, with_shown, widened, with_room}
 use Rattle.task_tree.specs.Tree.{of_class}
 use Rattle.task_tree.specs.TreeLayout.{shown_from, tasks_value, tasks_values, no_tasks, kept_at, IsSized, AreSized, IsIndexed}
 use Rattle.task_tree.specs.declared.tree.KeptTasks.{KeptTasks}
 use Rattle.task_tree.specs.declared.classes.Classes.{Classes}
 use Rattle.task_tree.proofs.Bitwise.{none_in}
-use Rattle.task_tree.proofs.ShownTests.{InRange, shown_empty}
+use Rattle.task_tree.proofs.ShownTests.{InRange, length_shown, shown_empty}
 use Rattle.task_tree.proofs.Changed.{changed}
 
 pub read : (ks : List KeptTasks) (task : Task) (x : KeptTasks) → InRange ks task → x ≡ get_or ks (task.judging - 1) x → x ≡ kept_at ks (task.judging - 1)
@@ -68,6 +69,9 @@ value_pushed ks class tests v e =
 pub empty_words_as : (tests : ℕ) (v : List ℕ) → v ≡ replicate ((tests + 63) / 64) 0 → IsEmpty v
 empty_words_as tests v e = subst IsEmpty (sym e) (empty_words ((tests + 63) / 64))
 
+pub unset_words : (tests : ℕ) (v : List ℕ) → v ≡ replicate ((tests + 63) / 64) 0 → (k : ℕ) → bit v k ≢ 1
+unset_words tests v e k b = let z = (empty_words_as tests v e).none k in omega (arith, z, b)
+
 -- what is left of a judging was in it before
 pub removed_part : (ks : List KeptTasks) (task : Task) (x : KeptTasks) (v : List ℕ) (k : ℕ) → InRange ks task → x ≡ get_or ks (task.judging - 1) x → IsRemoved x.shown v k
     → (i : ℕ) → bit v i ≡ 1 → bit (kept_at ks (task.judging - 1)).shown i ≡ 1
@@ -78,3 +82,47 @@ removed_part ks task x v k r e d i b =
     ]) where
       clash : (n : ℕ) → n ≡ 0 → n ≡ 1 → ⊥
       clash n a b = omega arith
+
+-- ---- a judging of which no task is shown gets room for more tests
+
+append_none : {X : Type 0} (xs : List X) → xs ++ [] ≡ xs
+append_none [] = refl
+append_none (x ∷ xs) = ap (λ ys. x ∷ ys) (append_none xs)
+
+set_itself : (ks : List KeptTasks) (i : ℕ) (x : KeptTasks) → i < length ks → x ≡ get_or ks i x → set ks i x ≡ ks
+set_itself [] i x l e = absurd (omega arith)
+set_itself (k ∷ ks) zero x l e = ap (λ y. y ∷ ks) e
+set_itself (k ∷ ks) (suc i) x l e = ap (λ ys. k ∷ ys) (set_itself ks i x (omega arith) e)
+
+-- with as many tests as wanted it stays
+pub room_kept : (ks : List KeptTasks) (n : ℕ) (x : KeptTasks) (tests : ℕ) → 1 ≤ n → n ≤ length ks → x ≡ get_or ks (n - 1) x → tests ≤ x.tests → tasks_values ks ≡ with_room (tasks_values ks) n tests
+room_kept ks n x tests low high e enough =
+    let bits = shown_from x.shown 0 x.tests in
+    let made : List Bool → JudgingTasks = λ s. record { class = x.class; shown = s } in
+    let none : tests - length bits ≡ 0 = omega (arith, enough, length_shown x.shown 0 x.tests) in
+    let same : widened tests (tasks_value x) ≡ tasks_value x = ap made (ap (λ (k : ℕ). bits ++ replicate k false) none ∙ append_none bits) in
+    ap tasks_values (sym (set_itself ks (n - 1) x (omega (arith, low, high)) e))
+    ∙ changed tasks_value ks n x x (widened tests) (omega (arith, low)) high e (sym same)
+
+unshown : (w : List ℕ) (i n : ℕ) → ((k : ℕ) → bit w k ≢ 1) → shown_from w i n ≡ replicate n false
+unshown w i zero h = refl
+unshown w i (suc n) h =
+    let here : (bit w i == 1) ≡ false = let d = h i in grind (arith, nat_tests, d) in
+    ap (λ b. b ∷ shown_from w (i + 1) n) here ∙ ap (λ xs. false ∷ xs) (unshown w (i + 1) n h)
+
+replicate_more : (a b : ℕ) → replicate a false ++ replicate b false ≡ replicate (a + b) false
+replicate_more zero b = ap (λ (n : ℕ). replicate n false) (omega arith)
+replicate_more (suc a) b = ap (λ xs. false ∷ xs) (replicate_more a b) ∙ ap (λ (n : ℕ). replicate n false) (let e : suc (a + b) ≡ suc a + b = omega arith in e)
+
+-- with fewer it gets new words
+pub room_made : (ks : List KeptTasks) (n : ℕ) (x : KeptTasks) (tests : ℕ) (v : List ℕ) → 1 ≤ n → n ≤ length ks → x ≡ get_or ks (n - 1) x → x.tests ≤ tests → ((k : ℕ) → bit x.shown k ≢ 1)
+    → v ≡ replicate ((tests + 63) / 64) 0
+    → tasks_values (set ks (n - 1) (record { class = x.class; tests = tests; shown = v })) ≡ with_room (tasks_values ks) n tests
+room_made ks n x tests v low high e fewer none zeros =
+    let bits = shown_from x.shown 0 x.tests in
+    let made : List Bool → JudgingTasks = λ s. record { class = x.class; shown = s } in
+    let all : x.tests + (tests - length bits) ≡ tests = omega (arith, fewer, length_shown x.shown 0 x.tests) in
+    let after : shown_from v 0 tests ≡ replicate tests false = shown_empty v 0 tests (empty_words_as tests v zeros) in
+    let before : bits ++ replicate (tests - length bits) false ≡ replicate tests false =
+    ap (λ (xs : List Bool). xs ++ replicate (tests - length bits) false) (unshown x.shown 0 x.tests none) ∙ replicate_more x.tests (tests - length bits) ∙ ap (λ (k : ℕ). replicate k false) all in
+    changed tasks_value ks n x (record { class = x.class; tests = tests; shown = v }) (widened tests) (omega (arith, low)) high e (ap made (after ∙ sym before))

@@ -36,6 +36,14 @@ with_shown judgings task shown =
 abbrev pub with_class : List JudgingTasks → ℕ → Class → List JudgingTasks
 with_class judgings n class = with_change judgings n (λ j. record j { class = class })
 
+-- as many tests more as it takes to have at least so many; their tasks are hidden
+abbrev pub widened : ℕ → JudgingTasks → JudgingTasks
+widened tests j = record j { shown = j.shown ++ replicate (tests - length j.shown) false }
+
+-- the judging, and those of its tasks that are shown, with at least this many tests
+abbrev pub with_room : List JudgingTasks → ℕ → ℕ → List JudgingTasks
+with_room judgings n tests = with_change judgings n (widened tests)
+
 -- for each test of the judging of this number whether its task is shown
 abbrev pub shown_of : List JudgingTasks → ℕ → List Bool
 shown_of judgings n = option_map_or (λ j. j.shown) (item_of judgings n) []

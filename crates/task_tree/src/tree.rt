@@ -3,7 +3,7 @@ ghost use Rattle.farm_model.specs.Judgings.{task_of};
 ghost use Rattle.farm_model.specs.Limits.{max_judgings, max_tests};
 ghost use Rattle.task_tree.specs.Bits.{bit, IsInserted, IsRemoved, IsEmpty, IsLeast};
 ghost use Rattle.task_tree.specs.Tree.{of_class};
-ghost use Rattle.task_tree.specs.Shown.{hidden, HasTask, with_shown, with_class, is_shown, shown_in_class, shown_tasks, first_shown};
+ghost use Rattle.task_tree.specs.Shown.{hidden, HasTask, with_shown, with_class, with_room, is_shown, shown_in_class, shown_tasks, first_shown};
 ghost use Rattle.task_tree.specs.TreeLayout.{tasks_values, kept_at, AreSized, IsIndexed};
 
 use crate::classes::Classes;
@@ -26,7 +26,7 @@ pub struct KeptTasks {
 }
 
 /// Judgings, numbered from 1, and which of their tasks are shown. Contracts see a list of judgings, each with
-/// its class and, for each test, whether its task is shown. Only `add` takes memory.
+/// its class and, for each test, whether its task is shown. Only `add` and `widen` take memory.
 #[derive(Drop)]
 pub struct TaskTree {
     alloc: Global,
@@ -89,6 +89,27 @@ impl TaskTree {
     {
         let kept = &mut self.judgings[judging as usize - 1];
         kept.class = class;
+    }
+
+    /// Gives a judging of which no task is shown this many tests, at most 1,000, where it has fewer. At
+    /// `NoMemory` nothing changes.
+    pub fn widen(&mut self, judging: u32, tests: u16) -> Result<(), NoMemory>
+        requires numbered { 1 ≤ judging }
+        requires known { judging ≤ length self.old }
+        requires short { tests ≤ max_tests }
+        requires hidden { (test : ℕ) → is_shown self.old (task_of judging test) ≡ false }
+        ensures widened { OnOk result (self.new ≡ with_room self.old judging tests) }
+        ensures unchanged { OnErr result (self.new ≡ self.old) }
+    {
+        let place = judging as usize - 1;
+        if self.judgings[place].tests >= tests {
+            return Ok(());
+        }
+        let shown = Words::zeros(self.alloc, (tests as usize + 63) / 64)?;
+        let kept = &mut self.judgings[place];
+        kept.shown = shown;
+        kept.tests = tests;
+        Ok(())
     }
 
     /// How many judgings there are, at most 400,000.
