@@ -7,6 +7,7 @@ pub mod MadeAhead
 pub mod Shown
 pub mod Wanted
 pub mod Listed
+pub mod Wider
 pub mod OpenTasks
 pub mod Cells
 pub mod CellCount

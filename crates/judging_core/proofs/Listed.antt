@@ -1,10 +1,9 @@
 -- What each change keeps: each open task is listed.
-use Rattle.std.proofs.Common.{ℕ, zero, suc, ◌≡◌, ◌≢◌, ◌+◌, ◌-◌, ◌<◌, ◌≤◌, ◌⊎◌, List, [], ◌∷◌, ◌++◌, Option, Some, None, Bool, true, false, not, ◌&&◌, refl, sym, ap, subst, ◌∙◌, arith, inl, inr, length, map, cond, set, slice_get, filter, find, eqb}
-use Rattle.std.specs.Option.{is_none, option_map}
-use Rattle.std.specs.List.{All}
+use Rattle.std.proofs.Common.{ℕ, ◌≡◌, ◌≢◌, ◌+◌, ◌-◌, ◌<◌, ◌≤◌, ◌⊎◌, List, [], ◌∷◌, ◌++◌, Option, Some, None, Bool, true, false, not, ◌&&◌, refl, sym, ap, subst, ◌∙◌, arith, inl, inr, length, map, cond, set, filter, find, eqb}
+use Rattle.std.specs.Option.{is_none, option_map, option_map_or}
 use Rattle.std.proofs.lemmas.Bool.{cases_eq}
 use Rattle.std.proofs.lemmas.Bool.Decides.{nat_tests}
-use Rattle.std.proofs.lemmas.List.{length-map, map-set, map_push, length_push, length-replicate}
+use Rattle.std.proofs.lemmas.List.{length-map, length-set, map-set, map_push, length_push, length-replicate}
 use Rattle.farm_kinds.specs.declared.kinds.Kind.{Kind}
 use Rattle.farm_kinds.specs.declared.outcomes.Class.{Class}
 use Rattle.farm_kinds.specs.declared.outcomes.Mode.{Mode}
@@ -17,13 +16,12 @@ use Rattle.farm_model.specs.Judgings.{Judging, task_of, cell_of, empty_judging, 
 use Rattle.farm_model.specs.Open.{is_free, is_wanted, is_active}
 use Rattle.lazy_stop.specs.Matters.{IsPossible}
 use Rattle.lease_book.proofs.Singly.{task_is, same_self}
-use Rattle.task_tree.specs.Shown.{JudgingTasks, hidden, is_shown, with_shown, with_class, HasTask}
-use Rattle.std.proofs.lemmas.List.Elements.{All-head, All-tail}
-use Rattle.judging_core.specs.JudgeShape.{judging_value, judging_values, row_length, IsWellKept, AreWellKept}
+use Rattle.task_tree.specs.Shown.{JudgingTasks, tests_listed, is_shown, with_shown, with_class, HasTask}
+use Rattle.judging_core.specs.JudgeShape.{judging_value, judging_values, row_length}
 use Rattle.judging_core.specs.declared.judgings.KeptJudging.{KeptJudging}
-use Rattle.judging_core.specs.Listed.{is_open, is_open_in, is_open_cell, judging_classes, listed_classes, widths, AreWide, Begins, IsListed, AreTestsShown, AreShort}
+use Rattle.judging_core.specs.Listed.{is_open, is_open_in, is_open_cell, judging_classes, listed_classes, widths, tests_judged, AreWide, Begins, IsListed, AreTestsShown}
 use Rattle.judging_core.proofs.Items.{item_at, with_same, with_other, change_same, change_other, kept_seen, pushed_other, pushed_last, item_within, item_some}
-use Rattle.judging_core.proofs.Shown.{shown_other, shown_here, classes_shown, widths_shown, same_size, has_wide, shown_pushed, wide_pushed, shown_classed, widths_classed}
+use Rattle.judging_core.proofs.Shown.{shown_other, shown_here, classes_shown, widths_shown, listed_same, judged_same, judged_is, shown_classed, widths_classed}
 use Rattle.judging_core.proofs.Wanted.{wanted_before}
 
 -- ---- leases
@@ -64,28 +62,28 @@ and_both a b h k = rw (h, k) refl
 
 -- ---- changes
 
--- other judgings, leases and listed tasks, of the same classes and widths
+-- other judgings, leases and listed tasks, of the same classes, rows and widths
 pub relisted : (rule : RuleValue) (js ks : List Judging) (ls ms : List Lease) (ts us : List JudgingTasks) → IsListed rule js ls ts
-    → judging_classes ks ≡ judging_classes js → listed_classes us ≡ listed_classes ts → widths us ≡ widths ts
+    → judging_classes ks ≡ judging_classes js → map row_length ks ≡ map row_length js → listed_classes us ≡ listed_classes ts → widths us ≡ widths ts
     → ((task : Task) → is_open rule ks ms task ≡ true → is_shown us task ≡ true)
     → ((task : Task) → length (judging_classes js) < task.judging → is_shown us task ≡ false) → IsListed rule ks ms us
-relisted rule js ks ls ms ts us h c d w shown rest = record {
+relisted rule js ks ls ms ts us h c r d w shown rest = record {
   shown = shown;
   classes = subst (λ (xs : List Class). Begins xs (listed_classes us)) (sym c) (subst (λ (ys : List Class). Begins (judging_classes js) ys) (sym d) h.classes);
-  wide = subst (λ (ns : List ℕ). All (λ n. n ≡ 1000) ns) (sym w) h.wide;
+  wide = record { each = λ n. omega (arith, h.wide.each n, judged_same js ks n r, listed_same ts us n w) };
   rest = λ task l. rest task (subst (λ (xs : List Class). length xs < task.judging) c l);
 }
 
 -- fewer tasks are open, and the listed ones are the same
 pub fewer_open : (rule : RuleValue) (js ks : List Judging) (ls ms : List Lease) (ts : List JudgingTasks) → IsListed rule js ls ts
-    → judging_classes ks ≡ judging_classes js → ((task : Task) → is_open rule ks ms task ≡ true → is_open rule js ls task ≡ true) → IsListed rule ks ms ts
-fewer_open rule js ks ls ms ts h c o = relisted rule js ks ls ms ts ts h c refl refl (λ task t. h.shown task (o task t)) h.rest
+    → judging_classes ks ≡ judging_classes js → map row_length ks ≡ map row_length js → ((task : Task) → is_open rule ks ms task ≡ true → is_open rule js ls task ≡ true) → IsListed rule ks ms ts
+fewer_open rule js ks ls ms ts h c r o = relisted rule js ks ls ms ts ts h c r refl refl (λ task t. h.shown task (o task t)) h.rest
 
 -- a task that is not open, or not any more, is hidden
 pub hidden_listed : (rule : RuleValue) (js : List Judging) (ls ms : List Lease) (ts : List JudgingTasks) (task : Task) → IsListed rule js ls ts → HasTask ts task
     → ((t : Task) → is_open rule js ms t ≡ true → is_open rule js ls t ≡ true) → is_open rule js ms task ≡ false → IsListed rule js ms (with_shown ts task false)
 hidden_listed rule js ls ms ts task h there o closed =
-    relisted rule js js ls ms ts (with_shown ts task false) h refl (classes_shown ts task false) (widths_shown ts task false) shown rest where
+    relisted rule js js ls ms ts (with_shown ts task false) h refl refl (classes_shown ts task false) (widths_shown ts task false) shown rest where
       shown : (t : Task) → is_open rule js ms t ≡ true → is_shown (with_shown ts task false) t ≡ true
       shown t e = at (same_task t task) refl where
         at : (b : Bool) → same_task t task ≡ b → is_shown (with_shown ts task false) t ≡ true
@@ -111,7 +109,7 @@ pub handed_hidden : (rule : RuleValue) (js : List Judging) (ls : List Lease) (ts
 handed_hidden rule js ls ts task host until h there =
     fewer_open rule js (with_handed js task) (with_lease ls host task until) (with_lease ls host task until) (with_shown ts task false)
     (hidden_listed rule js ls (with_lease ls host task until) ts task h there fewer closed)
-    (kept_seen (λ j. j.class) js task.judging (mark_handed task.test) (λ j. refl)) (λ t e. handed_open t e) where
+    (kept_seen (λ j. j.class) js task.judging (mark_handed task.test) (λ j. refl)) (kept_seen row_length js task.judging (mark_handed task.test) (λ j. refl)) (λ t e. handed_open t e) where
       fewer : (t : Task) → is_open rule js (with_lease ls host task until) t ≡ true → is_open rule js ls t ≡ true
       fewer t e = let p = and_parts (is_open_in rule t.test (item_of js t.judging)) (is_free (with_lease ls host task until) t) e in and_both _ _ p.0 (handed_in task t ls host until p.1).0
 
@@ -195,19 +193,19 @@ result_closed rule js ls j test kind empty =
     (ap (is_open_in rule test) (change_same js j (fill_cell test kind) at_cell.0 at_cell.1)
     ∙ ap (is_open_cell rule (fill_cell test kind at_cell.0) test) (with_same at_cell.0.row test None (Some kind) at_cell.2))
 
--- a cell is of a judging that is there, and of a test that there is room for
-pub cell_room : (js : List Judging) (ts : List JudgingTasks) (j test : ℕ) → AreShort js → AreWide ts → length js ≤ length ts → cell_of js j test ≡ Some None → HasTask ts (task_of j test)
-cell_room js ts j test short wide room empty =
+-- a cell is of a test that there is room for
+pub cell_room : (js : List Judging) (ts : List JudgingTasks) (j test : ℕ) → AreWide js ts → cell_of js j test ≡ Some None → HasTask ts (task_of j test)
+cell_room js ts j test wide empty =
     let at_cell = cell_there js j test (item_of js j) refl empty in
-    let n = item_within js j at_cell.0 at_cell.1 in
     let t = item_within at_cell.0.row test None at_cell.2 in
-    let s = short.each j at_cell.0 at_cell.1 in
-    has_wide ts (task_of j test) wide n.0 (omega (arith, n.1, room)) t.0 (omega (arith, t.1, s))
+    let rows : tests_judged js j ≡ length at_cell.0.row = judged_is js j (length at_cell.0.row) (ap (option_map row_length) at_cell.1) in
+    record { low = t.0; high = omega (arith, t.1, rows, wide.each j) }
 
 pub result_listed : (rule : RuleValue) (js : List Judging) (ls : List Lease) (ts : List JudgingTasks) (j test : ℕ) (kind : Kind) → IsListed rule js ls ts → cell_of js j test ≡ Some None → IsPossible rule kind
     → IsListed rule (with_result js j test kind) (without_task ls (task_of j test)) ts
 result_listed rule js ls ts j test kind h empty possible =
-    fewer_open rule js (with_result js j test kind) ls (without_task ls (task_of j test)) ts h (kept_seen (λ x. x.class) js j (fill_cell test kind) (λ x. refl)) (result_open rule js ls j test kind empty possible)
+    fewer_open rule js (with_result js j test kind) ls (without_task ls (task_of j test)) ts h (kept_seen (λ x. x.class) js j (fill_cell test kind) (λ x. refl))
+    (kept_seen row_length js j (fill_cell test kind) (λ x. length-set x.row (test - 1) (Some kind))) (result_open rule js ls j test kind empty possible)
 
 -- a renewal leaves each task free that was, and no other
 renewed_free : (p : Lease → Bool) (until : ℕ) (ls : List Lease) (t : Task) → is_free (map (renew_if p until) ls) t ≡ is_free ls t
@@ -221,7 +219,7 @@ renewed_free p until (x ∷ ls) t =
 
 pub renewed_listed : (rule : RuleValue) (js : List Judging) (ls : List Lease) (ts : List JudgingTasks) (host j until : ℕ) → IsListed rule js ls ts → IsListed rule js (renewed_of ls host j until) ts
 renewed_listed rule js ls ts host j until h =
-    fewer_open rule js js ls (renewed_of ls host j until) ts h refl (λ t e.
+    fewer_open rule js js ls (renewed_of ls host j until) ts h refl refl (λ t e.
     sym (ap (λ b. is_open_in rule t.test (item_of js t.judging) && b) (renewed_free (holds_of host j) until ls t)) ∙ e)
 
 dropped_cell : (rule : RuleValue) (judging : Judging) (test : ℕ) (o : Option (Option Kind)) → is_open_cell rule (mark_dropped judging) test o ≡ false
@@ -240,7 +238,7 @@ dropped_closed rule js ls j test = ap (λ b. b && is_free ls (task_of j test)) (
 pub dropped_listed : (rule : RuleValue) (js : List Judging) (ls : List Lease) (ts : List JudgingTasks) (j : ℕ) → IsListed rule js ls ts
     → IsListed rule (with_dropped js j) (without_judging ls j) ts
 dropped_listed rule js ls ts j h =
-    fewer_open rule js (with_dropped js j) ls (without_judging ls j) ts h (kept_seen (λ x. x.class) js j mark_dropped (λ x. refl)) open_before where
+    fewer_open rule js (with_dropped js j) ls (without_judging ls j) ts h (kept_seen (λ x. x.class) js j mark_dropped (λ x. refl)) (kept_seen row_length js j mark_dropped (λ x. refl)) open_before where
       stays : (t : Task) → j ≢ t.judging → is_free (without_judging ls j) t ≡ is_free ls t
       stays t n = ap is_none (find_passing (λ x. not (eqb x.task.judging j)) (λ x. same_task x.task t) ls (λ x e. let s : x.task ≡ t = task_is x.task t e in ap (λ (k : Task). not (eqb k.judging j)) s ∙ other t n)) where
         other : (t : Task) → j ≢ t.judging → not (eqb t.judging j) ≡ true
@@ -257,9 +255,9 @@ dropped_listed rule js ls ts j h =
 -- ---- a lease ends
 
 -- an open task is one of the judgings', of a test that there is room for
-pub open_there : (rule : RuleValue) (js : List Judging) (ls : List Lease) (ts : List JudgingTasks) (t : Task) → AreShort js → AreWide ts → length js ≤ length ts → is_open rule js ls t ≡ true
+pub open_there : (rule : RuleValue) (js : List Judging) (ls : List Lease) (ts : List JudgingTasks) (t : Task) → AreWide js ts → is_open rule js ls t ≡ true
     → (t.judging ≤ length js) × HasTask ts t
-open_there rule js ls ts t short wide room e =
+open_there rule js ls ts t wide e =
     let p = and_parts (is_open_in rule t.test (item_of js t.judging)) (is_free ls t) e in
     by_judging (item_of js t.judging) refl p.0 where
       by_cell : (judging : Judging) (o : Option (Option Kind)) → item_of judging.row t.test ≡ o → is_open_cell rule judging t.test o ≡ true → (1 ≤ t.test) × (t.test ≤ length judging.row)
@@ -272,8 +270,8 @@ open_there rule js ls ts t short wide room e =
       by_judging (Some judging) i h =
           let n = item_within js t.judging judging i in
           let c = by_cell judging (item_of judging.row t.test) refl h in
-          let s = short.each t.judging judging i in
-          (n.1, has_wide ts t wide n.0 (omega (arith, n.1, room)) c.0 (omega (arith, c.1, s)))
+          let rows : tests_judged js t.judging ≡ length judging.row = judged_is js t.judging (length judging.row) (ap (option_map row_length) i) in
+          (n.1, record { low = c.0; high = omega (arith, c.1, rows, wide.each t.judging) })
 
 ended_open : (rule : RuleValue) (js : List Judging) (ls : List Lease) (task t : Task) → same_task t task ≡ false → is_open rule js (without_task ls task) t ≡ true → is_open rule js ls t ≡ true
 ended_open rule js ls task t s e =
@@ -284,7 +282,7 @@ ended_open rule js ls task t s e =
 pub shown_again : (rule : RuleValue) (js : List Judging) (ls : List Lease) (ts : List JudgingTasks) (task : Task) → IsListed rule js ls ts → task.judging ≤ length js → HasTask ts task
     → IsListed rule js (without_task ls task) (with_shown ts task true)
 shown_again rule js ls ts task h known there =
-    relisted rule js js ls (without_task ls task) ts (with_shown ts task true) h refl (classes_shown ts task true) (widths_shown ts task true) shown rest where
+    relisted rule js js ls (without_task ls task) ts (with_shown ts task true) h refl refl (classes_shown ts task true) (widths_shown ts task true) shown rest where
       shown : (t : Task) → is_open rule js (without_task ls task) t ≡ true → is_shown (with_shown ts task true) t ≡ true
       shown t e = at (same_task t task) refl where
         at : (b : Bool) → same_task t task ≡ b → is_shown (with_shown ts task true) t ≡ true
@@ -298,31 +296,17 @@ shown_again rule js ls ts task h known there =
         at false s = shown_other ts task t true there.low s ∙ h.rest t l
 
 -- where there is no such task there is none to list
-pub nothing_again : (rule : RuleValue) (js : List Judging) (ls : List Lease) (ts : List JudgingTasks) (task : Task) → IsListed rule js ls ts → AreShort js → length js ≤ length ts
+pub nothing_again : (rule : RuleValue) (js : List Judging) (ls : List Lease) (ts : List JudgingTasks) (task : Task) → IsListed rule js ls ts
     → ((task.judging ≤ length js) → HasTask ts task → ⊥) → IsListed rule js (without_task ls task) ts
-nothing_again rule js ls ts task h short room none =
-    fewer_open rule js js ls (without_task ls task) ts h refl (λ t e. at t e (same_task t task) refl) where
+nothing_again rule js ls ts task h none =
+    fewer_open rule js js ls (without_task ls task) ts h refl refl (λ t e. at t e (same_task t task) refl) where
       at : (t : Task) → is_open rule js (without_task ls task) t ≡ true → (b : Bool) → same_task t task ≡ b → is_open rule js ls t ≡ true
       at t e true s =
-          let k = open_there rule js (without_task ls task) ts t short h.wide room e in
+          let k = open_there rule js (without_task ls task) ts t h.wide e in
           absurd (none (subst (λ (x : Task). x.judging ≤ length js) (task_is t task s) k.0) (subst (λ (x : Task). HasTask ts x) (task_is t task s) k.1))
       at t e false s = ended_open rule js ls task t s e
 
 -- ---- a judging is added
-
-begins_more : (xs ys : List Class) (c : Class) → Begins xs ys → Begins xs (ys ++ c ∷ [])
-begins_more [] ys c h = tt
-begins_more (x ∷ xs) [] c h = absurd h
-begins_more (x ∷ xs) (y ∷ ys) c h = (h.0, begins_more xs ys c h.1)
-
--- there is room for one judging more
-pub room_listed : (rule : RuleValue) (js : List Judging) (ls : List Lease) (ts : List JudgingTasks) (class : Class) → IsListed rule js ls ts → IsListed rule js ls (ts ++ hidden class 1000 ∷ [])
-room_listed rule js ls ts class h = record {
-  shown = λ t e. shown_pushed ts class 1000 t ∙ h.shown t e;
-  classes = subst (λ (cs : List Class). Begins (judging_classes js) cs) (sym (map_push (λ j. j.class) ts (hidden class 1000))) (begins_more (judging_classes js) (listed_classes ts) class h.classes);
-  wide = wide_pushed ts class h.wide;
-  rest = λ t l. shown_pushed ts class 1000 t ∙ h.rest t l;
-}
 
 begins_set : (xs ys : List Class) (c : Class) → Begins xs ys → length xs < length ys → Begins (xs ++ c ∷ []) (set ys (length xs) c)
 begins_set [] [] c h l = absurd (omega arith)
@@ -338,13 +322,24 @@ pub record IsEntered (class : Class) (asked : Bool) (j tests : ℕ) (old new : L
   pub widths : widths new ≡ widths old
 
 pub entered_listed : (rule : RuleValue) (js : List Judging) (ls : List Lease) (old new : List JudgingTasks) (class : Class) (mode : Mode) (asked : Bool) (j tests : ℕ) → IsListed rule js ls old
-    → length js + 1 ≡ j → j ≤ length old → IsEntered class asked j tests old new → IsListed rule (js ++ empty_judging class tests mode asked ∷ []) ls new
-entered_listed rule js ls old new class mode asked j tests h here room e = record {
+    → length js + 1 ≡ j → j ≤ length old → tests ≤ tests_listed old j → IsEntered class asked j tests old new → IsListed rule (js ++ empty_judging class tests mode asked ∷ []) ls new
+entered_listed rule js ls old new class mode asked j tests h here known room e = record {
   shown = shown;
   classes = subst (λ (cs : List Class). Begins cs (listed_classes new)) (sym pushed) (subst (λ (cs : List Class). Begins (judging_classes js ++ class ∷ []) cs) (sym e.classes)
       (subst (λ (n : ℕ). Begins (judging_classes js ++ class ∷ []) (set (listed_classes old) n class)) place
-      (begins_set (judging_classes js) (listed_classes old) class h.classes (omega (arith, length-map js (λ x. x.class), length-map old (λ x. x.class), here, room)))));
-  wide = subst (λ (ns : List ℕ). All (λ n. n ≡ 1000) ns) (sym e.widths) h.wide;
+      (begins_set (judging_classes js) (listed_classes old) class h.classes (omega (arith, length-map js (λ x. x.class), length-map old (λ x. x.class), here, known)))));
+  wide = record {
+    each = λ n. elim (cases_eq n j) [
+      | inl same ↦
+          let row : tests_judged (js ++ empty_judging class tests mode asked ∷ []) n ≡ tests = judged_is (js ++ empty_judging class tests mode asked ∷ []) n tests
+          (ap (λ m. option_map row_length (item_of (js ++ empty_judging class tests mode asked ∷ []) m)) (same ∙ sym here) ∙ ap (option_map row_length) (pushed_last js (empty_judging class tests mode asked)) ∙ ap (λ (m : ℕ). Some m) (length-replicate tests None)) in
+          let there : tests_listed new n ≡ tests_listed old j = listed_same old new n e.widths ∙ ap (tests_listed old) same in
+          omega (arith, row, there, room)
+      | inr other ↦
+          let row : tests_judged (js ++ empty_judging class tests mode asked ∷ []) n ≡ tests_judged js n = ap (λ o. option_map_or row_length o 0) (pushed_other js (empty_judging class tests mode asked) n (λ u. other (u ∙ here))) in
+          omega (arith, row, listed_same old new n e.widths, h.wide.each n)
+    ];
+  };
   rest = λ t l.
       let more : length (judging_classes (js ++ empty_judging class tests mode asked ∷ [])) ≡ length (judging_classes js) + 1 = ap length pushed ∙ length_push (judging_classes js) class in
       let n = length-map js (λ (x : Judging). x.class) in
@@ -452,7 +447,7 @@ asked_row js j = at (item_of js j) refl where
 pub asked_listed : (rule : RuleValue) (js : List Judging) (ls : List Lease) (ts us : List JudgingTasks) (j tests : ℕ) → IsListed rule js ls ts → j ≤ length js
     → option_map row_length (item_of js j) ≡ Some tests → AreTestsShown j tests ts us → IsListed rule (with_asked js j) ls us
 asked_listed rule js ls ts us j tests h known rows a =
-    relisted rule js (with_asked js j) ls ls ts us h (kept_seen (λ x. x.class) js j mark_asked (λ x. refl)) a.classes a.widths shown rest where
+    relisted rule js (with_asked js j) ls ls ts us h (kept_seen (λ x. x.class) js j mark_asked (λ x. refl)) (kept_seen row_length js j mark_asked (λ x. refl)) a.classes a.widths shown rest where
       shown : (t : Task) → is_open rule (with_asked js j) ls t ≡ true → is_shown us t ≡ true
       shown t e = elim (cases_eq t.judging j) [
         | inl same ↦ let w = asked_within rule js ls j tests t rows same e in ap (λ n. is_shown us (task_of n t.test)) same ∙ a.shown t.test w.0 w.1
@@ -464,29 +459,11 @@ asked_listed rule js ls ts us j tests h known rows a =
       rest : (t : Task) → length (judging_classes js) < t.judging → is_shown us t ≡ false
       rest t l = a.others t (omega (arith, l, known, length-map js (λ (x : Judging). x.class))) ∙ h.rest t l
 
--- a task of a judging that is there
-pub room_for : (n test tests : ℕ) (old new : List JudgingTasks) → widths new ≡ widths old → AreWide old → 1 ≤ n → n ≤ length old → 1 ≤ test → test ≤ tests → tests ≤ 1000 → HasTask new (task_of n test)
-room_for n test tests old new e wide low high some most few =
-    has_wide new (task_of n test) (subst (λ (ns : List ℕ). All (λ m. m ≡ 1000) ns) (sym e) wide) low (omega (arith, high, same_size old new e)) some (omega (arith, most, few))
+-- a task of a judging that there is room for
+pub room_for : (n test tests : ℕ) (old new : List JudgingTasks) → widths new ≡ widths old → tests ≤ tests_listed old n → 1 ≤ test → test ≤ tests → HasTask new (task_of n test)
+room_for n test tests old new e room some most = record { low = some; high = omega (arith, most, room, listed_same old new n e) }
 
 -- ---- in a judge
 
-get_short : (js : List KeptJudging) (i : ℕ) (judging : Judging) → AreWellKept js → slice_get (judging_values js) i ≡ Some judging → length judging.row ≤ 1000
-get_short [] i judging h e = cc
-get_short (kept ∷ js) zero judging h e =
-    let same : judging_value kept ≡ judging = cc in
-    subst (λ (j : Judging). length j.row ≤ 1000) same (All-head IsWellKept kept js h).cells
-get_short (kept ∷ js) (suc i) judging h e = get_short js i judging (All-tail IsWellKept kept js h) e
-
-pub short_rows : (js : List KeptJudging) → AreWellKept js → AreShort (judging_values js)
-short_rows js h = record { each = λ n judging e. get_short js (n - 1) judging h (item_at (judging_values js) n judging e).1 }
-
 pub count_is : (js : List KeptJudging) → length (judging_values js) ≡ length js
 count_is js = length-map js judging_value
-
--- room that is there stays, where judgings and what is made ahead are not more, and the list is not shorter
-pub ahead_kept : (m n t u : ℕ) → ((k : ℕ) → k ≤ m → k ≤ 400000 → k ≤ t) → n ≤ m → t ≤ u → (k : ℕ) → k ≤ n → k ≤ 400000 → k ≤ u
-ahead_kept m n t u h less more k l few = let a = h k (omega (arith, l, less)) few in omega (arith, a, more)
-
-pub cell_in_room : (js : List KeptJudging) (ts : List JudgingTasks) (j test : ℕ) → AreWellKept js → AreWide ts → length js ≤ length ts → cell_of (judging_values js) j test ≡ Some None → HasTask ts (task_of j test)
-cell_in_room js ts j test rows wide room empty = cell_room (judging_values js) ts j test (short_rows js rows) wide (omega (arith, room, count_is js)) empty

@@ -1,19 +1,19 @@
--- Listed tasks that are shown or hidden, and judgings that are added to the list.
-use Rattle.std.proofs.Common.{ℕ, zero, suc, ◌≡◌, ◌≢◌, ◌+◌, ◌-◌, ◌<◌, ◌≤◌, List, [], ◌∷◌, ◌++◌, Option, Some, None, Bool, true, false, ltb, refl, sym, ap, subst, ◌∙◌, arith, inl, inr, length, set, slice_get, unwrap_or, length-set}
+-- Listed tasks that are shown or hidden, and judgings that are added to the list or get room for more tests.
+use Rattle.std.proofs.Common.{ℕ, zero, suc, ◌≡◌, ◌≢◌, ◌+◌, ◌-◌, ◌<◌, ◌≤◌, List, [], ◌∷◌, ◌++◌, Option, Some, None, Bool, true, false, ltb, refl, sym, ap, subst, ◌∙◌, arith, inl, inr, length, map, set, slice_get, unwrap_or, length-set}
 use Rattle.std.specs.Prelude.{replicate}
-use Rattle.std.specs.Option.{option_map_or}
-use Rattle.std.specs.List.{All}
+use Rattle.std.specs.Option.{option_map, option_map_or}
 use Rattle.std.proofs.lemmas.Bool.{cases_eq}
 use Rattle.std.proofs.lemmas.Bool.Decides.{nat_tests}
-use Rattle.std.proofs.lemmas.List.{map_push, length-replicate, length-map}
-use Rattle.std.proofs.lemmas.List.Elements.{All-head, All-tail, All-push}
+use Rattle.std.proofs.lemmas.List.{length-append, length-replicate, length-map}
 use Rattle.farm_kinds.specs.declared.outcomes.Class.{Class}
 use Rattle.farm_kinds.specs.declared.outcomes.Task.{Task}
 use Rattle.farm_model.specs.Numbered.{item_of, with_item}
 use Rattle.farm_model.specs.Leases.{same_task}
-use Rattle.task_tree.specs.Shown.{JudgingTasks, hidden, tests_listed, is_shown, with_shown, with_class, HasTask}
-use Rattle.judging_core.specs.Listed.{listed_classes, widths, IsWide, AreWide}
-use Rattle.judging_core.proofs.Items.{item_at, item_by, with_same, with_other, change_same, change_other, kept_seen, pushed_other, pushed_last, none_past}
+use Rattle.farm_model.specs.Judgings.{Judging}
+use Rattle.task_tree.specs.Shown.{JudgingTasks, hidden, tests_listed, is_shown, with_shown, with_class, with_room, widened, HasTask}
+use Rattle.judging_core.specs.Listed.{listed_classes, widths, tests_judged}
+use Rattle.judging_core.specs.JudgeShape.{row_length}
+use Rattle.judging_core.proofs.Items.{item_seen, item_at, item_by, with_same, with_other, change_same, change_other, kept_seen, pushed_other, pushed_last, none_past, item_some}
 
 -- another task of the same judging is of another test
 pub apart : (a b : Task) → same_task a b ≡ false → a.judging ≡ b.judging → a.test ≢ b.test
@@ -59,31 +59,42 @@ classes_shown tasks task b = kept_seen (λ j. j.class) tasks task.judging (λ j.
 pub widths_shown : (tasks : List JudgingTasks) (task : Task) (b : Bool) → widths (with_shown tasks task b) ≡ widths tasks
 widths_shown tasks task b = kept_seen (λ j. length j.shown) tasks task.judging (λ j. record j { shown = with_item j.shown task.test b }) (λ j. length-set j.shown (task.test - 1) b)
 
-pub size_of : (tasks : List JudgingTasks) → length (widths tasks) ≡ length tasks
+size_of : (tasks : List JudgingTasks) → length (widths tasks) ≡ length tasks
 size_of tasks = length-map tasks (λ j. length j.shown)
 
 pub same_size : (old new : List JudgingTasks) → widths new ≡ widths old → length new ≡ length old
 same_size old new e = omega (arith, size_of new, size_of old, ap length e)
 
-pub size_shown : (tasks : List JudgingTasks) (task : Task) (b : Bool) → length (with_shown tasks task b) ≡ length tasks
-size_shown tasks task b = sym (size_of (with_shown tasks task b)) ∙ ap length (widths_shown tasks task b) ∙ size_of tasks
+-- ---- how many tests a judging has, and has room for
 
--- ---- the width of a judging
+abbrev width_in : Option JudgingTasks → ℕ
+width_in o = option_map_or (λ (j : JudgingTasks). length j.shown) o 0
 
-wide_at : (tasks : List JudgingTasks) (i : ℕ) → AreWide tasks → i < length tasks → option_map_or (λ (j : JudgingTasks). length j.shown) (slice_get tasks i) 0 ≡ 1000
-wide_at [] i h l = absurd (omega arith)
-wide_at (j ∷ tasks) zero h l = All-head IsWide (length j.shown) (widths tasks) h
-wide_at (j ∷ tasks) (suc i) h l = wide_at tasks i (All-tail IsWide (length j.shown) (widths tasks) h) (omega arith)
+abbrev tests_in : Option Judging → ℕ
+tests_in o = option_map_or row_length o 0
 
-pub tests_wide : (tasks : List JudgingTasks) (n : ℕ) → AreWide tasks → 1 ≤ n → n ≤ length tasks → tests_listed tasks n ≡ 1000
-tests_wide tasks zero h low high = absurd (omega arith)
-tests_wide tasks (suc n) h low high =
-    let yes : ltb 0 (suc n) ≡ true = grind (arith, nat_tests) in
-    let place : suc n - 1 ≡ n = omega arith in
-    rw (yes, place) (wide_at tasks n h (omega arith))
+by_width : (o : Option JudgingTasks) → width_in o ≡ unwrap_or (option_map (λ (j : JudgingTasks). length j.shown) o) 0
+by_width None = refl
+by_width (Some j) = refl
 
-pub has_wide : (tasks : List JudgingTasks) (task : Task) → AreWide tasks → 1 ≤ task.judging → task.judging ≤ length tasks → 1 ≤ task.test → task.test ≤ 1000 → HasTask tasks task
-has_wide tasks task h low high some few = record { low = some; high = omega (arith, tests_wide tasks task.judging h low high, few) }
+by_tests : (o : Option Judging) → tests_in o ≡ unwrap_or (option_map row_length o) 0
+by_tests None = refl
+by_tests (Some j) = refl
+
+listed_by : (tasks : List JudgingTasks) (n : ℕ) → tests_listed tasks n ≡ unwrap_or (item_of (widths tasks) n) 0
+listed_by tasks n = by_width (item_of tasks n) ∙ ap (λ (o : Option ℕ). unwrap_or o 0) (sym (item_seen (λ j. length j.shown) tasks n))
+
+judged_by : (js : List Judging) (n : ℕ) → tests_judged js n ≡ unwrap_or (item_of (map row_length js) n) 0
+judged_by js n = by_tests (item_of js n) ∙ ap (λ (o : Option ℕ). unwrap_or o 0) (sym (item_seen row_length js n))
+
+pub listed_same : (old new : List JudgingTasks) (n : ℕ) → widths new ≡ widths old → tests_listed new n ≡ tests_listed old n
+listed_same old new n e = listed_by new n ∙ ap (λ (ws : List ℕ). unwrap_or (item_of ws n) 0) e ∙ sym (listed_by old n)
+
+pub judged_same : (js ks : List Judging) (n : ℕ) → map row_length ks ≡ map row_length js → tests_judged ks n ≡ tests_judged js n
+judged_same js ks n e = judged_by ks n ∙ ap (λ (ws : List ℕ). unwrap_or (item_of ws n) 0) e ∙ sym (judged_by js n)
+
+pub judged_is : (js : List Judging) (n tests : ℕ) → option_map row_length (item_of js n) ≡ Some tests → tests_judged js n ≡ tests
+judged_is js n tests e = by_tests (item_of js n) ∙ ap (λ (o : Option ℕ). unwrap_or o 0) e
 
 -- ---- a judging with no shown task is added, or changes its class
 
@@ -115,9 +126,15 @@ shown_pushed tasks class tests task = elim (cases_eq task.judging (length tasks 
       ∙ sym (past_hidden tasks task (omega (arith, same)))
 ]
 
-pub wide_pushed : (tasks : List JudgingTasks) (class : Class) → AreWide tasks → AreWide (tasks ++ hidden class 1000 ∷ [])
-wide_pushed tasks class h =
-    subst (All IsWide) (sym (map_push (λ j. length j.shown) tasks (hidden class 1000))) (All-push IsWide (widths tasks) (length (replicate 1000 false)) h (length-replicate 1000 false))
+pub listed_pushed : (tasks : List JudgingTasks) (class : Class) (tests n : ℕ) → n ≢ length tasks + 1 → tests_listed (tasks ++ hidden class tests ∷ []) n ≡ tests_listed tasks n
+listed_pushed tasks class tests n other = ap width_in (pushed_other tasks (hidden class tests) n other)
+
+pub listed_last : (tasks : List JudgingTasks) (class : Class) (tests : ℕ) → tests_listed (tasks ++ hidden class tests ∷ []) (length tasks + 1) ≡ tests
+listed_last tasks class tests = ap width_in (pushed_last tasks (hidden class tests)) ∙ length-replicate tests false
+
+-- a judging that is not there has room for no test
+pub listed_past : (tasks : List JudgingTasks) (n : ℕ) → length tasks < n → tests_listed tasks n ≡ 0
+listed_past tasks n l = ap width_in (none_past tasks n l)
 
 pub shown_classed : (tasks : List JudgingTasks) (n : ℕ) (class : Class) (task : Task) → is_shown (with_class tasks n class) task ≡ is_shown tasks task
 shown_classed tasks n class task = elim (cases_eq n task.judging) [
@@ -132,6 +149,60 @@ shown_classed tasks n class task = elim (cases_eq n task.judging) [
 
 pub widths_classed : (tasks : List JudgingTasks) (n : ℕ) (class : Class) → widths (with_class tasks n class) ≡ widths tasks
 widths_classed tasks n class = kept_seen (λ j. length j.shown) tasks n (λ j. record j { class = class }) (λ j. refl)
+
+-- ---- a judging gets room for more tests
+
+more_get : (bits : List Bool) (k i : ℕ) → unwrap_or (slice_get (bits ++ replicate k false) i) false ≡ unwrap_or (slice_get bits i) false
+more_get [] k i = none_shown k i
+more_get (x ∷ bits) k zero = refl
+more_get (x ∷ bits) k (suc i) = more_get bits k i
+
+more_tests : (bits : List Bool) (k test : ℕ) → unwrap_or (item_of (bits ++ replicate k false) test) false ≡ unwrap_or (item_of bits test) false
+more_tests bits k zero = refl
+more_tests bits k (suc test) =
+    let yes : ltb 0 (suc test) ≡ true = grind (arith, nat_tests) in
+    rw yes (more_get bits k (suc test - 1))
+
+pub shown_widened : (tasks : List JudgingTasks) (n tests : ℕ) (task : Task) → is_shown (with_room tasks n tests) task ≡ is_shown tasks task
+shown_widened tasks n tests task = elim (cases_eq n task.judging) [
+  | inr other ↦ ap (λ o. shown_by o task.test) (change_other tasks n task.judging _ other)
+  | inl same ↦ here (item_of tasks n) refl same
+] where
+  here : (o : Option JudgingTasks) → item_of tasks n ≡ o → n ≡ task.judging → is_shown (with_room tasks n tests) task ≡ is_shown tasks task
+  here None e same = rw e refl
+  here (Some j) e same =
+      ap (λ o. shown_by o task.test) (ap (item_of (with_room tasks n tests)) (sym same) ∙ change_same tasks n _ j e)
+      ∙ more_tests j.shown (tests - length j.shown) task.test
+      ∙ sym (ap (λ o. shown_by o task.test) (ap (item_of tasks) (sym same) ∙ e))
+
+pub classes_widened : (tasks : List JudgingTasks) (n tests : ℕ) → listed_classes (with_room tasks n tests) ≡ listed_classes tasks
+classes_widened tasks n tests = kept_seen (λ j. j.class) tasks n (widened tests) (λ j. refl)
+
+pub size_widened : (tasks : List JudgingTasks) (n tests : ℕ) → length (with_room tasks n tests) ≡ length tasks
+size_widened tasks n tests = sym (length-map (with_room tasks n tests) (λ j. j.class)) ∙ ap length (classes_widened tasks n tests) ∙ length-map tasks (λ j. j.class)
+
+width_is : (j : JudgingTasks) (tests : ℕ) → length (widened tests j).shown ≡ length j.shown + (tests - length j.shown)
+width_is j tests = length-append j.shown (replicate (tests - length j.shown) false) ∙ ap (λ (k : ℕ). length j.shown + k) (length-replicate (tests - length j.shown) false)
+
+pub listed_widened : (tasks : List JudgingTasks) (n tests m : ℕ) → tests_listed tasks m ≤ tests_listed (with_room tasks n tests) m
+listed_widened tasks n tests m = elim (cases_eq n m) [
+  | inr other ↦ let same : tests_listed (with_room tasks n tests) m ≡ tests_listed tasks m = ap width_in (change_other tasks n m _ other) in omega (arith, same)
+  | inl same ↦ subst (λ (k : ℕ). tests_listed tasks k ≤ tests_listed (with_room tasks n tests) k) same (here (item_of tasks n) refl)
+] where
+  here : (o : Option JudgingTasks) → item_of tasks n ≡ o → tests_listed tasks n ≤ tests_listed (with_room tasks n tests) n
+  here None e = let old : tests_listed tasks n ≡ 0 = ap width_in e in omega (arith, old)
+  here (Some j) e =
+      let old : tests_listed tasks n ≡ length j.shown = ap width_in e in
+      let new : tests_listed (with_room tasks n tests) n ≡ length j.shown + (tests - length j.shown) = ap width_in (change_same tasks n _ j e) ∙ width_is j tests in
+      omega (arith, old, new)
+
+pub room_widened : (tasks : List JudgingTasks) (n tests : ℕ) → 1 ≤ n → n ≤ length tasks → tests ≤ tests_listed (with_room tasks n tests) n
+room_widened tasks n tests low high = here (item_of tasks n) refl where
+  here : (o : Option JudgingTasks) → item_of tasks n ≡ o → tests ≤ tests_listed (with_room tasks n tests) n
+  here None e = absurd (item_some tasks n low high e)
+  here (Some j) e =
+      let new : tests_listed (with_room tasks n tests) n ≡ length j.shown + (tests - length j.shown) = ap width_in (change_same tasks n _ j e) ∙ width_is j tests in
+      omega (arith, new)
 
 -- ---- how many tasks are shown
 

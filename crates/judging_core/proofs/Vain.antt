@@ -128,4 +128,4 @@ open_before rule js j ls t e = at (item_of js j) refl where
       sym (ap (λ o. is_open_in rule t.test (item_of js t.judging) && is_free (without_vain_in rule j ls o) t) i ∙ ap (λ b. is_open_in rule t.test (item_of js t.judging) && b) stays) ∙ e
 
 pub vain_listed : (rule : RuleValue) (js : List Judging) (j : ℕ) (ls : List Lease) (ts : List JudgingTasks) → IsListed rule js ls ts → IsListed rule js (without_vain rule js j ls) ts
-vain_listed rule js j ls ts h = fewer_open rule js js ls (without_vain rule js j ls) ts h refl (open_before rule js j ls)
+vain_listed rule js j ls ts h = fewer_open rule js js ls (without_vain rule js j ls) ts h refl refl (open_before rule js j ls)

@@ -1,12 +1,12 @@
 -- How a judge lies in memory.
-use Rattle.std.specs.Prelude.{◌≡◌, ℕ, ◌≤◌, ◌<◌, ◌+◌, ◌^◌, length, vec_len, vec_capacity}
+use Rattle.std.specs.Prelude.{◌≡◌, ◌≤◌, ◌<◌, ◌+◌, ◌^◌, length, vec_len, vec_capacity}
 use Rattle.farm_model.specs.Limits.{max_hosts, max_judgings}
 use Rattle.farm_model.specs.Judge.{JudgeState}
 use Rattle.lease_book.specs.Book.{room}
 use Rattle.judging_core.specs.JudgeValue.{JudgeValue}
 use Rattle.judging_core.specs.JudgeShape.{judging_values, answers_by, AreWellKept, AreRuledBy, cells_in, reserved_of, ArePrepared}
 use Rattle.judging_core.specs.Holding.{IsHeldWell, AreOnEmptyCells, most_held}
-use Rattle.judging_core.specs.Listed.{IsListed}
+use Rattle.judging_core.specs.Listed.{IsListed, HasRoom}
 use Rattle.judging_core.specs.declared.judge.Judge.TheInside.{Inside}
 
 abbrev pub judge_state : Inside → JudgeState
@@ -47,5 +47,5 @@ pub record IsJudgeLayout (a : Inside) : Type 0 where
   pub spare_answers : vec_len a.answers + vec_len a.prepared ≤ vec_capacity a.answers
   -- each open task is listed
   pub listed : IsListed a.rule (judging_values a.judgings.items) a.leases.leases a.tasks
-  -- the list has room for all that is made ahead, as far as there can be judgings
-  pub ahead : (k : ℕ) → k ≤ length a.judgings.items + length a.prepared.items → k ≤ max_judgings → k ≤ length a.tasks
+  -- the list has room for the tests of all that is made ahead, as far as there can be judgings
+  pub ahead : HasRoom (length a.judgings.items) (reserved_of a.prepared.items) a.tasks

@@ -1,15 +1,16 @@
 -- Which tasks a judge lists for claims: at least each open one.
-use Rattle.std.specs.Prelude.{◌≡◌, ◌≢◌, ℕ, ◌<◌, ◌≤◌, List, [], ◌∷◌, map, length, All, Option, Some, None, Bool, true, false, ◌&&◌}
+use Rattle.std.specs.Prelude.{◌≡◌, ◌≢◌, ℕ, ◌+◌, ◌<◌, ◌≤◌, List, [], ◌∷◌, map, length, get_or, Option, Some, None, Bool, true, false, ◌&&◌}
+use Rattle.std.specs.Option.{option_map_or}
 use Rattle.farm_kinds.specs.declared.kinds.Kind.{Kind}
 use Rattle.farm_kinds.specs.declared.outcomes.Class.{Class}
 use Rattle.farm_kinds.specs.declared.outcomes.Task.{Task}
 use Rattle.farm_kinds.specs.RuleValue.{RuleValue}
-use Rattle.farm_model.specs.Limits.{max_tests}
+use Rattle.farm_model.specs.Limits.{max_judgings}
 use Rattle.farm_model.specs.declared.records.Lease.{Lease}
 use Rattle.farm_model.specs.Numbered.{item_of}
 use Rattle.farm_model.specs.Judgings.{Judging, task_of}
 use Rattle.farm_model.specs.Open.{is_free, is_wanted, is_active}
-use Rattle.task_tree.specs.Shown.{JudgingTasks, is_shown}
+use Rattle.task_tree.specs.Shown.{JudgingTasks, tests_listed, is_shown}
 
 -- the cell is there, empty and wanted, in a judging that was asked for and takes results
 abbrev pub is_open_cell : RuleValue → Judging → ℕ → Option (Option Kind) → Bool
@@ -36,12 +37,13 @@ listed_classes tasks = map (λ judging. judging.class) tasks
 abbrev pub widths : List JudgingTasks → List ℕ
 widths tasks = map (λ judging. length judging.shown) tasks
 
-abbrev pub IsWide : ℕ → Type 0
-IsWide tests = tests ≡ max_tests
+-- how many tests the judging of this number has
+abbrev pub tests_judged : List Judging → ℕ → ℕ
+tests_judged judgings n = option_map_or (λ judging. length judging.row) (item_of judgings n) 0
 
--- each judging has room for the most tests that a judging can have
-abbrev pub AreWide : List JudgingTasks → Type 0
-AreWide tasks = All IsWide (widths tasks)
+-- each judging has room on the list for its tests
+pub record AreWide (judgings : List Judging) (tasks : List JudgingTasks) : Type 0 where
+  pub each : (n : ℕ) → tests_judged judgings n ≤ tests_listed tasks n
 
 -- the second list begins with the first
 abbrev pub Begins : List Class → List Class → Type 0
@@ -54,7 +56,7 @@ pub record IsListed (rule : RuleValue) (judgings : List Judging) (leases : List 
     (tasks : List JudgingTasks) : Type 0 where
   pub shown : (task : Task) → is_open rule judgings leases task ≡ true → is_shown tasks task ≡ true
   pub classes : Begins (judging_classes judgings) (listed_classes tasks)
-  pub wide : AreWide tasks
+  pub wide : AreWide judgings tasks
   pub rest : (task : Task) → length (judging_classes judgings) < task.judging → is_shown tasks task ≡ false
 
 -- the first tests of a judging are listed; what else is listed, the classes and the room are as they were
@@ -64,6 +66,15 @@ pub record AreTestsShown (judging tests : ℕ) (old new : List JudgingTasks) : T
   pub classes : listed_classes new ≡ listed_classes old
   pub widths : widths new ≡ widths old
 
--- no row has more cells than a judging can have tests
-pub record AreShort (judgings : List Judging) : Type 0 where
-  pub each : (n : ℕ) (judging : Judging) → item_of judgings n ≡ Some judging → length judging.row ≤ max_tests
+-- behind so many judgings the list has room for judgings of these numbers of tests, the next one first, as far as
+-- there can be judgings
+pub record HasRoom (count : ℕ) (tests : List ℕ) (tasks : List JudgingTasks) : Type 0 where
+  pub known : (k : ℕ) → k ≤ count + length tests → k ≤ max_judgings → k ≤ length tasks
+  pub wide : (i : ℕ) → count + i + 1 ≤ max_judgings → get_or tests i 0 ≤ tests_listed tasks (count + i + 1)
+
+-- the list has the room that it had, and may have more; the tasks that are listed and the classes are as they were
+pub record IsWider (old new : List JudgingTasks) : Type 0 where
+  pub count : length old ≤ length new
+  pub wide : (n : ℕ) → tests_listed old n ≤ tests_listed new n
+  pub shown : (task : Task) → is_shown new task ≡ is_shown old task
+  pub classes : (classes : List Class) → Begins classes (listed_classes old) → Begins classes (listed_classes new)

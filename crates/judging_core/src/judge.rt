@@ -14,7 +14,8 @@ use crate::judgings::{
     mark_dropped, mark_handed, result_refusal, test_count,
 };
 use crate::listing::{
-    end_counted, end_due, end_host, list_judging, make_room, show_tests, unlist_judging,
+    end_counted, end_due, end_host, list_judging, make_room, make_room_ahead, show_tests,
+    unlist_judging,
 };
 use crate::open::first_open;
 use crate::prepared::{is_next, prepared_judgings, take_prepared};
@@ -104,7 +105,7 @@ impl Judge {
         let prepared = prepared_judgings(self.alloc, self.rule, tests.as_slice())?;
         self.judgings.reserve(prepared.len()).map_err(|_| NoMemory)?;
         make_answer_room(&mut self.answers, prepared.len())?;
-        make_room(&mut self.tasks, self.judgings.len() + prepared.len())?;
+        make_room_ahead(&mut self.tasks, self.judgings.len(), tests.as_slice())?;
         let all = tests_with(self.cells, &prepared);
         make_lease_room(&mut self.leases, self.hosts, all)?;
         self.prepared = prepared;
@@ -133,7 +134,7 @@ impl Judge {
         }
         let judging = empty_judging(self.alloc, self.rule, class, tests, mode, asked)?;
         let number = self.judgings.len() + 1;
-        make_room(&mut self.tasks, number)?;
+        make_room(&mut self.tasks, number as u32, tests)?;
         let cells = self.cells + u32::from(tests);
         make_lease_room(&mut self.leases, self.hosts, cells)?;
         make_answer_room(&mut self.answers, 1)?;
@@ -433,7 +434,7 @@ impl Judge {
     {
         mark_dropped(&mut self.judgings, judging);
         self.leases.end_judging(judging);
-        let tests = self.judgings[judging as usize - 1].handed.len();
+        let tests = test_count(&self.judgings, judging);
         unlist_judging(&mut self.tasks, judging, tests);
     }
 

@@ -3,7 +3,7 @@ ghost use Rattle.std.specs.Prelude.{◌≡◌, ◌≤◌, ◌-◌, length, slice
 ghost use Rattle.farm_kinds.specs.RuleValue.{RuleValue};
 ghost use Rattle.farm_model.specs.Open.{is_wanted, open_tasks};
 ghost use Rattle.task_tree.specs.Shown.{HasTask, first_shown, is_shown};
-ghost use Rattle.judging_core.specs.Listed.{is_open, IsListed};
+ghost use Rattle.judging_core.specs.Listed.{is_open, widths, IsListed};
 ghost use Rattle.judging_core.specs.JudgeShape.{judging_values, IsWellKept, AreWellKept, AreRuledBy};
 
 use crate::judgings::{KeptJudging, cell_at, judging_at};
@@ -29,7 +29,7 @@ pub fn first_open(
     ensures listed { (rule : RuleValue) → AreRuledBy rule judgings.now
         → IsListed rule (judging_values judgings.now) leases.now.leases tasks.old
         → IsListed rule (judging_values judgings.now) leases.now.leases tasks.new }
-    ensures count { length tasks.new ≡ length tasks.old }
+    ensures widths { widths tasks.new ≡ widths tasks.old }
     ensures open_ { (rule : RuleValue) → AreRuledBy rule judgings.now
         → IfSome result (λ task. is_open rule (judging_values judgings.now) leases.now.leases task ≡ true) }
 {

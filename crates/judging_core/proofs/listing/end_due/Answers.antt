@@ -1,4 +1,4 @@
-use Rattle.std.proofs.Common.{◌≡◌, ◌≤◌, ◌∙◌, List, sym, ap, subst, arith, length}
+use Rattle.std.proofs.Common.{◌≡◌, ◌∙◌, List, sym, ap, subst, arith, length}
 use Rattle.std.proofs.lemmas.List.Sums.{length-filter}
 use Rattle.farm_model.specs.declared.records.Lease.{Lease}
 use Rattle.farm_model.specs.Leases.{has_ended, left_after}
@@ -10,12 +10,11 @@ pub loop-lease-preserved : goal.loop-lease-preserved
 loop-lease-preserved c = record {
   left = c.in-Some.ensures.one.left ∙ c.loop-lease.invariant.left;
   room = c.in-Some.ensures.room ∙ c.loop-lease.invariant.room;
-  listed = λ rule all count room short h.
-      let before = c.loop-lease.invariant.listed rule all count room short h in
-      let fits : c.args.judgings ≤ length c.loop-lease.tasks = let same = c.loop-lease.invariant.judgings in omega (arith, room, same) in
+  listed = λ rule all count h.
+      let before = c.loop-lease.invariant.listed rule all count h in
       subst (λ (leases : List Lease). IsListed rule all leases c.list_again.new.tasks) (sym c.in-Some.ensures.leases)
-      (c.list_again.ensures.listed rule all c.loop-lease.leases.leases count fits short before);
-  judgings = c.list_again.ensures.count ∙ c.loop-lease.invariant.judgings;
+      (c.list_again.ensures.listed rule all c.loop-lease.leases.leases count before);
+  widths = c.list_again.ensures.widths ∙ c.loop-lease.invariant.widths;
 }
 
 left_in : (c : goal.After-len) → c.due.new.self.leases ≡ left_after c.args.leases.now.leases c.args.now
@@ -32,5 +31,5 @@ returns-clause-count c =
     omega (arith, length_kept (has_ended c.args.now) at, length-filter (has_ended c.args.now) at, ap (λ (xs : List Lease). length xs) (left_in c))
 
 pub returns-clause-listed : goal.returns-clause-listed
-returns-clause-listed c = λ rule all count room short h.
-    subst (λ (leases : List Lease). IsListed rule all leases c.loop-lease.tasks) (sym c.in_default.ensures.leases) (c.loop-lease.invariant.listed rule all count room short h)
+returns-clause-listed c = λ rule all count h.
+    subst (λ (leases : List Lease). IsListed rule all leases c.loop-lease.tasks) (sym c.in_default.ensures.leases) (c.loop-lease.invariant.listed rule all count h)

@@ -1,9 +1,9 @@
-use Rattle.std.proofs.Common.{◌≡◌, ◌≤◌, List, length}
+use Rattle.std.proofs.Common.{◌≡◌, List, length}
 use Rattle.farm_kinds.specs.RuleValue.{RuleValue}
 use Rattle.farm_model.specs.Judgings.{Judging}
 use Rattle.farm_model.specs.Leases.{left_after, ended_at}
 use Rattle.lease_book.specs.Book.{room}
-use Rattle.judging_core.specs.Listed.{IsListed, AreShort}
+use Rattle.judging_core.specs.Listed.{widths, IsListed}
 use Rattle.judging_core.proofs.listing.end_due.Given as goal
 
 abbrev pub invariant-loop-lease : goal.invariant-loop-lease
@@ -11,9 +11,9 @@ invariant-loop-lease l = record {
   left : left_after l.leases.leases l.now ≡ left_after l.fn.leases.leases l.now;
   room : room l.leases ≡ room l.fn.leases;
   listed : (rule : RuleValue) (all : List Judging)
-      → length all ≡ l.judgings → l.judgings ≤ length l.fn.tasks → AreShort all → IsListed rule all l.fn.leases.leases l.fn.tasks
+      → length all ≡ l.judgings → IsListed rule all l.fn.leases.leases l.fn.tasks
       → IsListed rule all l.leases.leases l.tasks;
-  judgings : length l.tasks ≡ length l.fn.tasks;
+  widths : widths l.tasks ≡ widths l.fn.tasks;
 }
 
 abbrev pub decreases-loop-lease : goal.decreases-loop-lease

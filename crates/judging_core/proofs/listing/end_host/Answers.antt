@@ -1,4 +1,4 @@
-use Rattle.std.proofs.Common.{◌≡◌, ◌≤◌, ◌∙◌, List, sym, ap, subst, arith, length}
+use Rattle.std.proofs.Common.{◌≡◌, ◌∙◌, List, sym, ap, subst, arith}
 use Rattle.farm_model.specs.declared.records.Lease.{Lease}
 use Rattle.farm_model.specs.Leases.{holds, held_count, without_host}
 use Rattle.lease_book.proofs.Changed.{IsEmptied, emptied}
@@ -9,12 +9,11 @@ pub loop-task-preserved : goal.loop-task-preserved
 loop-task-preserved c = record {
   left = ap (λ (xs : List Lease). without_host xs c.args.host) c.end.ensures.leases ∙ c.in-Some.ensures.one.left ∙ c.loop-task.invariant.left;
   room = c.end.ensures.room ∙ c.loop-task.invariant.room;
-  listed = λ rule all count room short h.
-      let before = c.loop-task.invariant.listed rule all count room short h in
-      let fits : c.args.judgings ≤ length c.loop-task.tasks = let same = c.loop-task.invariant.judgings in omega (arith, room, same) in
+  listed = λ rule all count h.
+      let before = c.loop-task.invariant.listed rule all count h in
       subst (λ (leases : List Lease). IsListed rule all leases c.list_again.new.tasks) (sym c.end.ensures.leases)
-      (c.list_again.ensures.listed rule all c.loop-task.leases.leases count fits short before);
-  judgings = c.list_again.ensures.count ∙ c.loop-task.invariant.judgings;
+      (c.list_again.ensures.listed rule all c.loop-task.leases.leases count before);
+  widths = c.list_again.ensures.widths ∙ c.loop-task.invariant.widths;
 }
 
 ended : (c : goal.After-len) → IsEmptied (holds c.args.host) c.args.leases.now c.loop-task.leases

@@ -1,9 +1,9 @@
-use Rattle.std.proofs.Common.{◌≡◌, ◌≤◌, List, length}
+use Rattle.std.proofs.Common.{◌≡◌, List, length}
 use Rattle.farm_kinds.specs.RuleValue.{RuleValue}
 use Rattle.farm_model.specs.Judgings.{Judging}
 use Rattle.farm_model.specs.Leases.{without_host}
 use Rattle.lease_book.specs.Book.{room}
-use Rattle.judging_core.specs.Listed.{IsListed, AreShort}
+use Rattle.judging_core.specs.Listed.{widths, IsListed}
 use Rattle.judging_core.proofs.listing.end_host.Given as goal
 
 abbrev pub invariant-loop-task : goal.invariant-loop-task
@@ -11,9 +11,9 @@ invariant-loop-task l = record {
   left : without_host l.leases.leases l.host ≡ without_host l.fn.leases.leases l.host;
   room : room l.leases ≡ room l.fn.leases;
   listed : (rule : RuleValue) (all : List Judging)
-      → length all ≡ l.judgings → l.judgings ≤ length l.fn.tasks → AreShort all → IsListed rule all l.fn.leases.leases l.fn.tasks
+      → length all ≡ l.judgings → IsListed rule all l.fn.leases.leases l.fn.tasks
       → IsListed rule all l.leases.leases l.tasks;
-  judgings : length l.tasks ≡ length l.fn.tasks;
+  widths : widths l.tasks ≡ widths l.fn.tasks;
 }
 
 abbrev pub decreases-loop-task : goal.decreases-loop-task

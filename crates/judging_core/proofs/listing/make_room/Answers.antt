@@ -1,22 +1,21 @@
-use Rattle.std.proofs.Common.{◌≡◌, ◌+◌, ◌++◌, ◌∷◌, [], sym, ap, ◌∙◌, subst, arith, length, List}
-use Rattle.std.proofs.lemmas.List.{length_push}
+use Rattle.std.proofs.Common.{ℕ, ◌≡◌, ◌≤◌, ◌+◌, List, sym, subst, arith, length}
 use Rattle.farm_kinds.specs.declared.outcomes.Class.TheVariants.{Normal}
-use Rattle.task_tree.specs.Shown.{JudgingTasks, hidden}
-use Rattle.judging_core.specs.Listed.{IsListed}
-use Rattle.judging_core.proofs.Listed.{room_listed}
+use Rattle.task_tree.specs.Shown.{JudgingTasks, tests_listed}
+use Rattle.judging_core.specs.Listed.{IsWider}
+use Rattle.judging_core.proofs.Shown.{listed_last}
+use Rattle.judging_core.proofs.Wider.{pushed_wider, either_wider}
 use Rattle.judging_core.proofs.listing.make_room.Goals as goal
 
-pub loop-tasks-preserved : goal.loop-tasks-preserved
-loop-tasks-preserved c =
-    let at = c.loop-tasks.tasks in
-    let added : c.add.new.self ≡ at ++ hidden Normal 1000 ∷ [] = c.in_ok-add.ensures.added in
-    let more : length c.add.new.self ≡ length at + 1 = ap length added ∙ length_push at (hidden Normal 1000) in
-    record {
-      grows = omega (arith, more, c.loop-tasks.invariant.grows);
-      listed = λ rule judgings leases h.
-          subst (λ (tasks : List JudgingTasks). IsListed rule judgings leases tasks) (sym added) (room_listed rule judgings leases at Normal (c.loop-tasks.invariant.listed rule judgings leases h));
-    }
+pub returns-then-judging-judging_count-clause-wider : goal.returns-then-judging-judging_count-clause-wider
+returns-then-judging-judging_count-clause-wider c =
+    either_wider c.widen.result c.args.tasks.now c.widen.new.self c.args.judging c.args.tests c.widen.ensures.widened c.widen.ensures.unchanged
 
-pub returns-in_err-add-clause-listed : goal.returns-in_err-add-clause-listed
-returns-in_err-add-clause-listed c = λ rule judgings leases h.
-    subst (λ (tasks : List JudgingTasks). IsListed rule judgings leases tasks) (sym c.in_err-add.ensures.unchanged) (c.loop-tasks.invariant.listed rule judgings leases h)
+pub returns-clause-wide : goal.returns-clause-wide
+returns-clause-wide c =
+    let at = c.args.tasks.now in
+    let last : c.args.judging ≡ length at + 1 = let over = c.if-judging-judging_count.false in let count = c.judging_count.ensures.count in omega (arith, over, count, c.requires.next) in
+    let room : tests_listed c.add.new.self (length at + 1) ≡ c.args.tests = rw c.in_ok-add.ensures.added (listed_last at Normal c.args.tests) in
+    subst (λ (n : ℕ). c.args.tests ≤ tests_listed c.add.new.self n) (sym last) (omega (arith, room))
+
+pub returns-clause-wider : goal.returns-clause-wider
+returns-clause-wider c = subst (λ (ts : List JudgingTasks). IsWider c.args.tasks.now ts) (sym c.in_ok-add.ensures.added) (pushed_wider c.args.tasks.now Normal c.args.tests)

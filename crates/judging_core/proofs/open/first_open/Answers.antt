@@ -1,7 +1,7 @@
 use Rattle.std.proofs.Common.{◌∙◌, sym}
 use Rattle.judging_core.specs.JudgeShape.{judging_values}
 use Rattle.judging_core.proofs.OpenTasks.{first_is_open, none_is_open}
-use Rattle.judging_core.proofs.Shown.{hidden_less, size_shown}
+use Rattle.judging_core.proofs.Shown.{hidden_less, widths_shown}
 use Rattle.judging_core.proofs.Listed.{closed_hidden}
 use Rattle.judging_core.proofs.open.first_open.Goals as goal
 
@@ -18,7 +18,7 @@ loop-task-preserved c = record {
   listed = λ rule ruled listed. rw c.hide_task.ensures
       (closed_hidden rule (judging_values c.args.judgings.now) c.args.leases.now.leases c.loop-task.tasks c.in-Some.task
       (c.loop-task.invariant.listed rule ruled listed) c.in-Some.ensures.there (sym (c.is_open.ensures.open_ rule ruled) ∙ c.if-is_open.false));
-  count = rw c.hide_task.ensures (size_shown c.loop-task.tasks c.in-Some.task _ ∙ c.loop-task.invariant.count);
+  widths = rw c.hide_task.ensures (widths_shown c.loop-task.tasks c.in-Some.task _ ∙ c.loop-task.invariant.widths);
 }
 
 pub returns-clause-first : goal.returns-clause-first

@@ -8,13 +8,17 @@ use Rattle.farm_kinds.specs.RuleValue.{RuleValue}
 use Rattle.farm_model.specs.Rows.{answer_of}
 use Rattle.farm_model.specs.Judgings.{Judging, task_of, empty_judging}
 use Rattle.lease_book.specs.Book.{room}
+use Rattle.task_tree.specs.Shown.{is_shown}
+use Rattle.judging_core.specs.declared.judge.Judge.TheInside.{Inside}
 use Rattle.judging_core.specs.JudgeValue.{JudgeValue, with_judging, starts_with}
 use Rattle.judging_core.specs.JudgeLayout.{judge_value}
 use Rattle.judging_core.specs.declared.judgings.KeptJudging.{KeptJudging}
 use Rattle.judging_core.specs.JudgeShape.{judging_value, judging_values, answer_by, answers_by, IsWellKept, AreWellKept, IsRuledBy, AreRuledBy, cells_in, reserved_of}
 use Rattle.judging_core.specs.Holding.{IsHeldWell, AreOnEmptyCells, most_held}
-use Rattle.judging_core.specs.Listed.{IsListed}
-use Rattle.judging_core.proofs.Listed.{count_is, ahead_kept}
+use Rattle.judging_core.specs.Listed.{IsListed, HasRoom}
+use Rattle.judging_core.proofs.Listed.{count_is}
+use Rattle.judging_core.proofs.Shown.{same_size}
+use Rattle.judging_core.proofs.Wider.{wider_listed, wider_ahead, room_none}
 use Rattle.judging_core.proofs.MadeAhead.{none_left}
 use Rattle.judging_core.proofs.Cells.{added_cells}
 use Rattle.judging_core.proofs.CellCount.{cells_few, cells_pushed}
@@ -33,12 +37,30 @@ one_more n false xs x lt = omega arith
 small : (judgings : List KeptJudging) (judge : JudgeValue) → judging_values judgings ≡ judge.state.judgings → length judge.state.judgings < 400000 → length judgings < 400000
 small judgings judge e few = omega (arith, few, count_is judgings, ap length e)
 
+-- of a judging to come no task is listed
+hidden_next : (at : Inside) (n test : ℕ) → IsListed at.rule (judging_values at.judgings.items) at.leases.leases at.tasks → n ≡ length at.judgings.items → is_shown at.tasks (task_of (n + 1) test) ≡ false
+hidden_next at n test h e =
+    h.rest (task_of (n + 1) test) (omega (arith, e, count_is at.judgings.items, length-map (judging_values at.judgings.items) (λ (j : Judging). j.class)))
+
+pub make_room-requires-clause-next : goal.make_room-requires-clause-next
+make_room-requires-clause-next c =
+    let at = c.self.inside in
+    let n = c.len-number.ensures in
+    let there = c.self.invariant.ahead.known (length at.judgings.items) (omega arith) c.self.invariant.few in
+    omega (arith, n, at.judgings.ok, there)
+
+pub make_room-requires-clause-hidden : goal.make_room-requires-clause-hidden
+make_room-requires-clause-hidden c = λ test.
+    let at = c.self.inside in
+    let n = c.len-number.ensures in
+    hidden_next at c.len-number.result test c.self.invariant.listed (omega (arith, n, at.judgings.ok))
+
 pub invariant_of-self : goal.invariant_of-self
 invariant_of-self c =
     let at = c.self.inside in
-    let listed : IsListed at.rule (judging_values at.judgings.items) at.leases.leases c.make_room.new.tasks = c.make_room.ensures.listed at.rule (judging_values at.judgings.items) at.leases.leases c.self.invariant.listed in
-    let ahead : (k : ℕ) → k ≤ length at.judgings.items + length at.prepared.items → k ≤ 400000 → k ≤ length c.make_room.new.tasks =
-    ahead_kept (length at.judgings.items + length at.prepared.items) (length at.judgings.items + length at.prepared.items) (length at.tasks) (length c.make_room.new.tasks) c.self.invariant.ahead (omega arith) c.make_room.ensures.grows in
+    let listed : IsListed at.rule (judging_values at.judgings.items) at.leases.leases c.make_room.new.tasks = wider_listed at.rule (judging_values at.judgings.items) at.leases.leases at.tasks c.make_room.new.tasks c.make_room.ensures.wider c.self.invariant.listed in
+    let ahead : HasRoom (length at.judgings.items) (reserved_of at.prepared.items) c.make_room.new.tasks =
+    wider_ahead (length at.judgings.items) (reserved_of at.prepared.items) at.tasks c.make_room.new.tasks c.make_room.ensures.wider c.self.invariant.ahead in
     search rules
 
 pub invariant_of-self-in_err-make_lease_room : goal.invariant_of-self-in_err-make_lease_room
@@ -48,9 +70,9 @@ invariant_of-self-in_err-make_lease_room c =
     let same = c.make_lease_room.ensures.leases in
     let held : IsHeldWell at.hosts leases.leases = rw same c.self.invariant.held in
     let cells : AreOnEmptyCells (judging_values at.judgings.items) leases.leases = rw same c.self.invariant.cells in
-    let listed : IsListed at.rule (judging_values at.judgings.items) leases.leases c.make_room.new.tasks = rw same (c.make_room.ensures.listed at.rule (judging_values at.judgings.items) at.leases.leases c.self.invariant.listed) in
-    let ahead : (k : ℕ) → k ≤ length at.judgings.items + length at.prepared.items → k ≤ 400000 → k ≤ length c.make_room.new.tasks =
-    ahead_kept (length at.judgings.items + length at.prepared.items) (length at.judgings.items + length at.prepared.items) (length at.tasks) (length c.make_room.new.tasks) c.self.invariant.ahead (omega arith) c.make_room.ensures.grows in
+    let listed : IsListed at.rule (judging_values at.judgings.items) leases.leases c.make_room.new.tasks = rw same (wider_listed at.rule (judging_values at.judgings.items) at.leases.leases at.tasks c.make_room.new.tasks c.make_room.ensures.wider c.self.invariant.listed) in
+    let ahead : HasRoom (length at.judgings.items) (reserved_of at.prepared.items) c.make_room.new.tasks =
+    wider_ahead (length at.judgings.items) (reserved_of at.prepared.items) at.tasks c.make_room.new.tasks c.make_room.ensures.wider c.self.invariant.ahead in
     search rules
 
 pub invariant_of-self-in_err-make_answer_room : goal.invariant_of-self-in_err-make_answer_room
@@ -60,9 +82,9 @@ invariant_of-self-in_err-make_answer_room c =
     let same = c.make_lease_room.ensures.leases in
     let held : IsHeldWell at.hosts leases.leases = rw same c.self.invariant.held in
     let cells : AreOnEmptyCells (judging_values at.judgings.items) leases.leases = rw same c.self.invariant.cells in
-    let listed : IsListed at.rule (judging_values at.judgings.items) leases.leases c.make_room.new.tasks = rw same (c.make_room.ensures.listed at.rule (judging_values at.judgings.items) at.leases.leases c.self.invariant.listed) in
-    let ahead : (k : ℕ) → k ≤ length at.judgings.items + length at.prepared.items → k ≤ 400000 → k ≤ length c.make_room.new.tasks =
-    ahead_kept (length at.judgings.items + length at.prepared.items) (length at.judgings.items + length at.prepared.items) (length at.tasks) (length c.make_room.new.tasks) c.self.invariant.ahead (omega arith) c.make_room.ensures.grows in
+    let listed : IsListed at.rule (judging_values at.judgings.items) leases.leases c.make_room.new.tasks = rw same (wider_listed at.rule (judging_values at.judgings.items) at.leases.leases at.tasks c.make_room.new.tasks c.make_room.ensures.wider c.self.invariant.listed) in
+    let ahead : HasRoom (length at.judgings.items) (reserved_of at.prepared.items) c.make_room.new.tasks =
+    wider_ahead (length at.judgings.items) (reserved_of at.prepared.items) at.tasks c.make_room.new.tasks c.make_room.ensures.wider c.self.invariant.ahead in
     let answered : c.make_answer_room.new.answers.items ≡ answers_by at.rule (judging_values at.judgings.items) = c.make_answer_room.ensures.items ∙ c.self.invariant.answered in
     search rules
 
@@ -76,10 +98,10 @@ invariant_of-self-in_err-map_err c =
     let same : c.push.new.self.items ≡ at.judgings.items = c.push.ensures.items ∙ ap (λ (b : Bool). if b then at.judgings.items ++ c.in_ok-judging.judging ∷ [] else at.judgings.items) failed in
     let leases = c.make_lease_room.new.leases in
     let held : IsHeldWell at.hosts leases.leases = rw c.make_lease_room.ensures.leases c.self.invariant.held in
-    let listed : IsListed at.rule (judging_values c.push.new.self.items) leases.leases c.make_room.new.tasks = rw (same, c.make_lease_room.ensures.leases) (c.make_room.ensures.listed at.rule (judging_values at.judgings.items) at.leases.leases c.self.invariant.listed) in
+    let listed : IsListed at.rule (judging_values c.push.new.self.items) leases.leases c.make_room.new.tasks = rw (same, c.make_lease_room.ensures.leases) (wider_listed at.rule (judging_values at.judgings.items) at.leases.leases at.tasks c.make_room.new.tasks c.make_room.ensures.wider c.self.invariant.listed) in
     let size : length c.push.new.self.items ≡ length at.judgings.items = ap length same in
-    let ahead : (k : ℕ) → k ≤ length c.push.new.self.items + length at.prepared.items → k ≤ 400000 → k ≤ length c.make_room.new.tasks =
-    ahead_kept (length at.judgings.items + length at.prepared.items) (length c.push.new.self.items + length at.prepared.items) (length at.tasks) (length c.make_room.new.tasks) c.self.invariant.ahead (omega (arith, size)) c.make_room.ensures.grows in
+    let ahead : HasRoom (length c.push.new.self.items) (reserved_of at.prepared.items) c.make_room.new.tasks =
+    rw size (wider_ahead (length at.judgings.items) (reserved_of at.prepared.items) at.tasks c.make_room.new.tasks c.make_room.ensures.wider c.self.invariant.ahead) in
     let rows : AreWellKept c.push.new.self.items = rw same c.self.invariant.rows in
     let ruled : AreRuledBy at.rule c.push.new.self.items = rw same c.self.invariant.ruled in
     let few : length c.push.new.self.items ≤ 400000 = omega (arith, size, c.self.invariant.few) in
@@ -89,23 +111,16 @@ invariant_of-self-in_err-map_err c =
     search rules
 
 pub list_judging-requires-clause-known : goal.list_judging-requires-clause-known
-list_judging-requires-clause-known c =
-    let at = c.self.inside in
-    let few = small at.judgings.items c.args.self.now (ap (λ (v : JudgeValue). v.state.judgings) c.self.view_is) c.requires.few in
-    let n = c.len-number.ensures in
-    c.in_ok-make_room.ensures.enough (c.len-number.result + 1) (omega arith) (omega (arith, n, few, at.judgings.ok))
+list_judging-requires-clause-known c = c.in_ok-make_room.ensures.known
 
 pub list_judging-requires-clause-wide : goal.list_judging-requires-clause-wide
-list_judging-requires-clause-wide c =
-    let at = c.self.inside in
-    (c.make_room.ensures.listed at.rule (judging_values at.judgings.items) at.leases.leases c.self.invariant.listed).wide
+list_judging-requires-clause-wide c = c.in_ok-make_room.ensures.wide
 
 pub list_judging-requires-clause-hidden : goal.list_judging-requires-clause-hidden
 list_judging-requires-clause-hidden c = λ test.
     let at = c.self.inside in
     let n = c.len-number.ensures in
-    (c.make_room.ensures.listed at.rule (judging_values at.judgings.items) at.leases.leases c.self.invariant.listed).rest (task_of (c.len-number.result + 1) test)
-    (omega (arith, n, at.judgings.ok, count_is at.judgings.items, length-map (judging_values at.judgings.items) (λ (j : Judging). j.class)))
+    c.make_room.ensures.wider.shown (task_of (c.len-number.result + 1) test) ∙ hidden_next at c.len-number.result test c.self.invariant.listed (omega (arith, n, at.judgings.ok))
 
 pub invariant_of-self-2 : goal.invariant_of-self-2
 invariant_of-self-2 c =
@@ -126,7 +141,7 @@ invariant_of-self-2 c =
     let same = c.make_lease_room.ensures.leases in
     let held : IsHeldWell inside.hosts leases.leases = rw same c.self.invariant.held in
     let listed : IsListed inside.rule (judging_values c.push.new.self.items) leases.leases c.list_judging.new.tasks =
-    rw (value, same) (c.list_judging.ensures.listed inside.rule c.args.mode (judging_values at) inside.leases.leases here (c.make_room.ensures.listed inside.rule (judging_values at) inside.leases.leases c.self.invariant.listed)) in
+    rw (value, same) (c.list_judging.ensures.listed inside.rule c.args.mode (judging_values at) inside.leases.leases here (wider_listed inside.rule (judging_values at) inside.leases.leases inside.tasks c.make_room.new.tasks c.make_room.ensures.wider c.self.invariant.listed)) in
     let cells : AreOnEmptyCells (judging_values c.push.new.self.items) leases.leases =
     rw (value, same) (added_cells (judging_values at) (empty_judging c.args.class c.args.tests c.args.mode c.args.asked) inside.leases.leases c.self.invariant.cells) in
     let counted : inside.cells + c.from.result ≡ cells_in c.push.new.self.items =
@@ -138,12 +153,10 @@ invariant_of-self-2 c =
     let answer : c.answer_of-answer.result ≡ answer_by inside.rule empty = c.answer_of-answer.ensures ∙ ap (λ (r : RuleValue). answer_of r judging.mode judging.row.cells) c.in_ok-judging.ensures.ruled ∙ ap (answer_by inside.rule) c.in_ok-judging.ensures.value in
     let answered : c.push_reserved.new.self.items ≡ answers_by inside.rule (judging_values c.push.new.self.items) =
     c.push_reserved.ensures.items ∙ answers_pushed inside.rule (judging_values at) (judging_values c.push.new.self.items) empty c.make_answer_room.new.answers.items c.answer_of-answer.result (c.make_answer_room.ensures.items ∙ c.self.invariant.answered) value answer in
-    let size = c.list_judging.ensures.count in
-    let more : length c.push.new.self.items ≡ length at + 1 = ap length pushed ∙ length_push at judging in
-    let none : length c.new.result.items ≡ 0 = ap length c.new.ensures.items in
-    let ahead : (k : ℕ) → k ≤ length c.push.new.self.items + length c.new.result.items → k ≤ 400000 → k ≤ length c.list_judging.new.tasks = λ k l under.
-    let e = c.in_ok-make_room.ensures.enough k (omega (arith, l, more, none, n, inside.judgings.ok)) under in
-    omega (arith, e, size) in
+    let more : length c.push.new.self.items ≡ c.len-number.result + 1 = let pushed_count = ap length pushed ∙ length_push at judging in omega (arith, pushed_count, n, inside.judgings.ok) in
+    let known : length c.push.new.self.items ≤ length c.list_judging.new.tasks = omega (arith, more, c.in_ok-make_room.ensures.known, same_size c.make_room.new.tasks c.list_judging.new.tasks c.list_judging.ensures.widths) in
+    let ahead : HasRoom (length c.push.new.self.items) (reserved_of c.new.result.items) c.list_judging.new.tasks =
+    rw c.new.ensures.items (room_none (length c.push.new.self.items) c.list_judging.new.tasks known) in
     search rules
 
 -- no room is left where another number of tests was reserved

@@ -1,16 +1,18 @@
-use Rattle.std.proofs.Common.{ℕ, ◌≡◌, ◌≤◌, ◌<◌, ◌+◌, ◌∙◌, rules, ap, arith, List, ◌++◌, ◌∷◌, [], Bool, true, false, if◌then◌else◌, length}
+use Rattle.std.proofs.Common.{ℕ, ◌≡◌, ◌≤◌, ◌<◌, ◌+◌, ◌∙◌, rules, ap, subst, arith, List, ◌++◌, ◌∷◌, [], Bool, true, false, if◌then◌else◌, length}
 use Rattle.std.proofs.lemmas.List.{length_push, length-map, map_push}
 use Rattle.std.proofs.lemmas.List.Elements.{All-push}
 use Rattle.farm_kinds.specs.RuleValue.{RuleValue}
 use Rattle.farm_model.specs.Rows.{answer_of}
 use Rattle.farm_model.specs.Judgings.{Judging, task_of, empty_judging}
 use Rattle.lease_book.specs.Book.{room}
+use Rattle.task_tree.specs.Shown.{tests_listed}
 use Rattle.judging_core.specs.JudgeValue.{JudgeValue}
-use Rattle.judging_core.specs.JudgeShape.{judging_value, judging_values, answer_by, answers_by, IsWellKept, AreWellKept, IsRuledBy, AreRuledBy, cells_in, ArePrepared}
+use Rattle.judging_core.specs.JudgeShape.{judging_value, judging_values, answer_by, answers_by, IsWellKept, AreWellKept, IsRuledBy, AreRuledBy, cells_in, ArePrepared, reserved_of}
 use Rattle.judging_core.specs.Holding.{AreOnEmptyCells, most_held}
-use Rattle.judging_core.specs.Listed.{IsListed}
+use Rattle.judging_core.specs.Listed.{IsListed, HasRoom}
 use Rattle.judging_core.specs.declared.judgings.KeptJudging.{KeptJudging}
-use Rattle.judging_core.proofs.Listed.{count_is, ahead_kept}
+use Rattle.judging_core.proofs.Listed.{count_is}
+use Rattle.judging_core.proofs.Wider.{ahead_kept, next_room, room_left}
 use Rattle.judging_core.proofs.Cells.{added_cells}
 use Rattle.judging_core.proofs.CellCount.{cells_few, cells_pushed, cells_taken}
 use Rattle.judging_core.proofs.Reported.{answers_pushed}
@@ -32,8 +34,17 @@ list_judging-requires-clause-known c =
     let few = small at.judgings.items c.args.self.now (ap (λ (v : JudgeValue). v.state.judgings) c.self.view_is) c.requires.few in
     let n = c.len-number.ensures in
     let l = c.push_reserved.ensures.len in
-    let p = c.in-Some.ensures.count in
-    c.self.invariant.ahead c.len-number.result (omega (arith, n, l, p, at.judgings.ok, at.prepared.ok)) (omega (arith, n, l, few, at.judgings.ok))
+    c.self.invariant.ahead.known c.len-number.result (omega (arith, n, l, at.judgings.ok, ap length c.in-Some.ensures.left)) (omega (arith, n, l, few, at.judgings.ok))
+
+pub list_judging-requires-clause-wide : goal.list_judging-requires-clause-wide
+list_judging-requires-clause-wide c =
+    let at = c.self.inside in
+    let few = small at.judgings.items c.args.self.now (ap (λ (v : JudgeValue). v.state.judgings) c.self.view_is) c.requires.few in
+    let n = c.len-number.ensures in
+    let l = c.push_reserved.ensures.len in
+    let place : length at.judgings.items + 1 ≡ c.len-number.result = omega (arith, n, l, at.judgings.ok) in
+    subst (λ (k : ℕ). c.args.tests ≤ tests_listed at.tasks k) place
+    (next_room (length at.judgings.items) (reserved_of at.prepared.items) (reserved_of c.take_prepared.new.prepared.items) c.args.tests at.tasks c.in-Some.ensures.left (omega (arith, few)) c.self.invariant.ahead)
 
 pub list_judging-requires-clause-hidden : goal.list_judging-requires-clause-hidden
 list_judging-requires-clause-hidden c = λ test.
@@ -49,7 +60,6 @@ invariant_of-self-2 c =
     let judging = c.in-Some.judging in
     let n = c.len-number.ensures in
     let l = c.push_reserved.ensures.len in
-    let p = c.in-Some.ensures.count in
     let rows : AreWellKept c.push_reserved.new.self.items = rw c.push_reserved.ensures.items (All-push IsWellKept at judging c.self.invariant.rows c.in-Some.ensures.short) in
     let ruled : AreRuledBy c.self.inside.rule c.push_reserved.new.self.items = rw c.push_reserved.ensures.items (All-push (IsRuledBy c.self.inside.rule) at judging c.self.invariant.ruled (c.in-Some.ensures.ruled_itself c.self.inside.rule c.self.invariant.prepared_ruled)) in
     let others_ruled : AreRuledBy c.self.inside.rule c.take_prepared.new.prepared.items = c.in-Some.ensures.ruled c.self.inside.rule c.self.invariant.prepared_ruled in
@@ -60,8 +70,6 @@ invariant_of-self-2 c =
     ap judging_values c.push_reserved.ensures.items ∙ map_push judging_value at judging ∙ ap (λ (j : Judging). judging_values at ++ j ∷ []) c.in-Some.ensures.value in
     let listed : IsListed inside.rule (judging_values c.push_reserved.new.self.items) inside.leases.leases c.list_judging.new.tasks =
     rw value (c.list_judging.ensures.listed inside.rule c.args.mode (judging_values at) inside.leases.leases here c.self.invariant.listed) in
-    let less : length c.push_reserved.new.self.items + length c.take_prepared.new.prepared.items ≤ length at + length inside.prepared.items =
-    omega (arith, l, p, inside.judgings.ok, inside.prepared.ok, c.push_reserved.new.self.ok, c.take_prepared.new.prepared.ok) in
     let cells : AreOnEmptyCells (judging_values c.push_reserved.new.self.items) inside.leases.leases =
     rw value (added_cells (judging_values at) (empty_judging c.args.class c.args.tests c.args.mode c.args.asked) inside.leases.leases c.self.invariant.cells) in
     let tests : cells_in inside.prepared.items ≡ c.args.tests + cells_in c.take_prepared.new.prepared.items =
@@ -75,7 +83,8 @@ invariant_of-self-2 c =
     let answer : c.answer_of-answer.result ≡ answer_by inside.rule empty = c.answer_of-answer.ensures ∙ ap (λ (r : RuleValue). answer_of r judging.mode judging.row.cells) by ∙ ap (answer_by inside.rule) c.in-Some.ensures.value in
     let answered : c.push_reserved-2.new.self.items ≡ answers_by inside.rule (judging_values c.push_reserved.new.self.items) =
     c.push_reserved-2.ensures.items ∙ answers_pushed inside.rule (judging_values at) (judging_values c.push_reserved.new.self.items) empty inside.answers.items c.answer_of-answer.result c.self.invariant.answered value answer in
-    let size = c.list_judging.ensures.count in
-    let ahead : (k : ℕ) → k ≤ length c.push_reserved.new.self.items + length c.take_prepared.new.prepared.items → k ≤ 400000 → k ≤ length c.list_judging.new.tasks =
-    ahead_kept (length at + length inside.prepared.items) (length c.push_reserved.new.self.items + length c.take_prepared.new.prepared.items) (length inside.tasks) (length c.list_judging.new.tasks) c.self.invariant.ahead less (omega (arith, size)) in
+    let more : length c.push_reserved.new.self.items ≡ length at + 1 = ap length c.push_reserved.ensures.items ∙ length_push at judging in
+    let left = room_left (length at) (reserved_of inside.prepared.items) (reserved_of c.take_prepared.new.prepared.items) c.args.tests inside.tasks c.in-Some.ensures.left c.self.invariant.ahead in
+    let ahead : HasRoom (length c.push_reserved.new.self.items) (reserved_of c.take_prepared.new.prepared.items) c.list_judging.new.tasks =
+    ahead_kept (length at + 1) (length c.push_reserved.new.self.items) (reserved_of c.take_prepared.new.prepared.items) inside.tasks c.list_judging.new.tasks more c.list_judging.ensures.widths left in
     search rules

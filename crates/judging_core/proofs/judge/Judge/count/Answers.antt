@@ -1,4 +1,4 @@
-use Rattle.std.proofs.Common.{ℕ, ◌≡◌, ◌≤◌, ◌+◌, ◌-◌, ◌∙◌, Some, None, rules, not, refl, ap, sym, subst, arith, length, List, false}
+use Rattle.std.proofs.Common.{ℕ, ◌≡◌, ◌≤◌, ◌-◌, ◌∙◌, Some, None, rules, not, refl, ap, sym, subst, length, List, false}
 use Rattle.std.proofs.lemmas.List.{length-set}
 use Rattle.farm_model.specs.Leases.{same_task, without_task}
 use Rattle.farm_model.specs.Judgings.{task_of}
@@ -6,13 +6,14 @@ use Rattle.judging_core.specs.Holding.{IsHeldWell, AreOnEmptyCells}
 use Rattle.farm_model.specs.Judgings.{Judging, cell_of, with_result, fill_cell}
 use Rattle.task_tree.specs.Shown.{HasTask}
 use Rattle.judging_core.specs.declared.judgings.KeptJudging.{KeptJudging}
-use Rattle.judging_core.proofs.Shown.{size_shown}
+use Rattle.judging_core.proofs.Shown.{widths_shown}
 use Rattle.lazy_stop.specs.Matters.{IsPossible}
 use Rattle.judging_core.specs.JudgeValue.{JudgeValue, in_state}
 use Rattle.judging_core.specs.JudgeLayout.{judge_value}
-use Rattle.judging_core.specs.JudgeShape.{judging_values, answers_by, AreRuledBy, cells_in}
-use Rattle.judging_core.specs.Listed.{IsListed}
-use Rattle.judging_core.proofs.Listed.{cell_there, result_listed, result_closed, closed_hidden, cell_in_room, ahead_kept}
+use Rattle.judging_core.specs.JudgeShape.{judging_values, answers_by, AreRuledBy, cells_in, reserved_of}
+use Rattle.judging_core.specs.Listed.{widths, IsListed, HasRoom}
+use Rattle.judging_core.proofs.Listed.{cell_there, cell_room, result_listed, result_closed, closed_hidden}
+use Rattle.judging_core.proofs.Wider.{ahead_kept}
 use Rattle.judging_core.proofs.Items.{item_within}
 use Rattle.judging_core.proofs.Cells.{filled_cells}
 use Rattle.judging_core.proofs.CellCount.{cells_changed}
@@ -35,7 +36,7 @@ seen_empty judgings judge j test e empty = ap (λ (js : List Judging). cell_of j
 pub hide_task-requires : goal.hide_task-requires
 hide_task-requires c =
     let at = c.self.inside in
-    cell_in_room at.judgings.items at.tasks c.args.judging c.args.test c.self.invariant.rows c.self.invariant.listed.wide (c.self.invariant.ahead (length at.judgings.items) (omega arith) c.self.invariant.few)
+    cell_room (judging_values at.judgings.items) at.tasks c.args.judging c.args.test c.self.invariant.listed.wide
     (seen_empty at.judgings.items c.args.self.now c.args.judging c.args.test (ap (λ (v : JudgeValue). v.state.judgings) c.self.view_is) c.requires.empty)
 
 -- the judgings are seen through a slice
@@ -72,17 +73,17 @@ invariant_of-self c =
     rw (c.fill.ensures.value, vain) (vain_cells at.rule new c.args.judging left (filled_cells js at.leases.leases c.args.judging c.args.test c.args.given (test_from_1 js c.args.judging c.args.test empty) c.self.invariant.cells)) in
     let counted : at.cells ≡ cells_in c.fill.new.judgings.items = c.self.invariant.counted ∙ sym (cells_changed at.judgings.items c.fill.new.judgings.items c.args.judging (fill_cell c.args.test c.args.given) c.fill.ensures.value (λ x. length-set x.row (c.args.test - 1) (Some c.args.given))) in
     let room : room c.end_counted.new.leases ≡ room at.leases = c.end_counted.ensures.room in
-    let there : HasTask at.tasks task = cell_in_room at.judgings.items at.tasks c.args.judging c.args.test c.self.invariant.rows c.self.invariant.listed.wide (c.self.invariant.ahead (length at.judgings.items) (omega arith) c.self.invariant.few) empty in
+    let there : HasTask at.tasks task = cell_room js at.tasks c.args.judging c.args.test c.self.invariant.listed.wide empty in
     let closed = result_closed at.rule js (without_vain at.rule new c.args.judging left) c.args.judging c.args.test c.args.given empty in
     let seen : AreRuledBy at.rule c.deref.result.now = subst (AreRuledBy at.rule) (sym c.deref.ensures.value) ruled in
     let changed : judging_values c.deref.result.now ≡ new = ap judging_values c.deref.ensures.value ∙ c.fill.ensures.value in
     let answered : c.keep_answer.new.answers.items ≡ answers_by at.rule (judging_values c.fill.new.judgings.items) =
     c.keep_answer.ensures.answers at.rule js (fill_cell c.args.test c.args.given) seen changed c.self.invariant.answered ∙ ap (λ xs. answers_by at.rule (judging_values xs)) c.deref.ensures.value in
-    let size : length c.hide_task.new.self ≡ length at.tasks = ap length c.hide_task.ensures ∙ size_shown at.tasks task false in
+    let same : widths c.hide_task.new.self ≡ widths at.tasks = ap widths c.hide_task.ensures ∙ widths_shown at.tasks task false in
     let listed : IsListed at.rule (judging_values c.fill.new.judgings.items) c.end_counted.new.leases.leases c.hide_task.new.self =
     rw (c.fill.ensures.value, vain, c.hide_task.ensures) (closed_hidden at.rule new (without_vain at.rule new c.args.judging left) at.tasks task
     (vain_listed at.rule new c.args.judging left at.tasks (result_listed at.rule js at.leases.leases at.tasks c.args.judging c.args.test c.args.given c.self.invariant.listed empty possible)) there closed) in
-    let ahead : (k : ℕ) → k ≤ length c.fill.new.judgings.items + length at.prepared.items → k ≤ 400000 → k ≤ length c.hide_task.new.self = ahead_kept (length at.judgings.items + length at.prepared.items) (length c.fill.new.judgings.items + length at.prepared.items) (length at.tasks) (length c.hide_task.new.self) c.self.invariant.ahead (omega (arith, c.fill.ensures.count)) (omega (arith, size)) in
+    let ahead : HasRoom (length c.fill.new.judgings.items) (reserved_of at.prepared.items) c.hide_task.new.self = ahead_kept (length at.judgings.items) (length c.fill.new.judgings.items) (reserved_of at.prepared.items) at.tasks c.hide_task.new.self c.fill.ensures.count same c.self.invariant.ahead in
     search rules
 
 pub returns-clause-state : goal.returns-clause-state

@@ -1,11 +1,12 @@
-use Rattle.std.proofs.Common.{ℕ, ◌≡◌, ◌≤◌, ◌+◌, ◌∙◌, rules, not, length, arith}
+use Rattle.std.proofs.Common.{◌≡◌, ◌∙◌, rules, refl, not, length, arith}
 use Rattle.farm_model.specs.Leases.{holds}
 use Rattle.judging_core.specs.Holding.{IsHeldWell, AreOnEmptyCells}
-use Rattle.judging_core.specs.JudgeShape.{judging_values}
-use Rattle.judging_core.specs.Listed.{IsListed}
+use Rattle.judging_core.specs.JudgeShape.{judging_values, reserved_of}
+use Rattle.judging_core.specs.Listed.{IsListed, HasRoom}
 use Rattle.judging_core.proofs.Held.{some_held}
 use Rattle.judging_core.proofs.Cells.{some_cells}
-use Rattle.judging_core.proofs.Listed.{short_rows, count_is, ahead_kept}
+use Rattle.judging_core.proofs.Listed.{count_is}
+use Rattle.judging_core.proofs.Wider.{ahead_kept}
 use Rattle.judging_core.proofs.judge.Judge.down.Goals as goal
 
 pub invariant_of-self : goal.invariant_of-self
@@ -14,8 +15,7 @@ invariant_of-self c =
     let held : IsHeldWell c.self.inside.hosts c.end_host.new.leases.leases = rw c.end_host.ensures.leases (some_held c.self.inside.hosts (λ x. not (holds c.args.host x)) c.self.inside.leases.leases c.self.invariant.held) in
     let cells : AreOnEmptyCells (judging_values at.judgings.items) c.end_host.new.leases.leases = rw c.end_host.ensures.leases (some_cells (judging_values at.judgings.items) (λ x. not (holds c.args.host x)) at.leases.leases c.self.invariant.cells) in
     let fits : length (judging_values at.judgings.items) ≡ c.len.result = count_is at.judgings.items ∙ (let n = c.len.ensures in omega (arith, n, at.judgings.ok)) in
-    let room : c.len.result ≤ length at.tasks = let k = c.self.invariant.ahead (length at.judgings.items) (omega arith) c.self.invariant.few in omega (arith, k, fits, count_is at.judgings.items) in
     let listed : IsListed at.rule (judging_values at.judgings.items) c.end_host.new.leases.leases c.end_host.new.tasks =
-    c.end_host.ensures.listed at.rule (judging_values at.judgings.items) fits room (short_rows at.judgings.items c.self.invariant.rows) c.self.invariant.listed in
-    let ahead : (k : ℕ) → k ≤ length at.judgings.items + length at.prepared.items → k ≤ 400000 → k ≤ length c.end_host.new.tasks = ahead_kept (length at.judgings.items + length at.prepared.items) (length at.judgings.items + length at.prepared.items) (length at.tasks) (length c.end_host.new.tasks) c.self.invariant.ahead (omega (arith, c.end_host.ensures.judgings)) (omega (arith, c.end_host.ensures.judgings)) in
+    c.end_host.ensures.listed at.rule (judging_values at.judgings.items) fits c.self.invariant.listed in
+    let ahead : HasRoom (length at.judgings.items) (reserved_of at.prepared.items) c.end_host.new.tasks = ahead_kept (length at.judgings.items) (length at.judgings.items) (reserved_of at.prepared.items) at.tasks c.end_host.new.tasks refl c.end_host.ensures.widths c.self.invariant.ahead in
     search rules

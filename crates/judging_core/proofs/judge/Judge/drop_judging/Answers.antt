@@ -1,9 +1,14 @@
-use Rattle.std.proofs.Common.{ℕ, List, ◌≡◌, ◌≤◌, ◌+◌, ◌∙◌, refl, sym, ap, rules, not, eqb, length, arith}
-use Rattle.judging_core.specs.JudgeShape.{judging_values, AreWellKept, AreRuledBy, cells_in}
-use Rattle.judging_core.specs.Listed.{IsListed}
-use Rattle.judging_core.proofs.Listed.{dropped_listed, dropped_closed, count_is, ahead_kept}
+use Rattle.std.proofs.Common.{ℕ, List, ◌≡◌, ◌≤◌, ◌∙◌, Some, refl, sym, ap, rules, not, eqb, length, map, arith}
+use Rattle.judging_core.specs.JudgeShape.{judging_values, row_length, AreWellKept, AreRuledBy, cells_in, reserved_of}
+use Rattle.judging_core.specs.Listed.{tests_judged, IsListed, HasRoom}
+use Rattle.judging_core.proofs.Listed.{dropped_listed, dropped_closed, count_is}
+use Rattle.judging_core.proofs.Wider.{ahead_kept}
 use Rattle.farm_model.specs.Leases.{without_judging}
-use Rattle.farm_model.specs.Judgings.{mark_dropped}
+use Rattle.farm_model.specs.Judgings.{mark_dropped, with_dropped}
+use Rattle.farm_model.specs.Numbered.{item_of}
+use Rattle.std.specs.Option.{option_map}
+use Rattle.judging_core.proofs.Items.{kept_seen}
+use Rattle.judging_core.proofs.Shown.{judged_same, judged_is}
 use Rattle.judging_core.specs.JudgeValue.{JudgeValue}
 use Rattle.judging_core.specs.declared.judgings.KeptJudging.{KeptJudging}
 use Rattle.judging_core.specs.Holding.{IsHeldWell, AreOnEmptyCells}
@@ -20,7 +25,19 @@ pub unlist_judging-requires-clause-known : goal.unlist_judging-requires-clause-k
 unlist_judging-requires-clause-known c =
     let at = c.self.inside in
     let known : c.args.judging ≤ length at.judgings.items = within at.judgings.items c.args.self.now c.args.judging (ap (λ (v : JudgeValue). v.state.judgings) c.self.view_is) c.requires.known in
-    c.self.invariant.ahead c.args.judging (omega (arith, known)) (omega (arith, known, c.self.invariant.few))
+    c.self.invariant.ahead.known c.args.judging (omega (arith, known)) (omega (arith, known, c.self.invariant.few))
+
+pub unlist_judging-requires-clause-wide : goal.unlist_judging-requires-clause-wide
+unlist_judging-requires-clause-wide c =
+    let at = c.self.inside in
+    let js = judging_values at.judgings.items in
+    let counted : option_map row_length (item_of (judging_values c.mark_dropped.new.judgings.items) c.args.judging) ≡ Some c.test_count-tests.result =
+    ap (λ xs. option_map row_length (item_of (judging_values xs) c.args.judging)) (sym c.deref.ensures.value) ∙ c.test_count-tests.ensures.count in
+    let seen : judging_values c.mark_dropped.new.judgings.items ≡ with_dropped js c.args.judging = c.mark_dropped.ensures.value in
+    let rows : map row_length (judging_values c.mark_dropped.new.judgings.items) ≡ map row_length js = ap (map row_length) seen ∙ kept_seen row_length js c.args.judging mark_dropped (λ x. refl) in
+    let tests : tests_judged js c.args.judging ≡ c.test_count-tests.result =
+    sym (judged_same js (judging_values c.mark_dropped.new.judgings.items) c.args.judging rows) ∙ judged_is (judging_values c.mark_dropped.new.judgings.items) c.args.judging c.test_count-tests.result counted in
+    omega (arith, tests, c.self.invariant.listed.wide.each c.args.judging)
 
 pub invariant_of-self : goal.invariant_of-self
 invariant_of-self c =
@@ -37,6 +54,5 @@ invariant_of-self c =
     rw (c.mark_dropped.ensures.value, c.end_judging.ensures.leases) (dropped_cells (judging_values at.judgings.items) (without_judging at.leases.leases c.args.judging) c.args.judging (some_cells (judging_values at.judgings.items) (λ x. not (eqb x.task.judging c.args.judging)) at.leases.leases c.self.invariant.cells)) in
     let counted : at.cells ≡ cells_in c.mark_dropped.new.judgings.items = c.self.invariant.counted ∙ sym (cells_changed at.judgings.items c.mark_dropped.new.judgings.items c.args.judging mark_dropped c.mark_dropped.ensures.value (λ x. refl)) in
     let answered = answers_kept at.rule (judging_values at.judgings.items) (judging_values c.mark_dropped.new.judgings.items) c.args.judging mark_dropped at.answers.items c.self.invariant.answered c.mark_dropped.ensures.value (λ x. refl) in
-    let size = c.unlist_judging.ensures.count in
-    let ahead : (k : ℕ) → k ≤ length c.mark_dropped.new.judgings.items + length at.prepared.items → k ≤ 400000 → k ≤ length c.unlist_judging.new.tasks = ahead_kept (length at.judgings.items + length at.prepared.items) (length c.mark_dropped.new.judgings.items + length at.prepared.items) (length at.tasks) (length c.unlist_judging.new.tasks) c.self.invariant.ahead (omega (arith, c.mark_dropped.ensures.count)) (omega (arith, size)) in
+    let ahead : HasRoom (length c.mark_dropped.new.judgings.items) (reserved_of at.prepared.items) c.unlist_judging.new.tasks = ahead_kept (length at.judgings.items) (length c.mark_dropped.new.judgings.items) (reserved_of at.prepared.items) at.tasks c.unlist_judging.new.tasks c.mark_dropped.ensures.count c.unlist_judging.ensures.widths c.self.invariant.ahead in
     search rules

@@ -1,14 +1,14 @@
-use Rattle.std.proofs.Common.{ℕ, ◌≡◌, ◌≤◌, ◌+◌, List, rules, sym, subst, arith, length, true}
+use Rattle.std.proofs.Common.{◌≡◌, List, rules, refl, sym, subst, length, true}
 use Rattle.std.specs.Prelude.{IfSome}
 use Rattle.farm_kinds.specs.RuleValue.{RuleValue}
 use Rattle.farm_model.specs.declared.records.Lease.{Lease}
 use Rattle.task_tree.specs.Shown.{JudgingTasks}
 use Rattle.judging_core.specs.JudgeValue.{JudgeValue}
-use Rattle.judging_core.specs.JudgeShape.{judging_values, AreRuledBy}
-use Rattle.judging_core.specs.Listed.{is_open, IsListed}
+use Rattle.judging_core.specs.JudgeShape.{judging_values, AreRuledBy, reserved_of}
+use Rattle.judging_core.specs.Listed.{is_open, IsListed, HasRoom}
 use Rattle.judging_core.specs.Batches.{is_open_task}
 use Rattle.judging_core.specs.declared.judgings.KeptJudging.{KeptJudging}
-use Rattle.judging_core.proofs.Listed.{ahead_kept}
+use Rattle.judging_core.proofs.Wider.{ahead_kept}
 use Rattle.judging_core.proofs.judge.Judge.first_open.Goals as goal
 
 -- the judgings are seen through a slice
@@ -24,7 +24,7 @@ invariant_of-self c =
     let at = c.self.inside in
     let listed : IsListed at.rule (judging_values at.judgings.items) at.leases.leases c.first_open.new.tasks =
     listed_seen at.rule c.deref.result.now at.judgings.items at.leases.leases at.tasks c.first_open.new.tasks c.deref.ensures.value c.first_open.ensures.listed c.self.invariant.ruled c.self.invariant.listed in
-    let ahead : (k : ℕ) → k ≤ length at.judgings.items + length at.prepared.items → k ≤ 400000 → k ≤ length c.first_open.new.tasks = ahead_kept (length at.judgings.items + length at.prepared.items) (length at.judgings.items + length at.prepared.items) (length at.tasks) (length c.first_open.new.tasks) c.self.invariant.ahead (omega (arith, c.first_open.ensures.count)) (omega (arith, c.first_open.ensures.count)) in
+    let ahead : HasRoom (length at.judgings.items) (reserved_of at.prepared.items) c.first_open.new.tasks = ahead_kept (length at.judgings.items) (length at.judgings.items) (reserved_of at.prepared.items) at.tasks c.first_open.new.tasks refl c.first_open.ensures.widths c.self.invariant.ahead in
     search rules
 
 pub returns-clause-open_ : goal.returns-clause-open_

@@ -8,11 +8,12 @@ use Rattle.judging_core.specs.declared.judge.Judge.TheInside.{Inside}
 use Rattle.judging_core.specs.JudgeLayout.{judge_value, IsJudgeLayout}
 use Rattle.judging_core.specs.JudgeValue.{JudgeValue}
 use Rattle.judging_core.specs.Holding.{IsOfHosts, IsHeldWell, AreOnEmptyCells}
-use Rattle.judging_core.specs.JudgeShape.{judging_values, AreRuledBy, cells_in}
-use Rattle.judging_core.specs.Listed.{is_open, IsListed}
+use Rattle.judging_core.specs.JudgeShape.{judging_values, AreRuledBy, cells_in, reserved_of}
+use Rattle.judging_core.specs.Listed.{is_open, widths, IsListed, HasRoom}
 use Rattle.judging_core.specs.Batches.{is_open_task}
-use Rattle.judging_core.proofs.Shown.{size_shown}
-use Rattle.judging_core.proofs.Listed.{handed_hidden, open_there, short_rows, count_is, ahead_kept}
+use Rattle.judging_core.proofs.Shown.{widths_shown}
+use Rattle.judging_core.proofs.Listed.{handed_hidden, open_there}
+use Rattle.judging_core.proofs.Wider.{ahead_kept}
 use Rattle.judging_core.proofs.Held.{one_held, few_in_all, fewer_in_all}
 use Rattle.judging_core.proofs.Cells.{open_cell, open_free, handed_cells}
 use Rattle.judging_core.proofs.CellCount.{cells_changed, fewer_on_cells}
@@ -31,8 +32,7 @@ seen_known at judge lease e low high = (low, omega (arith, high, ap (λ (v : Jud
 
 has_room : (at : Inside) (task : Task) → IsJudgeLayout at → is_open at.rule (judging_values at.judgings.items) at.leases.leases task ≡ true → HasTask at.tasks task
 has_room at task h o =
-    let room = h.ahead (length at.judgings.items) (omega arith) h.few in
-    (open_there at.rule (judging_values at.judgings.items) at.leases.leases at.tasks task (short_rows at.judgings.items h.rows) h.listed.wide (omega (arith, room, count_is at.judgings.items)) o).1
+    (open_there at.rule (judging_values at.judgings.items) at.leases.leases at.tasks task h.listed.wide o).1
 
 pub hide_task-requires : goal.hide_task-requires
 hide_task-requires c =
@@ -71,6 +71,6 @@ invariant_of-self c =
     rw (c.mark_handed.ensures.value, c.grant.ensures.leases, c.hide_task.ensures) (handed_hidden at.rule js at.leases.leases at.tasks task c.args.host until c.self.invariant.listed (has_room at task c.self.invariant opened)) in
     let counted : at.cells ≡ cells_in c.mark_handed.new.judgings.items = c.self.invariant.counted ∙ sym (cells_changed at.judgings.items c.mark_handed.new.judgings.items task.judging (mark_handed task.test) c.mark_handed.ensures.value (λ x. refl)) in
     let answered = answers_kept at.rule js (judging_values c.mark_handed.new.judgings.items) task.judging (mark_handed task.test) at.answers.items c.self.invariant.answered c.mark_handed.ensures.value (λ x. refl) in
-    let size : length c.hide_task.new.self ≡ length at.tasks = ap length c.hide_task.ensures ∙ size_shown at.tasks task false in
-    let ahead : (k : ℕ) → k ≤ length c.mark_handed.new.judgings.items + length at.prepared.items → k ≤ 400000 → k ≤ length c.hide_task.new.self = ahead_kept (length at.judgings.items + length at.prepared.items) (length c.mark_handed.new.judgings.items + length at.prepared.items) (length at.tasks) (length c.hide_task.new.self) c.self.invariant.ahead (omega (arith, c.mark_handed.ensures.count)) (omega (arith, size)) in
+    let same : widths c.hide_task.new.self ≡ widths at.tasks = ap widths c.hide_task.ensures ∙ widths_shown at.tasks task false in
+    let ahead : HasRoom (length c.mark_handed.new.judgings.items) (reserved_of at.prepared.items) c.hide_task.new.self = ahead_kept (length at.judgings.items) (length c.mark_handed.new.judgings.items) (reserved_of at.prepared.items) at.tasks c.hide_task.new.self c.mark_handed.ensures.count same c.self.invariant.ahead in
     search rules

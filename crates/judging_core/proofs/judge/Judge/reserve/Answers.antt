@@ -1,17 +1,36 @@
-use Rattle.std.proofs.Common.{ℕ, ◌≡◌, ◌≤◌, ◌+◌, ◌∙◌, rules, sym, ap, arith, length}
+use Rattle.std.proofs.Common.{◌≡◌, ◌≤◌, ◌+◌, ◌∙◌, rules, refl, sym, ap, arith, length}
+use Rattle.std.proofs.lemmas.List.{length-map}
+use Rattle.farm_model.specs.Judgings.{Judging}
 use Rattle.lease_book.specs.Book.{room}
-use Rattle.judging_core.specs.JudgeShape.{judging_values, answers_by, cells_in}
+use Rattle.judging_core.specs.JudgeShape.{judging_values, answers_by, cells_in, reserved_of}
 use Rattle.judging_core.specs.Holding.{IsHeldWell, AreOnEmptyCells, most_held}
-use Rattle.judging_core.specs.Listed.{IsListed}
-use Rattle.judging_core.proofs.Listed.{ahead_kept}
+use Rattle.judging_core.specs.Listed.{IsListed, HasRoom}
+use Rattle.judging_core.proofs.Listed.{count_is}
+use Rattle.judging_core.proofs.Wider.{ahead_kept, wider_listed, wider_ahead}
 use Rattle.judging_core.proofs.judge.Judge.reserve.Goals as goal
+
+pub make_room_ahead-requires-clause-known : goal.make_room_ahead-requires-clause-known
+make_room_ahead-requires-clause-known c =
+    let at = c.self.inside in
+    let n = c.len-3.ensures in
+    let same : length c.reserve.new.self.items ≡ length at.judgings.items = ap length c.reserve.ensures.items in
+    let count : c.len-3.result ≡ length at.judgings.items = omega (arith, n, same, c.reserve.new.self.ok) in
+    c.self.invariant.ahead.known c.len-3.result (omega (arith, count)) (omega (arith, count, c.self.invariant.few))
+
+pub make_room_ahead-requires-clause-rest : goal.make_room_ahead-requires-clause-rest
+make_room_ahead-requires-clause-rest c = λ task behind.
+    let at = c.self.inside in
+    let n = c.len-3.ensures in
+    let same : length c.reserve.new.self.items ≡ length at.judgings.items = ap length c.reserve.ensures.items in
+    let count : c.len-3.result ≡ length at.judgings.items = omega (arith, n, same, c.reserve.new.self.ok) in
+    c.self.invariant.listed.rest task (omega (arith, behind, count, count_is at.judgings.items, length-map (judging_values at.judgings.items) (λ (j : Judging). j.class)))
 
 pub invariant_of-self : goal.invariant_of-self
 invariant_of-self c =
     let at = c.self.inside in
     let listed : IsListed at.rule (judging_values c.reserve.new.self.items) at.leases.leases at.tasks = rw c.reserve.ensures.items c.self.invariant.listed in
     let same : length c.reserve.new.self.items ≡ length at.judgings.items = ap length c.reserve.ensures.items in
-    let ahead : (k : ℕ) → k ≤ length c.reserve.new.self.items + length at.prepared.items → k ≤ 400000 → k ≤ length at.tasks = ahead_kept (length at.judgings.items + length at.prepared.items) (length c.reserve.new.self.items + length at.prepared.items) (length at.tasks) (length at.tasks) c.self.invariant.ahead (omega (arith, same)) (omega (arith, same)) in
+    let ahead : HasRoom (length c.reserve.new.self.items) (reserved_of at.prepared.items) at.tasks = ahead_kept (length at.judgings.items) (length c.reserve.new.self.items) (reserved_of at.prepared.items) at.tasks at.tasks same refl c.self.invariant.ahead in
     search rules
 
 pub invariant_of-self-in_err-make_answer_room : goal.invariant_of-self-in_err-make_answer_room
@@ -19,17 +38,17 @@ invariant_of-self-in_err-make_answer_room c =
     let at = c.self.inside in
     let listed : IsListed at.rule (judging_values c.reserve.new.self.items) at.leases.leases at.tasks = rw c.reserve.ensures.items c.self.invariant.listed in
     let same : length c.reserve.new.self.items ≡ length at.judgings.items = ap length c.reserve.ensures.items in
-    let ahead : (k : ℕ) → k ≤ length c.reserve.new.self.items + length at.prepared.items → k ≤ 400000 → k ≤ length at.tasks = ahead_kept (length at.judgings.items + length at.prepared.items) (length c.reserve.new.self.items + length at.prepared.items) (length at.tasks) (length at.tasks) c.self.invariant.ahead (omega (arith, same)) (omega (arith, same)) in
+    let ahead : HasRoom (length c.reserve.new.self.items) (reserved_of at.prepared.items) at.tasks = ahead_kept (length at.judgings.items) (length c.reserve.new.self.items) (reserved_of at.prepared.items) at.tasks at.tasks same refl c.self.invariant.ahead in
     let answered : c.make_answer_room.new.answers.items ≡ answers_by at.rule (judging_values c.reserve.new.self.items) = c.make_answer_room.ensures.items ∙ c.self.invariant.answered ∙ sym (ap (λ xs. answers_by at.rule (judging_values xs)) c.reserve.ensures.items) in
     search rules
 
-pub invariant_of-self-in_err-make_room : goal.invariant_of-self-in_err-make_room
-invariant_of-self-in_err-make_room c =
+pub invariant_of-self-in_err-make_room_ahead : goal.invariant_of-self-in_err-make_room_ahead
+invariant_of-self-in_err-make_room_ahead c =
     let at = c.self.inside in
-    let more = c.make_room.ensures.grows in
-    let listed : IsListed at.rule (judging_values c.reserve.new.self.items) at.leases.leases c.make_room.new.tasks = rw c.reserve.ensures.items (c.make_room.ensures.listed at.rule (judging_values at.judgings.items) at.leases.leases c.self.invariant.listed) in
+    let listed : IsListed at.rule (judging_values c.reserve.new.self.items) at.leases.leases c.make_room_ahead.new.tasks = rw c.reserve.ensures.items (wider_listed at.rule (judging_values at.judgings.items) at.leases.leases at.tasks c.make_room_ahead.new.tasks c.make_room_ahead.ensures.wider c.self.invariant.listed) in
     let same : length c.reserve.new.self.items ≡ length at.judgings.items = ap length c.reserve.ensures.items in
-    let ahead : (k : ℕ) → k ≤ length c.reserve.new.self.items + length at.prepared.items → k ≤ 400000 → k ≤ length c.make_room.new.tasks = ahead_kept (length at.judgings.items + length at.prepared.items) (length c.reserve.new.self.items + length at.prepared.items) (length at.tasks) (length c.make_room.new.tasks) c.self.invariant.ahead (omega (arith, same)) (omega (arith, more)) in
+    let ahead : HasRoom (length c.reserve.new.self.items) (reserved_of at.prepared.items) c.make_room_ahead.new.tasks = wider_ahead (length c.reserve.new.self.items) (reserved_of at.prepared.items) at.tasks c.make_room_ahead.new.tasks c.make_room_ahead.ensures.wider
+    (ahead_kept (length at.judgings.items) (length c.reserve.new.self.items) (reserved_of at.prepared.items) at.tasks at.tasks same refl c.self.invariant.ahead) in
     let answered : c.make_answer_room.new.answers.items ≡ answers_by at.rule (judging_values c.reserve.new.self.items) = c.make_answer_room.ensures.items ∙ c.self.invariant.answered ∙ sym (ap (λ xs. answers_by at.rule (judging_values xs)) c.reserve.ensures.items) in
     search rules
 
@@ -40,11 +59,11 @@ invariant_of-self-in_err-make_lease_room c =
     let same = c.make_lease_room.ensures.leases in
     let held : IsHeldWell at.hosts leases.leases = rw same c.self.invariant.held in
     let cells : AreOnEmptyCells (judging_values c.reserve.new.self.items) leases.leases = rw (c.reserve.ensures.items, same) c.self.invariant.cells in
-    let listed : IsListed at.rule (judging_values c.reserve.new.self.items) leases.leases c.make_room.new.tasks =
-    rw (c.reserve.ensures.items, same) (c.make_room.ensures.listed at.rule (judging_values at.judgings.items) at.leases.leases c.self.invariant.listed) in
-    let more = c.make_room.ensures.grows in
+    let listed : IsListed at.rule (judging_values c.reserve.new.self.items) leases.leases c.make_room_ahead.new.tasks =
+    rw (c.reserve.ensures.items, same) (wider_listed at.rule (judging_values at.judgings.items) at.leases.leases at.tasks c.make_room_ahead.new.tasks c.make_room_ahead.ensures.wider c.self.invariant.listed) in
     let count : length c.reserve.new.self.items ≡ length at.judgings.items = ap length c.reserve.ensures.items in
-    let ahead : (k : ℕ) → k ≤ length c.reserve.new.self.items + length at.prepared.items → k ≤ 400000 → k ≤ length c.make_room.new.tasks = ahead_kept (length at.judgings.items + length at.prepared.items) (length c.reserve.new.self.items + length at.prepared.items) (length at.tasks) (length c.make_room.new.tasks) c.self.invariant.ahead (omega (arith, count)) (omega (arith, more)) in
+    let ahead : HasRoom (length c.reserve.new.self.items) (reserved_of at.prepared.items) c.make_room_ahead.new.tasks = wider_ahead (length c.reserve.new.self.items) (reserved_of at.prepared.items) at.tasks c.make_room_ahead.new.tasks c.make_room_ahead.ensures.wider
+    (ahead_kept (length at.judgings.items) (length c.reserve.new.self.items) (reserved_of at.prepared.items) at.tasks at.tasks count refl c.self.invariant.ahead) in
     let answered : c.make_answer_room.new.answers.items ≡ answers_by at.rule (judging_values c.reserve.new.self.items) = c.make_answer_room.ensures.items ∙ c.self.invariant.answered ∙ sym (ap (λ xs. answers_by at.rule (judging_values xs)) c.reserve.ensures.items) in
     search rules
 
@@ -56,14 +75,14 @@ invariant_of-self-2 c =
     let same = c.make_lease_room.ensures.leases in
     let held : IsHeldWell at.hosts leases.leases = rw same c.self.invariant.held in
     let cells : AreOnEmptyCells (judging_values c.reserve.new.self.items) leases.leases = rw (c.reserve.ensures.items, same) c.self.invariant.cells in
-    let listed : IsListed at.rule (judging_values c.reserve.new.self.items) leases.leases c.make_room.new.tasks =
-    rw (c.reserve.ensures.items, same) (c.make_room.ensures.listed at.rule (judging_values at.judgings.items) at.leases.leases c.self.invariant.listed) in
+    let listed : IsListed at.rule (judging_values c.reserve.new.self.items) leases.leases c.make_room_ahead.new.tasks =
+    rw (c.reserve.ensures.items, same) (wider_listed at.rule (judging_values at.judgings.items) at.leases.leases at.tasks c.make_room_ahead.new.tasks c.make_room_ahead.ensures.wider c.self.invariant.listed) in
     let all : cells_in c.deref.result.now ≡ cells_in prepared.items = ap cells_in c.deref.ensures.value in
     let roomy : most_held at.hosts (at.cells + cells_in prepared.items) ≤ room leases =
     omega (arith, all, c.tests_with-all.ensures, c.in_ok-make_lease_room.ensures.enough, c.self.invariant.few_hosts) in
-    let ahead : (k : ℕ) → k ≤ length c.reserve.new.self.items + length prepared.items → k ≤ 400000 → k ≤ length c.make_room.new.tasks = λ k l few.
-    let a = c.len-3.ensures in
-    let b = c.len-4.ensures in
-    c.in_ok-make_room.ensures.enough k (omega (arith, l, a, b, c.reserve.new.self.ok, prepared.ok)) few in
+    let count : length c.reserve.new.self.items ≡ c.len-3.result = let n = c.len-3.ensures in omega (arith, n, c.reserve.new.self.ok) in
+    let tests : reserved_of prepared.items ≡ c.as_slice-2.result.now = c.in_ok-prepared.ensures.reserved ∙ c.as_slice.ensures ∙ sym c.as_slice-2.ensures in
+    let ahead : HasRoom (length c.reserve.new.self.items) (reserved_of prepared.items) c.make_room_ahead.new.tasks =
+    rw (count, tests) c.in_ok-make_room_ahead.ensures.room in
     let answered : c.make_answer_room.new.answers.items ≡ answers_by at.rule (judging_values c.reserve.new.self.items) = c.make_answer_room.ensures.items ∙ c.self.invariant.answered ∙ sym (ap (λ xs. answers_by at.rule (judging_values xs)) c.reserve.ensures.items) in
     search rules
