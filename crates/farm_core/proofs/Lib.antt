@@ -6,5 +6,6 @@ pub mod Entering
 pub mod Keeping
 pub mod Refusing
 mod Aside
+mod Promising
 mod Naming
 pub mod Named

@@ -57,34 +57,6 @@ impl Farm {
         ensures promise { (settings : SettingsValue) (es : List Event) → self.old ≡ reached settings es
             → result ≢ Reply.NoMemory → StepKeepsPromise settings es event.now self.new result }
     {
-        self.answer(event)
-    }
-
-    /// How many submissions there are.
-    pub fn submissions(&self) -> u32
-        ensures { result ≡ length self.now.submissions }
-    {
-        self.contest.submissions()
-    }
-
-    /// What the public sees of a submission. None where no submission has the number.
-    pub fn public(&self, submission: u32) -> Option<Answer>
-        ensures { result ≡ public_of self.now submission }
-    {
-        self.contest.public(submission)
-    }
-
-    /// The audit log: what the jury did, in order.
-    pub fn audit(&self) -> &Audit
-        ensures { result.now.texts ≡ self.now.texts }
-    {
-        &self.audit
-    }
-
-    /// Answers one event.
-    fn answer(&mut self, event: &Event) -> Reply
-        ensures { Stepped self.old event.now self.new result }
-    {
         match event {
             Event::Problem { .. } | Event::Replace { .. } | Event::Rejudge { .. } =>
                 self.answer_jury(event),
@@ -122,6 +94,27 @@ impl Farm {
             Event::Matrix { rejudging } => self.contest.matrix(*rejudging),
             Event::Audit => self.audit_head(),
         }
+    }
+
+    /// How many submissions there are.
+    pub fn submissions(&self) -> u32
+        ensures { result ≡ length self.now.submissions }
+    {
+        self.contest.submissions()
+    }
+
+    /// What the public sees of a submission. None where no submission has the number.
+    pub fn public(&self, submission: u32) -> Option<Answer>
+        ensures { result ≡ public_of self.now submission }
+    {
+        self.contest.public(submission)
+    }
+
+    /// The audit log: what the jury did, in order.
+    pub fn audit(&self) -> &Audit
+        ensures { result.now.texts ≡ self.now.texts }
+    {
+        &self.audit
     }
 
     /// Answers an event of the jury: it is refused, or it is done and entered in the audit log.
