@@ -29,10 +29,13 @@ fn answer_line(
 {
     match read_line(alloc, line) {
         Ok(None) => Ok(()),
-        Ok(Some(ref event)) => match farm.step(event) {
-            Reply::NoMemory => Err(NoMemory),
-            ref reply => push_reply(pending, reply),
-        },
+        Ok(Some(ref event)) => {
+            let reply = farm.step(event);
+            match &reply {
+                Reply::NoMemory => Err(NoMemory),
+                _ => push_reply(pending, &reply),
+            }
+        }
         Err(LineFault::BadLine) => push_bad_line(pending),
         Err(LineFault::NoMemory) => Err(NoMemory),
     }
