@@ -43,9 +43,13 @@ task_of judging test = record { judging = judging; test = test }
 abbrev pub judging_rows : List Judging → List Row
 judging_rows judgings = map (λ judging. judging.row) judgings
 
+-- what is reported of a judging
+abbrev pub judging_answer : RuleValue → Judging → Answer
+judging_answer rule judging = answer_of rule judging.mode judging.row
+
 -- what is reported of the judging of this number, where there is one
 abbrev pub answer_in : RuleValue → List Judging → ℕ → Option Answer
-answer_in rule judgings j = option_map (λ judging. answer_of rule judging.mode judging.row) (item_of judgings j)
+answer_in rule judgings j = option_map (judging_answer rule) (item_of judgings j)
 
 abbrev pub is_judging : List Judging → ℕ → Bool
 is_judging judgings j = is_some (item_of judgings j)

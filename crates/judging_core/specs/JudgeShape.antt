@@ -4,8 +4,7 @@ use Rattle.farm_kinds.specs.declared.kinds.Kind.{Kind}
 use Rattle.farm_kinds.specs.declared.outcomes.Answer.{Answer}
 use Rattle.farm_kinds.specs.RuleValue.{RuleValue}
 use Rattle.farm_model.specs.Limits.{max_tests}
-use Rattle.farm_model.specs.Judgings.{Judging, empty_judging}
-use Rattle.farm_model.specs.Rows.{answer_of}
+use Rattle.farm_model.specs.Judgings.{Judging, empty_judging, judging_answer}
 use Rattle.lazy_stop.specs.Matters.{IsPossible}
 use Rattle.judging_core.specs.declared.judgings.KeptJudging.{KeptJudging}
 
@@ -22,13 +21,9 @@ judging_value kept = record {
 abbrev pub judging_values : List KeptJudging → List Judging
 judging_values judgings = map judging_value judgings
 
--- what is reported of a judging
-abbrev pub answer_by : RuleValue → Judging → Answer
-answer_by rule judging = answer_of rule judging.mode judging.row
-
 -- what is reported of each judging, in order
 abbrev pub answers_by : RuleValue → List Judging → List Answer
-answers_by rule judgings = map (answer_by rule) judgings
+answers_by rule judgings = map (judging_answer rule) judgings
 
 -- at most 1,000 cells, and for each whether its task was ever handed out
 pub record IsWellKept (kept : KeptJudging) : Type 0 where

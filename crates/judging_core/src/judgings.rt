@@ -23,12 +23,12 @@ pub struct KeptJudging {
     pub mode: Mode,
     /// Whether it was asked for: hosts are given no task of another.
     pub asked: bool,
+    /// Whether it takes no more results.
+    pub dropped: bool,
     /// One cell per test, in rank order: empty, or the kind of its result after remapping.
     pub row: Row,
     /// For each test whether its task was ever handed out.
     pub handed: Marks,
-    /// Whether it takes no more results.
-    pub dropped: bool,
 }
 
 /// A judging by this rule of this many tests, none of which was handed out or judged.
@@ -51,9 +51,9 @@ pub fn empty_judging(
         class,
         mode,
         asked,
+        dropped: false,
         row,
         handed,
-        dropped: false,
     })
 }
 

@@ -6,14 +6,14 @@ use Rattle.farm_model.specs.declared.records.Lease.{Lease}
 use Rattle.farm_model.specs.Judge.{add_judging}
 use Rattle.farm_kinds.specs.RuleValue.{RuleValue}
 use Rattle.farm_model.specs.Rows.{answer_of}
-use Rattle.farm_model.specs.Judgings.{Judging, task_of, empty_judging}
+use Rattle.farm_model.specs.Judgings.{Judging, task_of, empty_judging, judging_answer}
 use Rattle.lease_book.specs.Book.{room}
 use Rattle.task_tree.specs.Shown.{is_shown}
 use Rattle.judging_core.specs.declared.judge.Judge.TheInside.{Inside}
 use Rattle.judging_core.specs.JudgeValue.{JudgeValue, with_judging, starts_with}
 use Rattle.judging_core.specs.JudgeLayout.{judge_value}
 use Rattle.judging_core.specs.declared.judgings.KeptJudging.{KeptJudging}
-use Rattle.judging_core.specs.JudgeShape.{judging_value, judging_values, answer_by, answers_by, IsWellKept, AreWellKept, IsRuledBy, AreRuledBy, cells_in, reserved_of}
+use Rattle.judging_core.specs.JudgeShape.{judging_value, judging_values, answers_by, IsWellKept, AreWellKept, IsRuledBy, AreRuledBy, cells_in, reserved_of}
 use Rattle.judging_core.specs.Holding.{IsHeldWell, AreOnEmptyCells, most_held}
 use Rattle.judging_core.specs.Listed.{IsListed, HasRoom}
 use Rattle.judging_core.proofs.Listed.{count_is}
@@ -150,7 +150,7 @@ invariant_of-self-2 c =
     let roomy : most_held inside.hosts (inside.cells + c.from.result + cells_in c.new.result.items) ≤ room leases =
     omega (arith, none_ahead, c.in_ok-make_lease_room.ensures.enough) in
     let empty = empty_judging c.args.class c.args.tests c.args.mode c.args.asked in
-    let answer : c.answer_of-answer.result ≡ answer_by inside.rule empty = c.answer_of-answer.ensures ∙ ap (λ (r : RuleValue). answer_of r judging.mode judging.row.cells) c.in_ok-judging.ensures.ruled ∙ ap (answer_by inside.rule) c.in_ok-judging.ensures.value in
+    let answer : c.answer_of-answer.result ≡ judging_answer inside.rule empty = c.answer_of-answer.ensures ∙ ap (λ (r : RuleValue). answer_of r judging.mode judging.row.cells) c.in_ok-judging.ensures.ruled ∙ ap (judging_answer inside.rule) c.in_ok-judging.ensures.value in
     let answered : c.push_reserved.new.self.items ≡ answers_by inside.rule (judging_values c.push.new.self.items) =
     c.push_reserved.ensures.items ∙ answers_pushed inside.rule (judging_values at) (judging_values c.push.new.self.items) empty c.make_answer_room.new.answers.items c.answer_of-answer.result (c.make_answer_room.ensures.items ∙ c.self.invariant.answered) value answer in
     let more : length c.push.new.self.items ≡ c.len-number.result + 1 = let pushed_count = ap length pushed ∙ length_push at judging in omega (arith, pushed_count, n, inside.judgings.ok) in

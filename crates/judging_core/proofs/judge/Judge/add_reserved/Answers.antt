@@ -3,11 +3,11 @@ use Rattle.std.proofs.lemmas.List.{length_push, length-map, map_push}
 use Rattle.std.proofs.lemmas.List.Elements.{All-push}
 use Rattle.farm_kinds.specs.RuleValue.{RuleValue}
 use Rattle.farm_model.specs.Rows.{answer_of}
-use Rattle.farm_model.specs.Judgings.{Judging, task_of, empty_judging}
+use Rattle.farm_model.specs.Judgings.{Judging, task_of, empty_judging, judging_answer}
 use Rattle.lease_book.specs.Book.{room}
 use Rattle.task_tree.specs.Shown.{tests_listed}
 use Rattle.judging_core.specs.JudgeValue.{JudgeValue}
-use Rattle.judging_core.specs.JudgeShape.{judging_value, judging_values, answer_by, answers_by, IsWellKept, AreWellKept, IsRuledBy, AreRuledBy, cells_in, ArePrepared, reserved_of}
+use Rattle.judging_core.specs.JudgeShape.{judging_value, judging_values, answers_by, IsWellKept, AreWellKept, IsRuledBy, AreRuledBy, cells_in, ArePrepared, reserved_of}
 use Rattle.judging_core.specs.Holding.{AreOnEmptyCells, most_held}
 use Rattle.judging_core.specs.Listed.{IsListed, HasRoom}
 use Rattle.judging_core.specs.declared.judgings.KeptJudging.{KeptJudging}
@@ -80,7 +80,7 @@ invariant_of-self-2 c =
     omega (arith, c.from.ensures, tests, c.self.invariant.roomy) in
     let empty = empty_judging c.args.class c.args.tests c.args.mode c.args.asked in
     let by : judging.row.rule ≡ inside.rule = c.in-Some.ensures.ruled_itself inside.rule c.self.invariant.prepared_ruled in
-    let answer : c.answer_of-answer.result ≡ answer_by inside.rule empty = c.answer_of-answer.ensures ∙ ap (λ (r : RuleValue). answer_of r judging.mode judging.row.cells) by ∙ ap (answer_by inside.rule) c.in-Some.ensures.value in
+    let answer : c.answer_of-answer.result ≡ judging_answer inside.rule empty = c.answer_of-answer.ensures ∙ ap (λ (r : RuleValue). answer_of r judging.mode judging.row.cells) by ∙ ap (judging_answer inside.rule) c.in-Some.ensures.value in
     let answered : c.push_reserved-2.new.self.items ≡ answers_by inside.rule (judging_values c.push_reserved.new.self.items) =
     c.push_reserved-2.ensures.items ∙ answers_pushed inside.rule (judging_values at) (judging_values c.push_reserved.new.self.items) empty inside.answers.items c.answer_of-answer.result c.self.invariant.answered value answer in
     let more : length c.push_reserved.new.self.items ≡ length at + 1 = ap length c.push_reserved.ensures.items ∙ length_push at judging in
