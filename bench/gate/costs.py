@@ -4,8 +4,9 @@
     bench/gate/costs.py
 
 It is `rt ci --anew`, which takes nothing that earlier runs on this machine have proved. Printed are, for each crate, the
-processor time of its own proofs, of its tests and of its must-fail edits, and their sums, and how long the run took. The
-times are read from /proc twice a second, so that of a process that lives for less than half a second is missing.
+processor time of its own proofs, of its tests, of the checks of the whole crate that its must-fail edits begin and end
+with ("whole"), and of the edits themselves, and their sums, and how long the run took. The times are read from /proc
+twice a second, so that of a process that lives for less than half a second is missing.
 """
 
 import os
@@ -16,7 +17,7 @@ from collections import defaultdict
 
 TOP = os.path.dirname(os.path.dirname(os.path.dirname(os.path.abspath(__file__))))
 TICKS = os.sysconf("SC_CLK_TCK")
-PARTS = ["proofs", "tests", "edits"]
+PARTS = ["proofs", "tests", "whole", "edits"]
 
 
 def processes():
@@ -43,9 +44,11 @@ def is_below(process, parents, top):
 
 
 def part_of(command, folder):
-    if "/rt-edit" in folder:
-        return "edits"
-    return "tests" if "--test" in command else "proofs"
+    if "/rt-edit" not in folder:
+        return "tests" if "--test" in command else "proofs"
+    # An edit is checked over a copy of what the check of the whole crate left in the folder `seed`.
+    over = command[command.index("--incremental") + 1] if "--incremental" in command else ""
+    return "whole" if over.endswith("/seed") else "edits"
 
 
 def watch(child):

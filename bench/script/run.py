@@ -31,11 +31,11 @@ from script_model import write_script  # noqa: E402
 
 # The name, how much is written, how often it is run.
 SCRIPTS = [
-    ("10,000 lines", {"count": 10_000}, 9),
-    ("100,000 lines", {"count": 100_000}, 5),
-    ("1,000,000 lines", {"count": 1_000_000}, 5),
-    ("100 MB with comments", {"size": 100_000_000, "comment": 80}, 3),
-    ("100 MB without comments", {"size": 100_000_000}, 2),
+    ("10,000 lines", {"count": 10_000}, 31),
+    ("100,000 lines", {"count": 100_000}, 31),
+    ("1,000,000 lines", {"count": 1_000_000}, 31),
+    ("100 MB with comments", {"size": 100_000_000, "comment": 80}, 7),
+    ("100 MB without comments", {"size": 100_000_000}, 5),
 ]
 
 
