@@ -3,36 +3,53 @@ ghost use Rattle.std.specs.Fmt.{decimal};
 ghost use Rattle.std.specs.List.{join_with_byte};
 ghost use Rattle.hex.specs.Hex.{encode_lower};
 ghost use Rattle.farm_kinds.specs.declared.outcomes.Answer.TheVariants as answers;
+ghost use Rattle.farm_kinds.specs.declared.outcomes.Verdict.TheVariants as verdicts;
 ghost use Rattle.farm_model.specs.Texts.{shown_words, list_words, how_text, reply_words, rows_text, reply_text, line_of, bad_line_words, too_long_words};
 ghost use Rattle.command_text.specs.WordGroups.{host_words, refusal_words};
 ghost use Rattle.command_text.specs.WordList.{spaced, commas};
 
-use crate::rows::{push_rows, verdict_text};
+use crate::rows::push_rows;
 use crate::texts::{end_line, push, push_decimal, push_number, push_spaced, push_words};
-use farm_kinds::{Answer, How, Name, NoMemory, Reply, Task, Text, Verdict};
+use farm_kinds::{Answer, How, Kind, Name, NoMemory, Reply, Task, Text, Verdict};
 use itoa::Buffer;
 use std::alloc::Global;
 
-/// Puts a verdict that is final. At `NoMemory` a part of it may be there.
-fn push_final(out: &mut Vec<u8>, verdict: Verdict) -> Result<(), NoMemory>
-    ensures ok { OnOk result (out.new.items ≡ out.old.items
-        ++ join_with_byte 32 (shown_words (answers.Final verdict))) }
-    ensures err { OnErr result (take (length out.old.items) out.new.items ≡ out.old.items) }
+/// The line that says what is reported of a judging. The most frequent lines of a contest are among these, so each stands
+/// here in one piece.
+fn shown_line(answer: Answer) -> &'static [u8]
+    ensures { result.now ≡ line_of (shown_words answer) }
 {
-    push(out, b"final ")?;
-    push(out, verdict_text(verdict).as_bytes())
+    match answer {
+        Answer::Pending => b"pending\n",
+        Answer::Final(Verdict::CompilerError) => b"final compiler-error\n",
+        Answer::Final(Verdict::Tests(kind)) => final_line(kind),
+    }
 }
 
-/// Puts what is reported of a judging. At `NoMemory` a part of it may be there.
+/// The line that says that a judging is final with the kind.
+fn final_line(kind: Kind) -> &'static [u8]
+    ensures { result.now ≡ line_of (shown_words (answers.Final (verdicts.Tests kind))) }
+{
+    match kind {
+        Kind::Correct => b"final correct\n",
+        Kind::WrongAnswer => b"final wrong-answer\n",
+        Kind::RunError => b"final run-error\n",
+        Kind::TimeLimit => b"final timelimit\n",
+        Kind::NoOutput => b"final no-output\n",
+        Kind::OutputLimit => b"final output-limit\n",
+        Kind::MemoryLimit => b"final memory-limit\n",
+        Kind::JudgingError => b"final judging-error\n",
+    }
+}
+
+/// Puts what is reported of a judging, without the line feed. At `NoMemory` nothing changes.
 fn push_shown(out: &mut Vec<u8>, answer: Answer) -> Result<(), NoMemory>
     ensures ok { OnOk result (out.new.items ≡ out.old.items
         ++ join_with_byte 32 (shown_words answer)) }
-    ensures err { OnErr result (take (length out.old.items) out.new.items ≡ out.old.items) }
+    ensures err { OnErr result (out.new.items ≡ out.old.items) }
 {
-    match answer {
-        Answer::Final(verdict) => push_final(out, verdict),
-        Answer::Pending => push(out, b"pending"),
-    }
+    let line = shown_line(answer);
+    push(out, &line[..line.len() - 1])
 }
 
 /// Puts a problem's name and version.
@@ -333,8 +350,14 @@ fn push_lines(out: &mut Vec<u8>, reply: &Reply) -> Result<(), NoMemory>
     ensures ok { OnOk result (out.new.items ≡ out.old.items ++ reply_text reply.now) }
     ensures err { OnErr result (take (length out.old.items) out.new.items ≡ out.old.items) }
 {
-    push_text(out, reply)?;
-    push(out, b"\n")
+    match reply {
+        Reply::Shown(answer) => push(out, shown_line(*answer)),
+        Reply::Counted => push(out, b"counted\n"),
+        _ => {
+            push_text(out, reply)?;
+            push(out, b"\n")
+        }
+    }
 }
 
 /// Puts the lines of a reply behind what is there. At `NoMemory` nothing changes.
