@@ -11,8 +11,10 @@ use Rattle.farm_kinds.specs.Kinds.{kind_named}
 use Rattle.farm_kinds.specs.Names.{name_read, jury}
 use Rattle.farm_model.specs.Numbers.{number_of}
 use Rattle.farm_model.specs.Words.{words}
-use Rattle.farm_model.specs.Grammar.{◌>>=◌, name_line, number_line, record_line, jury_event_of, host_event_of, other_event_of, unnamed_event_of, event_or_bad, read_of_words, line_read}
-use Rattle.command_text.specs.Alone.{name_alone, number_alone}
+use Rattle.farm_model.specs.Grammar.{◌>>=◌, name_line, number_line, record_line, renew_line, result_line, problem_line, replace_line, jury_event_of, host_event_of, other_event_of, unnamed_event_of, event_or_bad, read_of_words, line_read}
+use Rattle.command_text.specs.Alone.{name_alone, number_alone, kind_alone}
+use Rattle.command_text.specs.Fronts.{with_rest, first_name, first_number}
+use Rattle.command_text.specs.declared.lines.Recorded.{Recorded}
 use Rattle.command_text.specs.Recorded.{recorded_of, entry_of}
 
 of_read : {A : Type 0} (e : A → Event) (read : Option A) → (read >>= (λ x. Some (e x))) ≡ option_map e read
@@ -101,19 +103,39 @@ or_nones : (o : Option Event) → option_or None (option_or None o) ≡ o
 or_nones None = refl
 or_nones (Some e) = refl
 
-entry_read : (j t : Option ℕ) (k : Option Kind) → (j >>= (λ x. t >>= (λ y. k >>= (λ z. Some (event.Entry x y z))))) ≡ option_map entry_of (j >>= (λ x. t >>= (λ y. k >>= (λ z. Some (record { judging = x; test = y; kind = z })))))
-entry_read None t k = refl
-entry_read (Some x) None k = refl
-entry_read (Some x) (Some y) None = refl
-entry_read (Some x) (Some y) (Some z) = refl
+-- where what follows the first word is refused, whatever that word is
+none_behind : {A B : Type 0} (o : Option A) (ws : List (List ℕ)) (f : A × List (List ℕ) → Option B) → ((a : A) → f (a, ws) ≡ None) → (with_rest ws o >>= f) ≡ None
+none_behind None ws f h = refl
+none_behind (Some a) ws f h = h a
 
 -- a line of a judging, a test and a kind
+abbrev kind_behind : ℕ → ℕ × List (List ℕ) → Option Recorded
+kind_behind j test = kind_alone test.1 >>= (λ k. Some (record { judging = j; test = test.0; kind = k }))
+
+abbrev test_behind : ℕ × List (List ℕ) → Option Recorded
+test_behind judging = first_number judging.1 >>= kind_behind judging.0
+
+entry_of_kind : (j t : ℕ) (k : Option Kind) → (k >>= (λ z. Some (event.Entry j t z))) ≡ option_map entry_of (k >>= (λ z. Some (record { judging = j; test = t; kind = z })))
+entry_of_kind j t None = refl
+entry_of_kind j t (Some k) = refl
+
+entry_of_test : (j : ℕ) (t : Option ℕ) (k : List ℕ) → (t >>= (λ y. kind_named k >>= (λ z. Some (event.Entry j y z)))) ≡ option_map entry_of (with_rest (k ∷ []) t >>= kind_behind j)
+entry_of_test j None k = refl
+entry_of_test j (Some t) k = entry_of_kind j t (kind_named k)
+
+entry_of_judging : (j : Option ℕ) (t k : List ℕ) → (j >>= (λ x. number_of t >>= (λ y. kind_named k >>= (λ z. Some (event.Entry x y z))))) ≡ option_map entry_of (with_rest (t ∷ k ∷ []) j >>= test_behind)
+entry_of_judging None t k = refl
+entry_of_judging (Some j) t k = entry_of_test j (number_of t) k
+
 pub record_line_by : (ws : List (List ℕ)) → record_line ws ≡ option_map entry_of (recorded_of ws)
 record_line_by [] = refl
-record_line_by (j ∷ []) = refl
-record_line_by (j ∷ t ∷ []) = refl
-record_line_by (j ∷ t ∷ k ∷ []) = entry_read (number_of j) (number_of t) (kind_named k)
-record_line_by (j ∷ t ∷ k ∷ more ∷ ws) = refl
+record_line_by (j ∷ []) = sym (ap (option_map entry_of) (none_behind (number_of j) [] test_behind (λ x. refl)))
+record_line_by (j ∷ t ∷ []) =
+    sym (ap (option_map entry_of) (none_behind (number_of j) (t ∷ []) test_behind (λ x. none_behind (number_of t) [] (kind_behind x) (λ y. refl))))
+record_line_by (j ∷ t ∷ k ∷ []) = entry_of_judging (number_of j) t k
+record_line_by (j ∷ t ∷ k ∷ more ∷ ws) =
+    sym (ap (option_map entry_of) (none_behind (number_of j) (t ∷ k ∷ more ∷ ws) test_behind
+    (λ x. none_behind (number_of t) (k ∷ more ∷ ws) (kind_behind x) (λ y. refl))))
 
 -- a line that begins with `record`
 pub record_first : (text word : List ℕ) (ws : List (List ℕ)) → words text ≡ word ∷ ws → true ≡ bytes_eq word (codes "record") → line_read text ≡ event_or_bad (option_map entry_of (recorded_of ws))
@@ -128,3 +150,80 @@ show_first text word ws first same =
     ap read_of_words first
     ∙ ap (λ w. read_of_words (w ∷ ws)) ((bytes_eq-Decides word (codes "show")).0 (sym same))
     ∙ ap event_or_bad (or_nones (number_line event.Show ws) ∙ number_line_by event.Show ws)
+
+-- Lines that are read word by word
+
+-- a line of a name and a number
+number_behind : (e : List ℕ → ℕ → Event) (n : Option (List ℕ)) (number : List ℕ) → (n >>= (λ x. number_of number >>= (λ y. Some (e x y)))) ≡ (with_rest (number ∷ []) n >>= (λ x. number_alone x.1 >>= (λ y. Some (e x.0 y))))
+number_behind e None number = refl
+number_behind e (Some n) number = refl
+
+pub problem_line_by : (who : List ℕ) (ws : List (List ℕ)) → problem_line who ws ≡ (first_name ws >>= (λ x. number_alone x.1 >>= (λ y. Some (event.Problem who x.0 y))))
+problem_line_by who [] = refl
+problem_line_by who (n ∷ []) = sym (none_behind (name_read n) [] (λ x. number_alone x.1 >>= (λ y. Some (event.Problem who x.0 y))) (λ x. refl))
+problem_line_by who (n ∷ t ∷ []) = number_behind (event.Problem who) (name_read n) t
+problem_line_by who (n ∷ t ∷ more ∷ ws) = sym (none_behind (name_read n) (t ∷ more ∷ ws) (λ x. number_alone x.1 >>= (λ y. Some (event.Problem who x.0 y))) (λ x. refl))
+
+pub replace_line_by : (who : List ℕ) (ws : List (List ℕ)) → replace_line who ws ≡ (first_name ws >>= (λ x. number_alone x.1 >>= (λ y. Some (event.Replace who x.0 y))))
+replace_line_by who [] = refl
+replace_line_by who (n ∷ []) = sym (none_behind (name_read n) [] (λ x. number_alone x.1 >>= (λ y. Some (event.Replace who x.0 y))) (λ x. refl))
+replace_line_by who (n ∷ t ∷ []) = number_behind (event.Replace who) (name_read n) t
+replace_line_by who (n ∷ t ∷ more ∷ ws) = sym (none_behind (name_read n) (t ∷ more ∷ ws) (λ x. number_alone x.1 >>= (λ y. Some (event.Replace who x.0 y))) (λ x. refl))
+
+-- a line of a host, a judging and a test
+abbrev renewed_judging : List ℕ → ℕ × List (List ℕ) → Option Event
+renewed_judging h j = number_alone j.1 >>= (λ t. Some (event.Renew h j.0 t))
+
+abbrev renewed_host : List ℕ × List (List ℕ) → Option Event
+renewed_host h = first_number h.1 >>= renewed_judging h.0
+
+renew_test : (h : List ℕ) (j : Option ℕ) (t : List ℕ) → (j >>= (λ y. number_of t >>= (λ z. Some (event.Renew h y z)))) ≡ (with_rest (t ∷ []) j >>= renewed_judging h)
+renew_test h None t = refl
+renew_test h (Some j) t = refl
+
+renew_judging : (h : Option (List ℕ)) (j t : List ℕ) → (h >>= (λ x. number_of j >>= (λ y. number_of t >>= (λ z. Some (event.Renew x y z))))) ≡ (with_rest (j ∷ t ∷ []) h >>= renewed_host)
+renew_judging None j t = refl
+renew_judging (Some h) j t = renew_test h (number_of j) t
+
+pub renew_line_by : (ws : List (List ℕ)) → renew_line ws ≡ (first_name ws >>= (λ h. first_number h.1 >>= (λ j. number_alone j.1 >>= (λ t. Some (event.Renew h.0 j.0 t)))))
+renew_line_by [] = refl
+renew_line_by (h ∷ []) = sym (none_behind (name_read h) [] renewed_host (λ x. refl))
+renew_line_by (h ∷ j ∷ []) = sym (none_behind (name_read h) (j ∷ []) renewed_host (λ x. none_behind (number_of j) [] (renewed_judging x) (λ y. refl)))
+renew_line_by (h ∷ j ∷ t ∷ []) = renew_judging (name_read h) j t
+renew_line_by (h ∷ j ∷ t ∷ more ∷ ws) =
+    sym (none_behind (name_read h) (j ∷ t ∷ more ∷ ws) renewed_host (λ x. none_behind (number_of j) (t ∷ more ∷ ws) (renewed_judging x) (λ y. refl)))
+
+-- a line of a host, a judging, a test and a kind
+abbrev result_of_test : List ℕ → ℕ → ℕ × List (List ℕ) → Option Event
+result_of_test h j t = kind_alone t.1 >>= (λ k. Some (event.Result h j t.0 k))
+
+abbrev result_of_judging : List ℕ → ℕ × List (List ℕ) → Option Event
+result_of_judging h j = first_number j.1 >>= result_of_test h j.0
+
+abbrev result_of_host : List ℕ × List (List ℕ) → Option Event
+result_of_host h = first_number h.1 >>= result_of_judging h.0
+
+result_test : (h : List ℕ) (j : ℕ) (t : Option ℕ) (k : List ℕ) → (t >>= (λ z. kind_named k >>= (λ q. Some (event.Result h j z q)))) ≡ (with_rest (k ∷ []) t >>= result_of_test h j)
+result_test h j None k = refl
+result_test h j (Some t) k = refl
+
+result_judging : (h : List ℕ) (j : Option ℕ) (t k : List ℕ) → (j >>= (λ y. number_of t >>= (λ z. kind_named k >>= (λ q. Some (event.Result h y z q))))) ≡ (with_rest (t ∷ k ∷ []) j >>= result_of_judging h)
+result_judging h None t k = refl
+result_judging h (Some j) t k = result_test h j (number_of t) k
+
+result_host : (h : Option (List ℕ)) (j t k : List ℕ) → (h >>= (λ x. number_of j >>= (λ y. number_of t >>= (λ z. kind_named k >>= (λ q. Some (event.Result x y z q)))))) ≡ (with_rest (j ∷ t ∷ k ∷ []) h >>= result_of_host)
+result_host None j t k = refl
+result_host (Some h) j t k = result_judging h (number_of j) t k
+
+pub result_line_by : (ws : List (List ℕ)) → result_line ws ≡ (first_name ws >>= (λ h. first_number h.1 >>= (λ j. first_number j.1 >>= (λ t. kind_alone t.1 >>= (λ k. Some (event.Result h.0 j.0 t.0 k))))))
+result_line_by [] = refl
+result_line_by (h ∷ []) = sym (none_behind (name_read h) [] result_of_host (λ x. refl))
+result_line_by (h ∷ j ∷ []) = sym (none_behind (name_read h) (j ∷ []) result_of_host (λ x. none_behind (number_of j) [] (result_of_judging x) (λ y. refl)))
+result_line_by (h ∷ j ∷ t ∷ []) =
+    sym (none_behind (name_read h) (j ∷ t ∷ []) result_of_host
+    (λ x. none_behind (number_of j) (t ∷ []) (result_of_judging x) (λ y. none_behind (number_of t) [] (result_of_test x y) (λ z. refl))))
+result_line_by (h ∷ j ∷ t ∷ k ∷ []) = result_host (name_read h) j t k
+result_line_by (h ∷ j ∷ t ∷ k ∷ more ∷ ws) =
+    sym (none_behind (name_read h) (j ∷ t ∷ k ∷ more ∷ ws) result_of_host
+    (λ x. none_behind (number_of j) (t ∷ k ∷ more ∷ ws) (result_of_judging x)
+    (λ y. none_behind (number_of t) (k ∷ more ∷ ws) (result_of_test x y) (λ z. refl))))

@@ -1,5 +1,7 @@
--- The name or the number of a line that says no more.
+-- The name, the number or the kind of a line that says no more.
 use Rattle.std.specs.Prelude.{ℕ, List, [], ◌∷◌, Option, None}
+use Rattle.farm_kinds.specs.declared.kinds.Kind.{Kind}
+use Rattle.farm_kinds.specs.Kinds.{kind_named}
 use Rattle.farm_kinds.specs.Names.{name_read}
 use Rattle.farm_model.specs.Numbers.{number_of}
 
@@ -10,3 +12,7 @@ name_alone ws = None
 abbrev pub number_alone : List (List ℕ) → Option ℕ
 number_alone (number ∷ []) = number_of number
 number_alone ws = None
+
+abbrev pub kind_alone : List (List ℕ) → Option Kind
+kind_alone (kind ∷ []) = kind_named kind
+kind_alone ws = None

@@ -3,10 +3,11 @@ ghost use Rattle.farm_model.specs.Words.{words};
 ghost use Rattle.farm_kinds.specs.declared.events.Event.TheVariants as event;
 ghost use Rattle.farm_model.specs.Grammar.{name_line, batch_of, fetch_line, result_line, renew_line, host_event_of};
 
-use crate::alone::name_alone;
+use crate::alone::{kind_alone, name_alone, number_alone};
+use crate::fronts::{next_name, next_number};
 use crate::numbers::read_number;
 use crate::words::next_word;
-use farm_kinds::{Event, Kind, MAX_BATCH, Name};
+use farm_kinds::{Event, MAX_BATCH, Name};
 
 /// What `host NAME` asks.
 #[tactic(auto, using(crate::proofs::LineLemmas::name_line_by))]
@@ -62,20 +63,16 @@ fn fetch_line(rest: &[u8]) -> Option<Event>
 }
 
 /// What `result HOST J T KIND` asks.
+#[tactic(auto, using(crate::proofs::LineLemmas::result_line_by))]
 fn result_line(rest: &[u8]) -> Option<Event>
     ensures { result ≡ result_line (words rest.now) }
 {
-    let (host, rest) = next_word(rest)?;
-    let (judging, rest) = next_word(rest)?;
-    let (test, rest) = next_word(rest)?;
-    let (kind, rest) = next_word(rest)?;
-    if next_word(rest).is_some() {
+    let Some((host, rest)) = next_name(rest) else {
         return None;
-    }
-    let host = Name::read(host)?;
-    let judging = read_number(judging)?;
-    let test = read_number(test)?;
-    let kind = Kind::read(kind)?;
+    };
+    let (judging, rest) = next_number(rest)?;
+    let (test, rest) = next_number(rest)?;
+    let kind = kind_alone(rest)?;
     Some(Event::Result {
         host,
         judging,
@@ -85,18 +82,15 @@ fn result_line(rest: &[u8]) -> Option<Event>
 }
 
 /// What `renew HOST J T` asks.
+#[tactic(auto, using(crate::proofs::LineLemmas::renew_line_by))]
 fn renew_line(rest: &[u8]) -> Option<Event>
     ensures { result ≡ renew_line (words rest.now) }
 {
-    let (host, rest) = next_word(rest)?;
-    let (judging, rest) = next_word(rest)?;
-    let (test, rest) = next_word(rest)?;
-    if next_word(rest).is_some() {
+    let Some((host, rest)) = next_name(rest) else {
         return None;
-    }
-    let host = Name::read(host)?;
-    let judging = read_number(judging)?;
-    let test = read_number(test)?;
+    };
+    let (judging, rest) = next_number(rest)?;
+    let test = number_alone(rest)?;
     Some(Event::Renew {
         host,
         judging,

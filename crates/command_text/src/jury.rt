@@ -5,37 +5,33 @@ ghost use Rattle.farm_model.specs.Grammar.{problem_line, replace_line, rejudge_l
 ghost use Rattle.command_text.specs.Listed.{listed};
 
 use crate::alone::number_alone;
+use crate::fronts::next_name;
 use crate::lists::read_list;
-use crate::numbers::read_number;
 use crate::words::next_word;
 use farm_kinds::{Event, Name, NoMemory, Numbers};
 use std::alloc::Global;
 
 /// What `problem NAME N` asks.
+#[tactic(auto, using(crate::proofs::LineLemmas::problem_line_by))]
 fn problem_line(who: Name, rest: &[u8]) -> Option<Event>
     ensures { result ≡ problem_line who (words rest.now) }
 {
-    let (name, rest) = next_word(rest)?;
-    let (tests, rest) = next_word(rest)?;
-    if next_word(rest).is_some() {
+    let Some((name, rest)) = next_name(rest) else {
         return None;
-    }
-    let name = Name::read(name)?;
-    let tests = read_number(tests)?;
+    };
+    let tests = number_alone(rest)?;
     Some(Event::Problem { who, name, tests })
 }
 
 /// What `replace NAME N` asks.
+#[tactic(auto, using(crate::proofs::LineLemmas::replace_line_by))]
 fn replace_line(who: Name, rest: &[u8]) -> Option<Event>
     ensures { result ≡ replace_line who (words rest.now) }
 {
-    let (name, rest) = next_word(rest)?;
-    let (tests, rest) = next_word(rest)?;
-    if next_word(rest).is_some() {
+    let Some((name, rest)) = next_name(rest) else {
         return None;
-    }
-    let name = Name::read(name)?;
-    let tests = read_number(tests)?;
+    };
+    let tests = number_alone(rest)?;
     Some(Event::Replace { who, name, tests })
 }
 

@@ -3,6 +3,7 @@
 
 mod alone;
 mod events;
+mod fronts;
 mod hosts;
 mod jury;
 mod laws;

@@ -8,10 +8,11 @@ ghost use Rattle.farm_model.specs.Grammar.{class_named, broken_words, submit_wor
 ghost use Rattle.command_text.specs.Recorded.{recorded_of, entry_of};
 ghost use Rattle.command_text.specs.Listed.{listed, ListsSome};
 
-use crate::alone::{bare_line, number_alone};
+use crate::alone::{bare_line, kind_alone, number_alone};
+use crate::fronts::next_number;
 use crate::hosts::host_event_of;
 use crate::jury::jury_event_of;
-use crate::numbers::{read_moment, read_number};
+use crate::numbers::read_moment;
 use crate::words::next_word;
 use farm_kinds::{Class, Event, Kind, LineFault, Name, NoMemory};
 use std::alloc::Global;
@@ -100,15 +101,9 @@ impl Recorded {
 fn read_recorded(rest: &[u8]) -> Option<Recorded>
     ensures { result ≡ recorded_of (words rest.now) }
 {
-    let (judging, rest) = next_word(rest)?;
-    let (test, rest) = next_word(rest)?;
-    let (kind, rest) = next_word(rest)?;
-    if next_word(rest).is_some() {
-        return None;
-    }
-    let judging = read_number(judging)?;
-    let test = read_number(test)?;
-    let kind = Kind::read(kind)?;
+    let (judging, rest) = next_number(rest)?;
+    let (test, rest) = next_number(rest)?;
+    let kind = kind_alone(rest)?;
     Some(Recorded {
         judging,
         test,
