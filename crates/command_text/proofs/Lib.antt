@@ -6,6 +6,7 @@ pub mod LineLemmas
 pub mod PartLemmas
 pub mod ActorLemmas
 pub mod Tokens
+pub mod FrontLemmas
 pub mod Decimals
 pub mod Readable
 pub mod ListsBack

@@ -153,6 +153,25 @@ show_first text word ws first same =
 
 -- Lines that are read word by word
 
+-- the number, where nothing is behind it
+abbrev pub where_alone : Option (ℕ × List (List ℕ)) → Option ℕ
+where_alone None = None
+where_alone (Some (n, [])) = Some n
+where_alone (Some (n, w ∷ ws)) = None
+
+one_number : (n : Option ℕ) → n ≡ where_alone (with_rest [] n)
+one_number None = refl
+one_number (Some n) = refl
+
+more_words : (n : Option ℕ) (w : List ℕ) (ws : List (List ℕ)) → None ≡ where_alone (with_rest (w ∷ ws) n)
+more_words None w ws = refl
+more_words (Some n) w ws = refl
+
+pub number_alone_by : (ws : List (List ℕ)) → number_alone ws ≡ where_alone (first_number ws)
+number_alone_by [] = refl
+number_alone_by (n ∷ []) = one_number (number_of n)
+number_alone_by (n ∷ more ∷ ws) = more_words (number_of n) more ws
+
 -- a line of a name and a number
 number_behind : (e : List ℕ → ℕ → Event) (n : Option (List ℕ)) (number : List ℕ) → (n >>= (λ x. number_of number >>= (λ y. Some (e x y)))) ≡ (with_rest (number ∷ []) n >>= (λ x. number_alone x.1 >>= (λ y. Some (e x.0 y))))
 number_behind e None number = refl

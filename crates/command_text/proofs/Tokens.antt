@@ -47,6 +47,9 @@ name_byte_no_space b h = λ e. grind (arith, nat_tests)
 digit_no_space : (b : ℕ) → is_digit b ≡ true → b ≢ 32
 digit_no_space b h = λ e. grind (arith, nat_tests)
 
+pub run_of_digits : (word : List ℕ) → list_all is_digit word ≡ true → IsWord word
+run_of_digits word h = run_by is_digit digit_no_space word h
+
 some_bytes : (word : List ℕ) → is_name word ≡ true → 0 < length word
 some_bytes word h = grind (arith, nat_tests)
 
@@ -62,5 +65,5 @@ token-name word h = record {
 pub token-digits : (word : List ℕ) → 0 < length word → list_all is_digit word ≡ true → IsToken word
 token-digits word some h = record {
   some = some;
-  run = run_by is_digit digit_no_space word h;
+  run = run_of_digits word h;
 }

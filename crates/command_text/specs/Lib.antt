@@ -1,5 +1,6 @@
 pub mod Actor
 pub mod Alone
+pub mod Digits
 pub mod Fronts
 pub mod Limited
 pub mod Listed

@@ -3,7 +3,7 @@ ghost use Rattle.farm_model.specs.Words.{words};
 ghost use Rattle.farm_model.specs.Grammar.{bare_line};
 ghost use Rattle.command_text.specs.Alone.{name_alone, number_alone, kind_alone};
 
-use crate::numbers::read_number;
+use crate::fronts::next_number;
 use crate::words::next_word;
 use farm_kinds::{Event, Kind, Name};
 
@@ -27,10 +27,15 @@ pub fn name_alone(rest: &[u8]) -> Option<Name>
 }
 
 /// The number that is all that the line says.
+#[tactic(auto, using(crate::proofs::LineLemmas::number_alone_by))]
 pub fn number_alone(rest: &[u8]) -> Option<u32>
     ensures { result ≡ number_alone (words rest.now) }
 {
-    read_number(word_alone(rest)?)
+    let (number, rest) = next_number(rest)?;
+    if next_word(rest).is_some() {
+        return None;
+    }
+    Some(number)
 }
 
 /// The kind that is all that the line says.

@@ -4,7 +4,7 @@ ghost use Rattle.command_text.specs.NextWord.{IsWord};
 
 /// Where the first word begins.
 #[tactic(auto, using(crate::proofs::WordLemmas::spaces_more))]
-fn start_of(text: &[u8]) -> usize
+pub fn start_of(text: &[u8]) -> usize
     ensures within { result ≤ length text.now }
     ensures words { words (drop result text.now) ≡ words text.now }
     ensures word { result < length text.now → slice_index text.now result ≢ 32 }
