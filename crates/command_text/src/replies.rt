@@ -70,44 +70,32 @@ fn push_problem(out: &mut Vec<u8>, name: &Name, version: u32) -> Result<(), NoMe
     )
 }
 
-/// Puts a submission's number and its judging's.
+/// Puts a submission's number and its judging's. At `NoMemory` a part of it may be there.
+#[tactic(auto, using(crate::proofs::Joining::front_stays))]
 fn push_submitted(out: &mut Vec<u8>, submission: u32, judging: u32) -> Result<(), NoMemory>
     ensures ok { OnOk result (out.new.items ≡ out.old.items
         ++ join_with_byte 32 (codes "submission" ∷ decimal submission ∷ codes "judging" ∷ decimal judging ∷ [])) }
-    ensures err { OnErr result (out.new.items ≡ out.old.items) }
+    ensures err { OnErr result (take (length out.old.items) out.new.items ≡ out.old.items) }
 {
-    let mut first = Buffer::new();
-    let mut second = Buffer::new();
-    push_words(
-        out,
-        &[
-            b"submission",
-            first.format(submission).as_bytes(),
-            b"judging",
-            second.format(judging).as_bytes(),
-        ],
-    )
+    push(out, b"submission ")?;
+    push_decimal(out, submission)?;
+    push(out, b" judging ")?;
+    push_decimal(out, judging)
 }
 
-/// Puts a task that was handed out, and until when.
+/// Puts a task that was handed out, and until when. At `NoMemory` a part of it may be there.
+#[tactic(auto, using(crate::proofs::Joining::front_stays))]
 fn push_handed(out: &mut Vec<u8>, task: Task, until: u64) -> Result<(), NoMemory>
     ensures ok { OnOk result (out.new.items ≡ out.old.items
         ++ join_with_byte 32 (codes "task" ∷ decimal task.judging ∷ decimal task.test ∷ codes "until" ∷ decimal until ∷ [])) }
-    ensures err { OnErr result (out.new.items ≡ out.old.items) }
+    ensures err { OnErr result (take (length out.old.items) out.new.items ≡ out.old.items) }
 {
-    let mut judging = Buffer::new();
-    let mut test = Buffer::new();
-    let mut moment = Buffer::new();
-    push_words(
-        out,
-        &[
-            b"task",
-            judging.format(task.judging).as_bytes(),
-            test.format(task.test).as_bytes(),
-            b"until",
-            moment.format(until).as_bytes(),
-        ],
-    )
+    push(out, b"task ")?;
+    push_decimal(out, task.judging)?;
+    push(out, b" ")?;
+    push_decimal(out, u32::from(task.test))?;
+    push(out, b" until ")?;
+    push(out, Buffer::new().format(until).as_bytes())
 }
 
 /// Puts each rank, with a comma before it. At `NoMemory` a part of them may be there.
