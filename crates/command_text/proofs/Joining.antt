@@ -43,6 +43,10 @@ front_stays old added new h =
     let shorter : length old ≤ length (old ++ added) = omega (arith, length-append old added) in
     sym (take-take (length old) (length (old ++ added)) new shorter) ∙ ap (take (length old)) h ∙ take-append_seam old added
 
+-- and where the longer text was kept under a name
+pub kept_behind : (old added mid new : List ℕ) → mid ≡ old ++ added → take (length mid) new ≡ mid → take (length old) new ≡ old
+kept_behind old added mid new e h = front_stays old added new (ap (λ t. take (length t) new) (sym e) ∙ h ∙ e)
+
 -- the first word, and then each other word with a space before it
 pub words_pushed : (old mid : List ℕ) (word : Bor (List ℕ)) (words rest : List (Bor (List ℕ))) → mid ≡ old ++ word.now → words ≡ word ∷ rest
     → mid ++ spaced (word_bytes rest) ≡ old ++ join_with_byte 32 (word_bytes words)

@@ -7,7 +7,7 @@ ghost use Rattle.command_text.specs.Actor.{actor_text};
 ghost use Rattle.command_text.specs.WordGroups.{jury_words};
 ghost use Rattle.command_text.specs.WordList.{word_bytes, spaced, commas};
 
-use crate::texts::{push, push_decimal, push_number, push_spaced, push_words};
+use crate::texts::{push, push_behind_comma, push_decimal, push_number, push_spaced, push_words};
 use farm_kinds::{Class, Event, Kind, Name, NoMemory, Numbers, Text};
 use itoa::Buffer;
 use std::alloc::Global;
@@ -137,14 +137,13 @@ fn push_entry(out: &mut Vec<u8>, judging: u32, test: u32, kind: Kind) -> Result<
 }
 
 /// Puts each number, with a comma before it. At `NoMemory` a part of them may be there.
-#[tactic(auto, using(crate::proofs::Joining::commas_more, crate::proofs::Joining::front_stays))]
+#[tactic(auto, using(crate::proofs::Joining::commas_more, crate::proofs::Joining::kept_behind))]
 fn push_commas(out: &mut Vec<u8>, numbers: &[u32]) -> Result<(), NoMemory>
     ensures ok { OnOk result (out.new.items ≡ out.old.items ++ commas numbers.now) }
     ensures err { OnErr result (take (length out.old.items) out.new.items ≡ out.old.items) }
 {
     for number in numbers {
-        push(out, b",")?;
-        push_decimal(out, *number)?;
+        push_behind_comma(out, *number)?;
     }
     Ok(())
 }

@@ -9,7 +9,9 @@ ghost use Rattle.command_text.specs.WordGroups.{host_words, refusal_words};
 ghost use Rattle.command_text.specs.WordList.{spaced, commas};
 
 use crate::rows::push_rows;
-use crate::texts::{end_line, push, push_decimal, push_number, push_spaced, push_words};
+use crate::texts::{
+    end_line, push, push_behind_comma, push_decimal, push_number, push_spaced, push_words,
+};
 use farm_kinds::{Answer, How, Kind, Name, NoMemory, Reply, Task, Text, Verdict};
 use itoa::Buffer;
 use std::alloc::Global;
@@ -99,14 +101,13 @@ fn push_handed(out: &mut Vec<u8>, task: Task, until: u64) -> Result<(), NoMemory
 }
 
 /// Puts each rank, with a comma before it. At `NoMemory` a part of them may be there.
-#[tactic(auto, using(crate::proofs::Joining::commas_more, crate::proofs::Joining::front_stays))]
+#[tactic(auto, using(crate::proofs::Joining::commas_more, crate::proofs::Joining::kept_behind))]
 fn push_comma_ranks(out: &mut Vec<u8>, ranks: &[u16]) -> Result<(), NoMemory>
     ensures ok { OnOk result (out.new.items ≡ out.old.items ++ commas ranks.now) }
     ensures err { OnErr result (take (length out.old.items) out.new.items ≡ out.old.items) }
 {
     for rank in ranks {
-        push(out, b",")?;
-        push_decimal(out, *rank as u32)?;
+        push_behind_comma(out, u32::from(*rank))?;
     }
     Ok(())
 }

@@ -45,7 +45,7 @@ fn push_board_row(out: &mut Vec<u8>, number: usize, answer: Answer) -> Result<()
 }
 
 /// Puts a row for each answer, numbered from 1 on. At `NoMemory` a part of them may be there.
-#[tactic(auto, using(crate::proofs::Joining::front_stays))]
+#[tactic(auto, using(crate::proofs::Joining::kept_behind))]
 fn push_board(out: &mut Vec<u8>, answers: &[Answer]) -> Result<(), NoMemory>
     ensures ok { OnOk result (out.new.items ≡ out.old.items ++ board_lines 1 answers.now) }
     ensures err { OnErr result (take (length out.old.items) out.new.items ≡ out.old.items) }
@@ -74,7 +74,7 @@ fn push_matrix_row(out: &mut Vec<u8>, row: &MatrixRow) -> Result<(), NoMemory>
 }
 
 /// Puts the rows of a matrix. At `NoMemory` a part of them may be there.
-#[tactic(auto, using(crate::proofs::RowLemmas::matrix_more, crate::proofs::Joining::front_stays))]
+#[tactic(auto, using(crate::proofs::RowLemmas::matrix_more, crate::proofs::Joining::kept_behind))]
 fn push_matrix(out: &mut Vec<u8>, rows: &[MatrixRow]) -> Result<(), NoMemory>
     ensures ok { OnOk result (out.new.items ≡ out.old.items ++ flat_map matrix_line rows.now) }
     ensures err { OnErr result (take (length out.old.items) out.new.items ≡ out.old.items) }

@@ -23,16 +23,35 @@ pub fn push_decimal(out: &mut Vec<u8>, n: u32) -> Result<(), NoMemory>
     push(out, Buffer::new().format(n).as_bytes())
 }
 
+/// Puts a comma and a number behind what is there. At `NoMemory` the comma may be there.
+#[tactic(auto, using(crate::proofs::Joining::front_stays))]
+pub fn push_behind_comma(out: &mut Vec<u8>, n: u32) -> Result<(), NoMemory>
+    ensures ok { OnOk result (out.new.items ≡ out.old.items ++ 44 ∷ decimal n) }
+    ensures err { OnErr result (take (length out.old.items) out.new.items ≡ out.old.items) }
+{
+    push(out, b",")?;
+    push_decimal(out, n)
+}
+
+/// Puts a space and a word behind what is there. At `NoMemory` the space may be there.
+#[tactic(auto, using(crate::proofs::Joining::front_stays))]
+fn push_behind_space(out: &mut Vec<u8>, word: &[u8]) -> Result<(), NoMemory>
+    ensures ok { OnOk result (out.new.items ≡ out.old.items ++ 32 ∷ word.now) }
+    ensures err { OnErr result (take (length out.old.items) out.new.items ≡ out.old.items) }
+{
+    push(out, b" ")?;
+    push(out, word)
+}
+
 /// Puts each word, with a space before it, behind what is there.
 /// At `NoMemory` a part of them may be there.
-#[tactic(auto, using(crate::proofs::Joining::spaced_more, crate::proofs::Joining::front_stays))]
+#[tactic(auto, using(crate::proofs::Joining::spaced_more, crate::proofs::Joining::kept_behind))]
 pub fn push_spaced(out: &mut Vec<u8>, words: &[&[u8]]) -> Result<(), NoMemory>
     ensures ok { OnOk result (out.new.items ≡ out.old.items ++ spaced (word_bytes words.now)) }
     ensures err { OnErr result (take (length out.old.items) out.new.items ≡ out.old.items) }
 {
     for word in words {
-        push(out, b" ")?;
-        push(out, word)?;
+        push_behind_space(out, word)?;
     }
     Ok(())
 }
