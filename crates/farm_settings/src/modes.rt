@@ -1,6 +1,6 @@
 ghost use Rattle.std.specs.Prelude.{◌≡◌, [], IfOk};
 ghost use Rattle.serde_json.specs.View.{view, members_view};
-ghost use Rattle.farm_settings.specs.Entries.{IsReading, each_entry, mode_entry, set_mode};
+ghost use Rattle.farm_settings.specs.Entries.{IsReading, IsSet, each_entry, mode_entry, set_mode};
 
 use crate::faults::{SettingsErr, unknown_key};
 use crate::values::problem_mode_at;
@@ -13,13 +13,25 @@ pub(crate) fn modes_of(alloc: Global, entries: &Map<String, Value>) -> Result<Mo
     ensures { IsReading (each_entry set_mode [] (members_view entries.now.entries)) result }
 {
     let mut modes = Modes::new(alloc);
+    add_modes(alloc, &mut modes, entries)?;
+    Ok(modes)
+}
+
+/// Adds the modes that the entries set, up to the first fault.
+fn add_modes(
+    alloc: Global,
+    modes: &mut Modes,
+    entries: &Map<String, Value>,
+) -> Result<(), SettingsErr>
+    ensures { IsSet (each_entry set_mode modes.old (members_view entries.now.entries)) modes.new result }
+{
     for (name, value) in entries.iter() {
         let mode = named_mode(alloc, name.as_str(), value)?;
         if modes.push(mode).is_err() {
             return Err(SettingsErr::NoMemory);
         }
     }
-    Ok(modes)
+    Ok(())
 }
 
 /// The mode of the problem of a name.

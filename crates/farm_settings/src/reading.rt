@@ -42,8 +42,6 @@ fn settings_by(alloc: Global, entries: &Map<String, Value>) -> Result<Settings, 
     ensures { IsReading (each_entry set_entry standard_settings (members_view entries.now.entries)) result }
 {
     let mut settings = Settings::standard(alloc);
-    for (key, value) in entries.iter() {
-        settings.set(alloc, key.as_str(), value)?;
-    }
+    settings.set_each(alloc, entries)?;
     Ok(settings)
 }

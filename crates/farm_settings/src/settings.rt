@@ -1,15 +1,10 @@
 ghost use Rattle.std.specs.Prelude.{◌≡◌, ◌≤◌, IfOk};
-ghost use Rattle.serde_json.specs.View.{view};
 ghost use Rattle.farm_model.specs.State.{standard_settings};
-ghost use Rattle.farm_settings.specs.Entries.{IsSet, set_entry};
 
-use crate::faults::{SettingsErr, unknown_key};
-use crate::keys::Setting;
-use crate::modes::{copy_of, modes_of};
-use crate::rules::{prios_of, remaps_of};
-use crate::values::{entries_at, flag_at, mode_of, number_at};
+mod entries;
+
+use crate::modes::copy_of;
 use farm_kinds::{Mode, Modes, NoMemory, Rule};
-use serde_json::Value;
 use std::alloc::Global;
 use std::marker::Model;
 
@@ -53,31 +48,6 @@ impl Settings {
             modes: Modes::new(alloc),
             alloc,
         }
-    }
-
-    /// Sets what an entry of `farm.json` says. At an `Err` the settings are as they were.
-    pub(crate) fn set(&mut self, alloc: Global, key: &str, value: &Value) -> Result<(), SettingsErr>
-        ensures { IsSet (set_entry self.old key.now (view value.now)) self.new result }
-    {
-        let Some(setting) = Setting::read(key.as_bytes()) else {
-            return Err(unknown_key(alloc, key));
-        };
-        match setting {
-            Setting::InstructionsPerSecond => {
-                self.ips = number_at(alloc, key, value, 1000, 100_000_000)? as u32;
-            }
-            Setting::LazyEvalResults => self.mode = mode_of(flag_at(alloc, key, value)?),
-            Setting::Lease => self.lease = number_at(alloc, key, value, 1, 1_000_000)?,
-            Setting::ProblemModes => self.modes = modes_of(alloc, entries_at(alloc, key, value)?)?,
-            Setting::ResultsPrio => {
-                self.rule = prios_of(alloc, self.rule, entries_at(alloc, key, value)?)?;
-            }
-            Setting::ResultsRemap => {
-                self.rule = remaps_of(alloc, self.rule, entries_at(alloc, key, value)?)?;
-            }
-            Setting::VerificationRequired => self.verification = flag_at(alloc, key, value)?,
-        }
-        Ok(())
     }
 
     /// Equal settings.
