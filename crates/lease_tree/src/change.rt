@@ -8,7 +8,7 @@ use crate::node::{Node, Tree, join};
 use std::mem;
 
 /// Puts the node where its lease belongs.
-#[tactic(auto, using(crate::proofs::Changes::added_alone, crate::proofs::Changes::added_left, crate::proofs::Changes::added_right, crate::proofs::Changes::grown_left, crate::proofs::Changes::grown_right))]
+#[tactic(auto)]
 pub fn insert(tree: &mut Tree, order: Order, node: Box<Node>)
     ensures added { IsAdded (leases_of tree.old) (leases_of tree.new) node.value.lease }
     ensures rising { Rising order (leases_of tree.old) → find (has_key order (key_of order node.value.lease)) (leases_of tree.old) ≡ None → Rising order (leases_of tree.new) }
@@ -34,7 +34,7 @@ pub fn insert(tree: &mut Tree, order: Order, node: Box<Node>)
 }
 
 /// Takes out the node of the lease that stands there, if one does.
-#[tactic(auto, using(crate::proofs::Changes::taken_here, crate::proofs::Changes::taken_left, crate::proofs::Changes::taken_right, crate::proofs::Rises::rising_left, crate::proofs::Rises::rising_right, crate::proofs::Rises::key_left, crate::proofs::Rises::key_right, crate::proofs::Rises::key_here))]
+#[tactic(auto)]
 pub fn remove(tree: &mut Tree, order: Order, key: Key) -> Option<Box<Node>>
     ensures same { IfNone result (leases_of tree.new ≡ leases_of tree.old) }
     ensures none { Rising order (leases_of tree.old) → IfNone result (find (has_key order key) (leases_of tree.old) ≡ None) }

@@ -3,7 +3,7 @@ use Rattle.farm_model.specs.declared.records.Lease.{Lease}
 use Rattle.lease_tree.specs.declared.keys.Order.{Order}
 use Rattle.lease_tree.specs.Keys.{key_of, is_key_before, Rising, IsAdded}
 use Rattle.lease_tree.specs.Trees.{leases_of}
-use Rattle.lease_tree.proofs.Changes.{IsFree, grown_left, grown_right}
+use Rattle.lease_tree.proofs.Changes.{IsFree, added_right, grown_left, grown_right}
 use Rattle.lease_tree.proofs.change.+insert.Goals as goal
 
 -- the lease went to the left of r, or to its right
@@ -54,3 +54,16 @@ returns-else-is_heavy-2-clause-rising t c = λ up none.
     let all : leases_of c.args.tree.now ≡ leases_of root.left ++ root.lease ∷ leases_of root.right = search rules in
     let ge : is_key_before (key_of by x) (key_of by root.lease) ≡ false = search rules in
     went_right by (leases_of c.args.tree.now) (leases_of root.left) root.lease (leases_of root.right) (leases_of c.insert-else-is_before.new.tree) x all ge c.insert-else-is_before.ensures.added c.insert-else-is_before.ensures.rising up none
+
+pub returns-then-is_heavy-2-clause-added : goal.returns-then-is_heavy-2-clause-added
+returns-then-is_heavy-2-clause-added t c =
+    let root = c.deref_mut-else-is_before.result.now in
+    let all : leases_of c.args.tree.now ≡ leases_of root.left ++ root.lease ∷ leases_of root.right = search rules in
+    let new : leases_of c.rebalance-then-is_heavy-2.new.tree ≡ leases_of root.left ++ root.lease ∷ leases_of c.insert-else-is_before.new.tree = search rules in
+    rw (all, new) (added_right (leases_of root.left) root.lease (leases_of root.right) (leases_of c.insert-else-is_before.new.tree) c.args.node.value.lease c.insert-else-is_before.ensures.added)
+
+pub returns-else-is_heavy-2-clause-added : goal.returns-else-is_heavy-2-clause-added
+returns-else-is_heavy-2-clause-added t c =
+    let root = c.deref_mut-else-is_before.result.now in
+    let all : leases_of c.args.tree.now ≡ leases_of root.left ++ root.lease ∷ leases_of root.right = search rules in
+    rw all (added_right (leases_of root.left) root.lease (leases_of root.right) (leases_of c.insert-else-is_before.new.tree) c.args.node.value.lease c.insert-else-is_before.ensures.added)
