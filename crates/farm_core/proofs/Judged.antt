@@ -8,6 +8,8 @@ use Rattle.farm_kinds.specs.declared.outcomes.Fetched.{Fetched}
 use Rattle.farm_kinds.specs.declared.outcomes.Fetched.TheVariants as fetch
 use Rattle.farm_kinds.specs.declared.outcomes.Count.{Count}
 use Rattle.farm_kinds.specs.declared.outcomes.Count.TheVariants as count
+use Rattle.farm_kinds.specs.declared.outcomes.Renewed.{Renewed}
+use Rattle.farm_kinds.specs.declared.outcomes.Renewed.TheVariants as lease
 use Rattle.farm_kinds.specs.declared.outcomes.Task.{Task}
 use Rattle.farm_kinds.specs.declared.events.Event.TheVariants as event
 use Rattle.farm_kinds.specs.declared.events.Reply.{Reply}
@@ -15,10 +17,10 @@ use Rattle.farm_kinds.specs.declared.events.Reply.TheVariants as reply
 use Rattle.farm_kinds.specs.Rules.{remap_of}
 use Rattle.farm_model.specs.Refusing.{first_of, refused_or}
 use Rattle.farm_model.specs.Leases.{held_count}
-use Rattle.farm_model.specs.Judgings.{result_refusal}
-use Rattle.farm_model.specs.Judge.{JudgeState, claim_refusal, claimed, first_open, judge_claim, hand_out, hand_out_all, open_of, fetch_refusal, batch_size, batch_from, judge_fetch, counted, judge_result}
+use Rattle.farm_model.specs.Judgings.{entry_refusal, result_refusal}
+use Rattle.farm_model.specs.Judge.{JudgeState, claim_refusal, claimed, first_open, judge_claim, hand_out, hand_out_all, open_of, fetch_refusal, batch_size, batch_from, judge_fetch, counted, judge_enter, judge_result, judge_renew, renew_leases, renew_refusal}
 use Rattle.farm_model.specs.State.{State, up_number}
-use Rattle.farm_model.specs.Refusals.{claim_reply, fetch_reply, count_reply}
+use Rattle.farm_model.specs.Refusals.{claim_reply, fetch_reply, count_reply, renewed_reply}
 use Rattle.farm_model.specs.Changes.{by_judge}
 use Rattle.farm_model.specs.Farm.{farm_step, Stepped}
 use Rattle.farm_core.proofs.Stepping.{stepped_by}
@@ -29,6 +31,11 @@ judged : {R : Type 0} (s : State) (replied : R → Reply) (r : Option R) (done :
 judged s replied None done = refl
 judged s replied (Some x) done = refl
 
+judged_alone : {R : Type 0} (s : State) (replied : R → Reply) (r : Option R) (done : JudgeState × R)
+    → refused_or s (option_map replied r) (by_judge s replied (refused_or s.judge r done)) ≡ by_judge s replied (refused_or s.judge r done)
+judged_alone s replied None done = refl
+judged_alone s replied (Some x) done = refl
+
 claim_step : (s : State) (name : List ℕ) (n : ℕ) → up_number s.hosts name ≡ Some n
     → farm_step s (event.Claim name) ≡ by_judge s claim_reply (judge_claim s.judge n)
 claim_step s name n found = rw found (judged s claim_reply (claim_refusal s.judge.leases n) (claimed s.judge n (first_open s.judge)))
@@ -38,6 +45,15 @@ result_step : (s : State) (name : List ℕ) (n j t : ℕ) (kind : Kind) → up_n
 result_step s name n j t kind found =
     let given = remap_of s.judge.rule kind in
     rw found (judged s (count_reply j t) (result_refusal s.judge.judgings j t given) (counted s.judge j t given))
+
+entry_step : (s : State) (j t : ℕ) (kind : Kind) → farm_step s (event.Entry j t kind) ≡ by_judge s (count_reply j t) (judge_enter s.judge j t kind)
+entry_step s j t kind =
+    let given = remap_of s.judge.rule kind in
+    judged_alone s (count_reply j t) (entry_refusal s.judge.judgings j t given) (counted s.judge j t given)
+
+renew_step : (s : State) (name : List ℕ) (n j t : ℕ) → up_number s.hosts name ≡ Some n
+    → farm_step s (event.Renew name j t) ≡ by_judge s (renewed_reply j t) (judge_renew s.judge n j t)
+renew_step s name n j t found = rw found (judged s (renewed_reply j t) (renew_refusal s.judge n j t) (renew_leases s.judge n j))
 
 fetch_step : (s : State) (name : List ℕ) (n most : ℕ) → up_number s.hosts name ≡ Some n
     → farm_step s (event.Fetch name most) ≡ by_judge s fetch_reply (judge_fetch s.judge n most)
@@ -61,6 +77,12 @@ count_answers j t (count.Repeat kept) = λ no. cc
 count_answers j t (count.Differs kept given) = λ no. cc
 count_answers j t count.Dropped = λ no. cc
 count_answers j t count.Counted = λ no. cc
+
+renewed_answers : (j t : ℕ) (x : Renewed) → renewed_reply j t x ≢ reply.NoMemory
+renewed_answers j t lease.NoJudging = λ no. cc
+renewed_answers j t lease.NoTest = λ no. cc
+renewed_answers j t lease.NoLease = λ no. cc
+renewed_answers j t (lease.Until until) = λ no. cc
 
 hands_count : (s : JudgeState) (host : ℕ) (tasks : List Task) → length (hand_out_all s host tasks).judgings ≡ length s.judgings
 hands_count s host [] = refl
@@ -99,3 +121,15 @@ pub result_stepped : (s : State) (name : List ℕ) (n j t : ℕ) (kind : Kind) (
 result_stepped s name n j t kind new x r found state answer replied =
     stepped_by s (event.Result name j t kind) new r (subst (λ (q : Reply). q ≢ reply.NoMemory) (sym replied) (count_answers j t x))
     (result_step s name n j t kind found ∙ ap (λ u. (u, count_reply j t (judge_result s.judge j t kind).1)) (sym state) ∙ ap (λ y. (new, count_reply j t y)) (sym answer) ∙ ap (λ q. (new, q)) (sym replied))
+
+pub entry_stepped : (s : State) (j t : ℕ) (kind : Kind) (new : State) (x : Count) (r : Reply)
+    → new ≡ record s { judge = (judge_enter s.judge j t kind).0 } → x ≡ (judge_enter s.judge j t kind).1 → r ≡ count_reply j t x → Stepped s (event.Entry j t kind) new r
+entry_stepped s j t kind new x r state answer replied =
+    stepped_by s (event.Entry j t kind) new r (subst (λ (q : Reply). q ≢ reply.NoMemory) (sym replied) (count_answers j t x))
+    (entry_step s j t kind ∙ ap (λ u. (u, count_reply j t (judge_enter s.judge j t kind).1)) (sym state) ∙ ap (λ y. (new, count_reply j t y)) (sym answer) ∙ ap (λ q. (new, q)) (sym replied))
+
+pub renew_stepped : (s : State) (name : List ℕ) (n j t : ℕ) (new : State) (x : Renewed) (r : Reply) → up_number s.hosts name ≡ Some n
+    → new ≡ record s { judge = (judge_renew s.judge n j t).0 } → x ≡ (judge_renew s.judge n j t).1 → r ≡ renewed_reply j t x → Stepped s (event.Renew name j t) new r
+renew_stepped s name n j t new x r found state answer replied =
+    stepped_by s (event.Renew name j t) new r (subst (λ (q : Reply). q ≢ reply.NoMemory) (sym replied) (renewed_answers j t x))
+    (renew_step s name n j t found ∙ ap (λ u. (u, renewed_reply j t (judge_renew s.judge n j t).1)) (sym state) ∙ ap (λ y. (new, renewed_reply j t y)) (sym answer) ∙ ap (λ q. (new, q)) (sym replied))

@@ -1,6 +1,7 @@
-use Rattle.std.proofs.Common.{◌≡◌, ◌+◌, ◌≤◌, List, rules, sym, subst, arith, length}
+use Rattle.std.proofs.Common.{◌≡◌, ◌+◌, ◌≤◌, List, rules, sym, ap, ◌∙◌, subst, arith, length}
+use Rattle.std.proofs.lemmas.List.{length-map}
 use Rattle.farm_model.specs.declared.records.Rejudging.{Rejudging}
-use Rattle.farm_model.specs.State.{State}
+use Rattle.farm_model.specs.State.{State, current_of}
 use Rattle.rejudge_book.specs.Refusals.{AreKnown}
 use Rattle.rejudge_book.specs.Book.{Book}
 use Rattle.farm_core.specs.FarmShape.{AreKept}
@@ -31,3 +32,7 @@ invariant_of-self-2 c =
           (prepared_kept submissions judgings (length c.add_judgings.new.judge.state.judgings) (c.judgings.result + 1) c.reserve_members.new.self.rejudgings list c.as_slice.result.now
           (subst (λ (rs : List Rejudging). AreKept submissions judgings rs) (sym c.reserve_members.ensures.rejudgings) c.self.invariant.rejudgings) known next count (omega arith));
     }
+
+pub prepare_reserved-number-requires-clause-paired : goal.prepare_reserved-number-requires-clause-paired
+prepare_reserved-number-requires-clause-paired c =
+    sym (ap length c.as_slice.ensures.value ∙ ap length c.in_ok-olds.ensures ∙ length-map c.args.list.now (current_of c.deref.result.now))

@@ -5,6 +5,14 @@ use Rattle.farm_core.proofs.Aside.{by_contest}
 use Rattle.farm_core.proofs.Promising.{promised}
 use Rattle.farm_core.proofs.farm.Farm.step.Goals as goal
 
+pub returns-in-Host-clause-stepped : goal.returns-in-Host-clause-stepped
+returns-in-Host-clause-stepped c =
+    by_contest c.self.inside.contest c.bring_up.new.self c.args.self.now c.self.inside.audit.texts c.args.event.now _ c.bring_up.result
+    c.self.view_is c.in-Host.is (record { unaudited = refl; other = λ e. cc }) c.bring_up.ensures
+
+pub returns-in-Host-clause-promise : goal.returns-in-Host-clause-promise
+returns-in-Host-clause-promise c = promised _ _ _ _ (returns-in-Host-clause-stepped c)
+
 pub returns-in-Submit-clause-stepped : goal.returns-in-Submit-clause-stepped
 returns-in-Submit-clause-stepped c =
     by_contest c.self.inside.contest c.submit.new.self c.args.self.now c.self.inside.audit.texts c.args.event.now _ c.submit.result
@@ -57,6 +65,9 @@ pub returns-in-Down-clause-stepped : goal.returns-in-Down-clause-stepped
 returns-in-Down-clause-stepped c =
     by_contest c.self.inside.contest c.bring_down.new.self c.args.self.now c.self.inside.audit.texts c.args.event.now _ c.bring_down.result
     c.self.view_is c.in-Down.is (record { unaudited = refl; other = λ e. cc }) c.bring_down.ensures
+
+pub returns-in-Down-clause-promise : goal.returns-in-Down-clause-promise
+returns-in-Down-clause-promise c = promised _ _ _ _ (returns-in-Down-clause-stepped c)
 
 pub returns-in-Show-clause-stepped : goal.returns-in-Show-clause-stepped
 returns-in-Show-clause-stepped c =
