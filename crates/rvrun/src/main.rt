@@ -12,8 +12,8 @@ mod report;
 mod words;
 
 use crate::report::{Report, run_to_end};
-use crate::words::{Command, read_words};
-use farm_kinds::raw_image;
+use crate::words::read_words;
+use farm_kinds::{Limits, raw_image};
 use rv_machine::{Ending, Files, Machine, Trap};
 use std::alloc::{AllocError, Global};
 use std::io::{Read, Write};
@@ -48,11 +48,17 @@ fn main(rt: HostRuntime) -> ExitCode {
 /// Runs the image that the words name, and gives the status.
 fn run(rt: &HostRuntime) -> io::Result<u8> {
     let words = env::args(rt)?.collect::<Vec<String>>(rt.alloc())?;
-    let Some(command) = read_words(words.as_slice()) else {
-        rt.eprint(USAGE)?;
-        return Ok(2);
-    };
-    let path = command.image;
+    match read_words(words.as_slice()) {
+        Some(command) => run_command(rt, command.image, command.limits),
+        None => {
+            rt.eprint(USAGE)?;
+            Ok(2)
+        }
+    }
+}
+
+/// Runs the image at a path within limits, and gives the status.
+fn run_command(rt: &HostRuntime, path: &str, limits: Limits) -> io::Result<u8> {
     let image = match fs::read(rt, path) {
         Ok(image) => image,
         Err(error) => {
@@ -64,33 +70,47 @@ fn run(rt: &HostRuntime) -> io::Result<u8> {
         eprintln!(rt; "rvrun: {path} is no raw image, which has 1 to 262,144 words of 4 bytes")?;
         return Ok(1);
     }
-    run_image(rt, &command, image.as_slice())?;
+    run_image(rt, limits, image.as_slice())?;
     Ok(0)
 }
 
-/// Runs an image, writes its output and says how it ended.
-fn run_image(rt: &HostRuntime, command: &Command<'_>, image: &[u8]) -> io::Result<()>
+/// Runs an image on standard input, writes its output and says how it ended.
+fn run_image(rt: &HostRuntime, limits: Limits, image: &[u8]) -> io::Result<()>
     requires { is_raw_image image.now ≡ true }
 {
     let mut stdin = Vec::new(rt.alloc());
     rt.reader().read_to_end(&mut stdin)?;
-    let files = Files {
-        stdin: stdin.as_slice(),
-        extra: None,
-    };
+    run_on(rt, limits, image, stdin.as_slice())
+}
+
+/// Runs an image on this input, writes its output and says how it ended.
+fn run_on(rt: &HostRuntime, limits: Limits, image: &[u8], stdin: &[u8]) -> io::Result<()>
+    requires { is_raw_image image.now ≡ true }
+{
+    let files = Files { stdin, extra: None };
     let start = Instant::now(rt)?;
-    let loaded = Machine::load(rt.alloc(), image, command.limits, files);
+    let loaded = Machine::load(rt.alloc(), image, limits, files);
     let load = start.elapsed(rt)?.as_nanos();
-    let Ok(mut machine) = loaded else {
-        return rt.eprintln("ending nomemory");
-    };
+    match loaded {
+        Ok(mut machine) => run_machine(rt, &mut machine, load),
+        Err(_) => rt.eprintln("ending nomemory"),
+    }
+}
+
+/// Runs a machine that took so many nanoseconds to load, writes its output and says how it ended.
+fn run_machine(rt: &HostRuntime, machine: &mut Machine<'_>, load: u128) -> io::Result<()> {
     let start = Instant::now(rt)?;
-    let ended = run_to_end(&mut machine);
+    let ended = run_to_end(machine);
     let run = start.elapsed(rt)?.as_nanos();
     io::writer(rt).write_all(machine.output())?;
-    let Ok(report) = ended else {
-        return rt.eprintln("ending nomemory");
-    };
+    match ended {
+        Ok(report) => tell(rt, report, load, run),
+        Err(_) => rt.eprintln("ending nomemory"),
+    }
+}
+
+/// Writes the line on standard error.
+fn tell(rt: &HostRuntime, report: Report, load: u128, run: u128) -> io::Result<()> {
     let Report {
         ending,
         cost,
