@@ -20,10 +20,13 @@ with_tests files path ips yaml ms flags tests =
     and_then (λ check. Ok record { name = yaml.name; tests = tests; limits = limits_of yaml ms ips; check = check })
     (check_by files path yaml.flags flags tests)
 
+-- the tests of the folder `data`
+abbrev pub data_in : List TreeFile → List ℕ → Result (List Test) PackageFault
+data_in files path = and_then (tests_in files path) (stems_of (data_of path) (paths_below (data_of path) files))
+
 abbrev pub with_flags : List TreeFile → List ℕ → ℕ → YamlValue → ℕ → Option ValidatorFlags → Result Package PackageFault
 with_flags files path ips yaml ms flags =
-    and_then (with_tests files path ips yaml ms flags)
-    (and_then (tests_in files path) (stems_of (data_of path) (paths_below (data_of path) files)))
+    and_then (with_tests files path ips yaml ms flags) (data_in files path)
 
 abbrev pub with_yaml : List TreeFile → List ℕ → ℕ → YamlValue → Result Package PackageFault
 with_yaml files path ips yaml =

@@ -2,7 +2,8 @@ ghost use Rattle.std.specs.Prelude.{◌≡◌, ◌≢◌, ◌≤◌, length, IfO
 ghost use Rattle.farm_io.specs.Streams.{Rose};
 ghost use Rattle.package_folder.specs.Told.{WhereTold, Answers};
 ghost use Rattle.package_folder.specs.Paths.{texts};
-ghost use Rattle.package_folder.specs.Package.{package_of, IsPackage};
+ghost use Rattle.package_folder.specs.Names.{test_limit};
+ghost use Rattle.package_folder.specs.Package.{package_of, data_in, IsPackage};
 ghost use Rattle.package_folder.specs.Reading.{yaml_in, limit_in, flags_by, data_of, tests_in, test_at, held_at, total_limit, total_or, total_with_bytes, total_with_test};
 
 use crate::checking::check_by;
@@ -38,10 +39,7 @@ pub fn read_package<T: Tree>(
     let yaml = read_settings(alloc, tree, path)?;
     let ms = read_limit(alloc, tree, path)?;
     let flags = read_flags(&yaml)?;
-    let folder = in_folder(alloc, path, "data")?;
-    let paths = walk(alloc, tree, folder.as_str())?;
-    let stems = stems_of(alloc, folder.as_str(), &paths)?;
-    let tests = read_tests(alloc, tree, path, folder.as_str(), stems.as_slice())?;
+    let tests = read_data(alloc, tree, path)?;
     let limits = limits(&yaml, ms, ips);
     let Yaml {
         name,
@@ -106,6 +104,21 @@ fn read_flags(yaml: &Yaml) -> Result<Option<Flags>, PackageFault>
             Err(fault) => Err(PackageFault::Flags(fault)),
         },
     }
+}
+
+/// The tests of the folder `data`.
+fn read_data<T: Tree>(alloc: Global, tree: &mut T, path: &str) -> Result<Tests, PackageFault>
+    ensures tests { WhereTold (T.files tree.old) (λ files. Answers result (data_in files path.now)) }
+    ensures some { IfOk result (λ tests. 1 ≤ length tests) }
+    ensures few { IfOk result (λ tests. length tests ≤ test_limit) }
+    ensures same { T.files tree.new ≡ T.files tree.old }
+    ensures later { T.faults tree.old ≤ T.faults tree.new }
+    ensures cause { result ≡ Err PackageFault.Tree → Rose (T.faults tree.old) (T.faults tree.new) }
+{
+    let folder = in_folder(alloc, path, "data")?;
+    let paths = walk(alloc, tree, folder.as_str())?;
+    let stems = stems_of(alloc, folder.as_str(), &paths)?;
+    read_tests(alloc, tree, path, folder.as_str(), stems.as_slice())
 }
 
 /// The tests, with the bytes of their files.
