@@ -7,7 +7,7 @@ mod report;
 use crate::faults::fault_text;
 use crate::report::report;
 use farm_tree::DiskTree;
-use package_folder::read_package;
+use package_folder::{Package, PackageFault, read_package};
 use std::io::Write;
 use std::process::ExitCode;
 use std::{env, io};
@@ -38,22 +38,34 @@ fn main(rt: HostRuntime) -> ExitCode {
 /// Reads the package that the words name, and gives the status.
 fn run(rt: &HostRuntime) -> io::Result<u8> {
     let words = env::args(rt)?.collect::<Vec<String>>(rt.alloc())?;
-    let [_, folder] = words.as_slice() else {
-        rt.eprint(USAGE)?;
-        return Ok(2);
-    };
-    let path = folder.as_str();
-    let mut tree = DiskTree::new(rt, rt.alloc());
-    match read_package(rt.alloc(), &mut tree, path, INSTRUCTIONS_PER_SECOND) {
-        Ok(package) => {
-            let text = report(rt.alloc(), &package)?;
-            io::writer(rt).write_all(text.as_slice())?;
-            Ok(0)
-        }
-        Err(fault) => {
-            let text = fault_text(rt.alloc(), &fault)?;
-            eprintln!(rt; "package_info: {path}: {text}")?;
-            Ok(1)
+    match words.as_slice() {
+        [_, folder] => tell(rt, folder.as_str()),
+        _ => {
+            rt.eprint(USAGE)?;
+            Ok(2)
         }
     }
+}
+
+/// Reads the package in the folder at the path, tells what it has, and gives the status.
+fn tell(rt: &HostRuntime, path: &str) -> io::Result<u8> {
+    let mut tree = DiskTree::new(rt, rt.alloc());
+    match read_package(rt.alloc(), &mut tree, path, INSTRUCTIONS_PER_SECOND) {
+        Ok(package) => tell_package(rt, &package),
+        Err(fault) => tell_fault(rt, path, &fault),
+    }
+}
+
+/// Prints what a package has.
+fn tell_package(rt: &HostRuntime, package: &Package) -> io::Result<u8> {
+    let text = report(rt.alloc(), package)?;
+    io::writer(rt).write_all(text.as_slice())?;
+    Ok(0)
+}
+
+/// Says why the folder at the path is no package.
+fn tell_fault(rt: &HostRuntime, path: &str, fault: &PackageFault) -> io::Result<u8> {
+    let text = fault_text(rt.alloc(), fault)?;
+    eprintln!(rt; "package_info: {path}: {text}")?;
+    Ok(1)
 }
