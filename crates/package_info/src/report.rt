@@ -5,16 +5,25 @@ use std::alloc::{AllocError, Global};
 /// What a package has, in lines.
 pub fn report(alloc: Global, package: &Package) -> Result<Vec<u8>, AllocError> {
     let mut text = Vec::new(alloc);
+    push_package(alloc, &mut text, package)?;
+    Ok(text)
+}
+
+fn push_package(alloc: Global, text: &mut Vec<u8>, package: &Package) -> Result<(), AllocError> {
+    let tests = package.tests.as_slice();
     text.extend_from_slice(b"name ")?;
     text.extend_from_slice(package.name.as_slice())?;
     text.extend_from_slice(limits_line(alloc, package.limits)?.as_bytes())?;
     text.extend_from_slice(check_line(&package.check))?;
-    for test in package.tests.as_slice() {
-        push_test(alloc, &mut text, test)?;
+    for test in tests {
+        push_test(alloc, text, test)?;
     }
-    let count = package.tests.as_slice().len();
-    text.extend_from_slice(format!(in alloc; "tests {count}\n")?.as_bytes())?;
-    Ok(text)
+    push_count(alloc, text, tests.len())
+}
+
+fn push_count(alloc: Global, text: &mut Vec<u8>, count: usize) -> Result<(), AllocError> {
+    let line = format!(in alloc; "tests {count}\n")?;
+    text.extend_from_slice(line.as_bytes())
 }
 
 fn limits_line(alloc: Global, limits: Limits) -> Result<String, AllocError> {
@@ -34,9 +43,19 @@ fn check_line(check: &Checker) -> &'static [u8] {
 }
 
 fn push_test(alloc: Global, text: &mut Vec<u8>, test: &Test) -> Result<(), AllocError> {
-    let input = test.input.as_slice().len();
-    let answer = test.answer.as_slice().len();
     text.extend_from_slice(b"test ")?;
     text.extend_from_slice(test.name.as_slice())?;
-    text.extend_from_slice(format!(in alloc; " input {input} answer {answer}\n")?.as_bytes())
+    let input = test.input.as_slice().len();
+    let answer = test.answer.as_slice().len();
+    push_sizes(alloc, text, input, answer)
+}
+
+fn push_sizes(
+    alloc: Global,
+    text: &mut Vec<u8>,
+    input: usize,
+    answer: usize,
+) -> Result<(), AllocError> {
+    let sizes = format!(in alloc; " input {input} answer {answer}\n")?;
+    text.extend_from_slice(sizes.as_bytes())
 }
