@@ -150,7 +150,8 @@ refusal_more bytes more end.ReadFault o y = absurd o
 refusal_more bytes more end.InputLimit o y = absurd o
 refusal_more bytes more end.NoMemory o y = absurd o
 
-head_some : (h : RequestHead) → 0 < length h.method → 0 < length (print_request h)
+-- a head has a byte
+pub head_some : (h : RequestHead) → 0 < length h.method → 0 < length (print_request h)
 unfolding print_request
 head_some h some = simp length-append (omega (arith, some))
 

@@ -1,10 +1,10 @@
 -- What is found at the front of a window.
-use Rattle.std.proofs.Common.{ℕ, min, ◌≡◌, ◌-◌, ◌≤◌, ◌<◌, ◌⊎◌, inl, inr, List, [], ◌∷◌, ◌++◌, Option, Some, Result, Ok, Err, IfErr, IfOk, Bool, true, false, eqb, refl, sym, ap, ◌∙◌, subst, arith, length, take, drop}
+use Rattle.std.proofs.Common.{ℕ, min, ◌≡◌, ◌+◌, ◌-◌, ◌≤◌, ◌<◌, ◌⊎◌, inl, inr, List, [], ◌∷◌, ◌++◌, Option, Some, Result, Ok, Err, IfErr, IfOk, Bool, true, false, eqb, refl, sym, ap, ◌∙◌, subst, arith, length, take, drop}
 use Rattle.std.proofs.lemmas.Bool.{cases_lt}
 use Rattle.std.proofs.lemmas.Bool.Decides.{nat_tests}
 use Rattle.std.proofs.lemmas.List.{take_all, take-append-drop, take-append-le, drop-append-le, length-append, length-take, length-drop}
 use Rattle.httparse.specs.declared.spans.Span.{Span}
-use Rattle.httparse.specs.Grammar.{RequestHead, HasNoRequest, MayBecomeRequest}
+use Rattle.httparse.specs.Grammar.{RequestHead, print_request, HasNoRequest, MayBecomeRequest}
 use Rattle.httparse.specs.Spans.{span_bytes}
 use Rattle.farm_io.specs.declared.block.Stop.{Stop}
 use Rattle.farm_io.specs.declared.block.Stop.TheVariants as stop
@@ -19,8 +19,8 @@ use Rattle.http_door.specs.declared.fields.Framing.TheVariants as framing
 use Rattle.http_door.specs.Heads.{head_limit, framing_of, Shows}
 use Rattle.http_door.specs.Requests.{IsHead, IsWithinHead, IsWithinBody, IsLongHead, EndsAs, IsRefusal}
 use Rattle.http_door.specs.WindowValue.{WindowValue}
-use Rattle.http_door.specs.Finding.{ShowsHead, HasShown, IsLooked, IsEndOf, Stops, ended_by, IsSized}
-use Rattle.http_door.proofs.Cutting.{head_more}
+use Rattle.http_door.specs.Finding.{ShowsHead, HasShown, IsLooked, IsEndOf, Stops, StopsOrShows, ended_by, IsSized, HasWhole}
+use Rattle.http_door.proofs.Cutting.{head_more, head_some}
 
 take_min_at : (lim : ℕ) (bytes : List ℕ) → (length bytes < lim) ⊎ (lim ≤ length bytes) → take (min (length bytes) lim) bytes ≡ take lim bytes
 take_min_at lim bytes (inl h) =
@@ -122,7 +122,7 @@ some_is : (xs : List ℕ) → eqb (length xs) 0 ≡ false → 0 < length xs
 some_is xs h = grind (arith, nat_tests)
 
 -- a count that rose since has risen
-rose_from : (before was now : ℕ) → before ≤ was → Rose was now → Rose before now
+pub rose_from : (before was now : ℕ) → before ≤ was → Rose was now → Rose before now
 rose_from before was now le h = omega (arith, le, h)
 
 -- the bytes stop within a head, or between requests
@@ -136,6 +136,22 @@ stopped_head left before was now w stop.ReadFault empty is h le end cause limit 
     record { ends = inl h; end = (λ e. cc, λ e. cc); fault = λ e. rose_from before was now le (cause.failed refl); limit = λ e. cc }
 stopped_head left before was now w stop.InputLimit empty is h le end cause limit =
     record { ends = inl h; end = (λ e. cc, λ e. cc); fault = λ e. cc; limit = λ e. limit refl }
+
+-- a head or a refusal that stands at the front where the bytes stop, or neither
+pub last_ok : (w : WindowValue) (bytes : List ℕ) (s : Stop) (r : Result Seen Ending) → bytes ≡ w.ahead → StopsOrShows bytes s r → IfOk r (HasShown w.ahead)
+last_ok w bytes s r e (inl h) = looked_ok w bytes r e h
+last_ok w bytes s r e (inr h) = subst (λ (z : Result Seen Ending). IfOk z (HasShown w.ahead)) (sym h.1) tt
+
+pub last_err : (left : Option (List ℕ)) (before was now : ℕ) (w : WindowValue) (bytes : List ℕ) (s : Stop) (r : Result Seen Ending) → bytes ≡ w.ahead → StopsOrShows bytes s r → before ≤ was
+    → IsEnded (Some s) left → HasCauseStop was now (Some s) → (Some s ≡ Some stop.InputLimit → w.taken ≡ input_limit) → IfErr r (Stops left before now w)
+last_err left before was now w bytes s r e (inl h) le end cause limit = looked_err left before now w bytes r e h
+last_err left before was now w bytes s r e (inr h) le end cause limit =
+    subst (λ (z : Result Seen Ending). IfErr z (Stops left before now w)) (sym h.1)
+    (stopped_head left before was now w s (eqb (length bytes) 0) (ap (λ z. eqb (length z) 0) e) (subst IsWithinHead e h.0) le end cause limit)
+
+-- want of memory may come at any time
+pub no_memory : (left : Option (List ℕ)) (before now : ℕ) (w : WindowValue) → Stops left before now w ending.NoMemory
+no_memory left before now w = record { ends = tt; end = (λ e. cc, λ e. cc); fault = λ e. cc; limit = λ e. cc }
 
 -- the bytes stop within a body
 pub stopped_body : (left : Option (List ℕ)) (before was now : ℕ) (w : WindowValue) (s : Stop) → IsWithinBody w.ahead → 0 < length w.ahead → before ≤ was
@@ -167,3 +183,22 @@ pub sized_err : (left : Option (List ℕ)) (before now : ℕ) (w : WindowValue) 
 sized_err left before now w s e x h =
     let r = sized_err_at w.ahead x.0 (drop s.len w.ahead) e s.framing x.1.framing x.1.is_head h in
     refused left before now w e r.0 r.1
+
+-- a head and its body, where enough bytes stand behind the head
+pub shown_whole : (bytes : List ℕ) (s : Seen) (n : ℕ) → (h : RequestHead) × ShowsHead bytes h s × (framing_of h ≡ framing.Sized n) → s.len + n ≤ length bytes → HasWhole bytes (record { seen = s; len = n })
+shown_whole bytes s n h le = record { head = h.0; shows = h.1; framing = h.2; within = le }
+
+pub shown_more_whole : (bytes more all : List ℕ) (s : Seen) (n : ℕ) → all ≡ bytes ++ more → (h : RequestHead) × ShowsHead bytes h s × (framing_of h ≡ framing.Sized n) → s.len + n ≤ length all → HasWhole all (record { seen = s; len = n })
+shown_more_whole bytes more all s n e h le = record { head = h.0; shows = shown_still bytes more all h.0 s e h.1; framing = h.2; within = le }
+
+-- a head whose body is not whole
+pub shown_within : (bytes more all : List ℕ) (s : Seen) (n : ℕ) → all ≡ bytes ++ more → (h : RequestHead) × ShowsHead bytes h s × (framing_of h ≡ framing.Sized n) → length all < s.len + n → IsWithinBody all
+shown_within bytes more all s n e h le =
+    let x = shown_still bytes more all h.0 s e h.1 in
+    record { head = h.0; rest = drop s.len all; len = n; is_head = x.is_head; framing = h.2; short = omega (arith, x.within, le, length-drop s.len all) }
+
+-- a head that is shown has a byte
+pub shown_some : (bytes more all : List ℕ) (h : RequestHead) (s : Seen) → all ≡ bytes ++ more → ShowsHead bytes h s → 0 < length all
+shown_some bytes more all h s e x =
+    let r = x.is_head.reads in
+    omega (arith, head_some h r.0.method.0, ap length r.1, ap length e, length-append bytes more, length-append (print_request h) (drop s.len bytes))

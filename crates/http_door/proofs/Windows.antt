@@ -1,6 +1,6 @@
 -- The bytes of a window, as they are taken and given out.
 use Rattle.std.proofs.Common.{ℕ, ◌≡◌, ◌+◌, ◌-◌, ◌≤◌, ◌<◌, ◌⊎◌, inl, inr, List, [], ◌++◌, Option, refl, sym, ap, ◌∙◌, arith, length, take, drop, slice_range, append_assoc}
-use Rattle.std.specs.Io.KnownBytes.{Keeps}
+use Rattle.std.specs.Io.KnownBytes.{Consumes}
 use Rattle.std.proofs.lemmas.List.{append-nil, length-append, length-take, drop-drop, drop-take, drop_all}
 use Rattle.std.proofs.KnownBytes.{Consumes-nil, Consumes-trans, Consumes-kept}
 use Rattle.std.proofs.lemmas.Bool.{cases_lt}
@@ -15,8 +15,12 @@ use Rattle.http_door.specs.WindowValue.{WindowValue, Fills, Refills, CountWithin
 pub Fills-refl : (left : Option (List ℕ)) (w : WindowValue) → Fills left left w w
 Fills-refl left w = record { front = []; took = Consumes-nil left; count = omega arith; whole = sym (append-nil w.ahead); size = omega arith }
 
-pub Fills-none : (left left' : Option (List ℕ)) (w v : WindowValue) → Keeps left left' → v ≡ w → Fills left left' w v
-Fills-none left left' w v k e = rw e (record { front = []; took = Consumes-kept left left left' [] (Consumes-nil left) k; count = omega arith; whole = sym (append-nil w.ahead); size = omega arith })
+pub Fills-none : (left left' : Option (List ℕ)) (w v : WindowValue) → Consumes left left' [] → v ≡ w → Fills left left' w v
+Fills-none left left' w v k e = rw e (record { front = []; took = k; count = omega arith; whole = sym (append-nil w.ahead); size = omega arith })
+
+-- nothing came, and there may be room for more
+pub Fills-more : (left : Option (List ℕ)) (w v : WindowValue) → v.ahead ≡ w.ahead → v.taken ≡ w.taken → w.size ≤ v.size → Fills left left w v
+Fills-more left w v e t le = record { front = []; took = Consumes-nil left; count = omega (arith, t); whole = e ∙ sym (append-nil w.ahead); size = le }
 
 -- one piece after another
 pub Fills-trans : (l1 l2 l3 : Option (List ℕ)) (a b c : WindowValue) → Fills l1 l2 a b → Fills l2 l3 b c → Fills l1 l3 a c
@@ -50,6 +54,22 @@ refilled left left' moved bytes' ahead held room taken.End is front took =
     (Consumes-kept left left left' [] (Consumes-nil left) took.1, took.2, range-zero bytes' held ∙ front ∙ is)
 refilled left left' moved bytes' ahead held room taken.Failed is front took =
     (Consumes-kept left left left' [] (Consumes-nil left) took, range-zero bytes' held ∙ front ∙ is)
+
+-- a piece came behind what was ahead
+pub filled : (l1 l2 : Option (List ℕ)) (old new : WindowValue) (ahead bytes : List ℕ) (held n : ℕ) → Refills l1 l2 ahead (taken.Bytes n) held bytes
+    → old.ahead ≡ ahead → new.ahead ≡ slice_range bytes 0 (held + n) → new.taken ≡ old.taken + n → old.size ≤ new.size → Fills l1 l2 old new
+filled l1 l2 old new ahead bytes held n r a b t le = record {
+  front = r.0;
+  took = r.1;
+  count = t ∙ ap (λ z. old.taken + z) (sym r.2);
+  whole = b ∙ r.3 ∙ ap (λ z. z ++ r.0) (sym a);
+  size = le;
+}
+
+-- a window is its three fields
+pub same_window : (v w : WindowValue) → v.ahead ≡ w.ahead → v.taken ≡ w.taken → v.size ≡ w.size → v ≡ w
+same_window v w a t e =
+    rw (← a, ← t, ← e) refl
 
 pub count_within : (left left' : Option (List ℕ)) (bytes' : List ℕ) (held room space most : ℕ) (r : Taken)
     → Takes left left' r (slice_range bytes' held (held + room)) → room ≤ space → room ≤ most → CountWithin r space most

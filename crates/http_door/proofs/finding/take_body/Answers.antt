@@ -1,0 +1,54 @@
+use Rattle.std.proofs.Common.{refl, ap, arith, length}
+use Rattle.http_door.proofs.Windows.{Fills-refl, Fills-more, Fills-trans}
+use Rattle.http_door.proofs.Findings.{no_memory, stopped_body, shown_whole, shown_more_whole, shown_within, shown_some}
+use Rattle.http_door.proofs.finding.take_body.Goals as goal
+
+pub returns-then-ahead-need-clause-fills : goal.returns-then-ahead-need-clause-fills
+returns-then-ahead-need-clause-fills g c = Fills-refl _ _
+
+pub returns-then-ahead-need-clause-ok : goal.returns-then-ahead-need-clause-ok
+returns-then-ahead-need-clause-ok g c = shown_whole _ _ _ c.requires.shows (omega (arith, c.if-ahead-need.true, ap length c.ahead.ensures))
+
+pub returns-in-Err-clause-fills : goal.returns-in-Err-clause-fills
+returns-in-Err-clause-fills g c = Fills-more _ _ _ c.grow.ensures.ahead c.grow.ensures.taken c.grow.ensures.more
+
+pub returns-in-Err-clause-err : goal.returns-in-Err-clause-err
+returns-in-Err-clause-err g c = no_memory _ _ _ _
+
+pub returns-in-Err-clause-small : goal.returns-in-Err-clause-small
+returns-in-Err-clause-small g c = λ q. omega (arith, q, c.grow.ensures.no_more, c.requires.small, c.requires.shows.1.short)
+
+pub returns-in-Err-clause-held : goal.returns-in-Err-clause-held
+returns-in-Err-clause-held g c = λ q. absurd (omega (arith, q, c.if-ahead-need.false, ap length c.ahead.ensures))
+
+pub returns-in-Some-clause-fills : goal.returns-in-Some-clause-fills
+returns-in-Some-clause-fills g c =
+    Fills-trans _ _ _ _ _ _ (Fills-more _ _ _ c.grow.ensures.ahead c.grow.ensures.taken c.grow.ensures.more) c.wait_for.ensures.fills
+
+pub returns-in-Some-clause-err : goal.returns-in-Some-clause-err
+returns-in-Some-clause-err g c =
+    let f = Fills-trans _ _ _ c.args.window.now _ c.wait_for.new.window (Fills-more (g.S.Source.left c.args.source.now) _ _ c.grow.ensures.ahead c.grow.ensures.taken c.grow.ensures.more) c.wait_for.ensures.fills in
+    let x = c.requires.shows in
+    rw c.ended_by.ensures
+    (stopped_body _ _ (g.S.Source.faults c.args.source.now) _ _ c.in-Some.stop (shown_within _ f.front _ c.args.seen c.args.len f.whole x (c.in-Some.ensures.short refl)) (shown_some _ f.front _ x.0 c.args.seen f.whole x.1) (omega arith) c.in-Some.ensures.end c.in-Some.ensures.cause c.in-Some.ensures.limit)
+
+pub returns-in-Some-clause-small : goal.returns-in-Some-clause-small
+returns-in-Some-clause-small g c = λ q. omega (arith, q, c.wait_for.ensures.size, c.grow.ensures.no_more, c.requires.small, c.requires.shows.1.short)
+
+pub returns-in-Some-clause-held : goal.returns-in-Some-clause-held
+returns-in-Some-clause-held g c = λ q. absurd (omega (arith, q, c.if-ahead-need.false, ap length c.ahead.ensures))
+
+pub returns-clause-fills : goal.returns-clause-fills
+returns-clause-fills g c =
+    Fills-trans _ _ _ _ _ _ (Fills-more _ _ _ c.grow.ensures.ahead c.grow.ensures.taken c.grow.ensures.more) c.wait_for.ensures.fills
+
+pub returns-clause-ok : goal.returns-clause-ok
+returns-clause-ok g c =
+    let f = Fills-trans _ _ _ c.args.window.now _ c.wait_for.new.window (Fills-more (g.S.Source.left c.args.source.now) _ _ c.grow.ensures.ahead c.grow.ensures.taken c.grow.ensures.more) c.wait_for.ensures.fills in
+    shown_more_whole _ f.front _ c.args.seen c.args.len f.whole c.requires.shows (c.in_default-wait_for.ensures.whole refl)
+
+pub returns-clause-small : goal.returns-clause-small
+returns-clause-small g c = λ q. omega (arith, q, c.wait_for.ensures.size, c.grow.ensures.no_more, c.requires.small, c.requires.shows.1.short)
+
+pub returns-clause-held : goal.returns-clause-held
+returns-clause-held g c = λ q. absurd (omega (arith, q, c.if-ahead-need.false, ap length c.ahead.ensures))
