@@ -1,13 +1,16 @@
-ghost use Rattle.std.specs.Prelude.{◌≡◌, ◌≢◌, ℕ, ◌+◌, ◌≤◌, ◌<◌, ◌^◌, None, Some, IfOk, IfErr, Err, true};
+ghost use Rattle.std.specs.Prelude.{◌≡◌, ℕ, ◌+◌, ◌≤◌, ◌<◌, ◌^◌, None, Some, IfOk, IfErr, true};
+ghost use Rattle.case_run.specs.Cases.{TestCase};
+ghost use Rattle.case_run.specs.Values.{case_value};
 ghost use Rattle.judgehost.specs.declared.bench.BenchFault.{BenchFault as FaultValue};
 ghost use Rattle.judgehost.specs.declared.gate.Point.{Point as PointValue};
-ghost use Rattle.judgehost.specs.Gates.{MayPass};
+ghost use Rattle.judgehost.specs.Gates.{MayPass, MayPost};
 ghost use Rattle.judgehost.specs.Benches.{Nothing, Refused};
-ghost use Rattle.judgehost.specs.Hosts.{Handed, left_over};
+ghost use Rattle.judgehost.specs.Hosts.{Handed, left_over, IsCause, IsUnhanded, IsUnposted};
 
 use crate::bench::{Bench, BenchFault, Claimed};
 use crate::gate::{Gate, Go, Point};
-use crate::runner::Runner;
+use crate::runner::{Done, Runner};
+use farm_kinds::Task;
 
 /// Why a host stopped.
 #[derive(Clone, Copy, Debug, PartialEq, Eq)]
@@ -72,28 +75,58 @@ fn take_turn<B: Bench, G: Gate>(
     requires turn { turn ≡ B.claims bench.old + 1 }
     requires room { turn ≤ 2 ^ 32 }
     ensures claims { B.claims bench.new ≡ turn }
-    ensures goes_on { IfOk result (λ _. B.heard bench.new ≡ None) }
-    ensures done { IfOk result (λ _. (B.tasks bench.new ≡ B.tasks bench.old + 1) × (B.posts bench.new ≡ B.posts bench.old + 1)) }
-    ensures passed { IfOk result (λ _. MayPass (G.may_answer gate.now) host turn) }
-    ensures idle { result ≡ Err HostEnd.Idle → B.heard bench.new ≡ Some Nothing }
-    ensures died { (point : PointValue) (at : ℕ) → result ≡ Err (HostEnd.Died point at) → G.may_answer gate.now host point at Go.Die ≡ true }
-    ensures turn { (point : PointValue) (at : ℕ) → result ≡ Err (HostEnd.Died point at) → at ≡ turn }
-    ensures not_spent { result ≢ Err HostEnd.Fuel }
-    ensures refused { (fault : FaultValue) → result ≡ Err (HostEnd.Bench fault) → B.heard bench.new ≡ Some (Refused fault) }
-    ensures tasks { IfErr result (λ end. Handed end (1 + B.tasks bench.old) (B.tasks bench.new)) }
-    ensures posts { IfErr result (λ end. B.posts bench.new + B.tasks bench.old + left_over end ≡ B.posts bench.old + B.tasks bench.new) }
+    ensures goes_on { IfOk result (λ _. (B.heard bench.new ≡ None) × (B.tasks bench.new ≡ B.tasks bench.old + 1)
+        × (B.posts bench.new ≡ B.posts bench.old + 1) × MayPass (G.may_answer gate.now) host turn) }
+    ensures stops { IfErr result (λ end. IsCause (G.may_answer gate.now) host turn (B.heard bench.new) end
+        × Handed end (B.tasks bench.old + 1) (B.tasks bench.new)
+        × (B.posts bench.new + B.tasks bench.old + left_over end ≡ B.posts bench.old + B.tasks bench.new)) }
     ensures later { B.faults bench.old ≤ B.faults bench.new }
     ensures fixed { B.fixed bench.new ≡ B.fixed bench.old }
 {
-    let task = match bench.claim() {
-        Claimed::Task(task) => task,
-        Claimed::Nothing => return Err(HostEnd::Idle),
-        Claimed::Refused(fault) => return Err(HostEnd::Bench(fault)),
-    };
+    let task = claim(bench)?;
     pass(gate, host, Point::AfterClaim, turn)?;
     let Ok(done) = runner.run(task, &bench.case(task)) else {
         return Err(HostEnd::NoMemory);
     };
+    post(bench, gate, host, turn, done)
+}
+
+/// Asks for a task. An error says why the host stops.
+fn claim<B: Bench>(bench: &mut B) -> Result<Task, HostEnd>
+    requires room { B.claims bench.old < 2 ^ 32 }
+    ensures claims { B.claims bench.new ≡ B.claims bench.old + 1 }
+    ensures posts { B.posts bench.new ≡ B.posts bench.old }
+    ensures task { IfOk result (λ task. (c : TestCase) × (B.pending bench.new ≡ Some (task, c))) }
+    ensures goes_on { IfOk result (λ _. (B.heard bench.new ≡ None) × (B.tasks bench.new ≡ B.tasks bench.old + 1)) }
+    ensures stops { IfErr result (λ end. IsUnhanded (B.heard bench.new) end × (B.tasks bench.new ≡ B.tasks bench.old)) }
+    ensures later { B.faults bench.old ≤ B.faults bench.new }
+    ensures fixed { B.fixed bench.new ≡ B.fixed bench.old }
+{
+    match bench.claim() {
+        Claimed::Task(task) => Ok(task),
+        Claimed::Nothing => Err(HostEnd::Idle),
+        Claimed::Refused(fault) => Err(HostEnd::Bench(fault)),
+    }
+}
+
+/// Posts the result of the pending task, and asks the gate before and after. An error says why the host stops.
+fn post<B: Bench, G: Gate>(
+    bench: &mut B,
+    gate: &G,
+    host: u32,
+    turn: u64,
+    done: Done,
+) -> Result<(), HostEnd>
+    requires value { (c : TestCase) × (B.pending bench.old ≡ Some (done.task, c)) × (done.kind ≡ case_value c) }
+    ensures claims { B.claims bench.new ≡ B.claims bench.old }
+    ensures tasks { B.tasks bench.new ≡ B.tasks bench.old }
+    ensures goes_on { IfOk result (λ _. (B.heard bench.new ≡ None) × (B.posts bench.new ≡ B.posts bench.old + 1)
+        × MayPost (G.may_answer gate.now) host turn) }
+    ensures stops { IfErr result (λ end. IsUnposted (G.may_answer gate.now) host turn (B.heard bench.new) end
+        × (B.posts bench.new + left_over end ≡ B.posts bench.old + 1)) }
+    ensures later { B.faults bench.old ≤ B.faults bench.new }
+    ensures fixed { B.fixed bench.new ≡ B.fixed bench.old }
+{
     pass(gate, host, Point::BeforePost, turn)?;
     if let Err(fault) = bench.post(done) {
         return Err(HostEnd::Bench(fault));
