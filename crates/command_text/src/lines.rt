@@ -250,16 +250,16 @@ pub fn read_line(alloc: Global, text: &[u8]) -> Result<Option<Event>, LineFault>
         return Ok(None);
     };
     if word == b"record".as_slice() {
-        return match read_recorded(rest) {
-            Some(said) => Ok(Some(said.event())),
-            None => Err(LineFault::BadLine),
+        let Some(said) = read_recorded(rest) else {
+            return Err(LineFault::BadLine);
         };
+        return Ok(Some(said.event()));
     }
     if word == b"show".as_slice() {
-        return match number_alone(rest) {
-            Some(judging) => Ok(Some(Event::Show { judging })),
-            None => Err(LineFault::BadLine),
+        let Some(judging) = number_alone(rest) else {
+            return Err(LineFault::BadLine);
         };
+        return Ok(Some(Event::Show { judging }));
     }
     if is_comment(word) {
         return Ok(None);
