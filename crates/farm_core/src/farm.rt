@@ -57,6 +57,7 @@ impl Farm {
         ensures promise { (settings : SettingsValue) (es : List Event) → self.old ≡ reached settings es
             → result ≢ Reply.NoMemory → StepKeepsPromise settings es event.now self.new result }
     {
+        // The most frequent events return at once: the reply of another arm is copied once more.
         match event {
             Event::Problem { .. } | Event::Replace { .. } | Event::Rejudge { .. } =>
                 self.answer_jury(event),
@@ -68,19 +69,19 @@ impl Farm {
                 class,
                 broken,
             } => self.contest.submit(*problem, *class, *broken),
-            Event::Claim { host } => self.contest.claim(*host),
+            Event::Claim { host } => return self.contest.claim(*host),
             Event::Fetch { host, most } => self.contest.fetch(*host, *most),
             Event::Result {
                 host,
                 judging,
                 test,
                 kind,
-            } => self.contest.result(*host, *judging, *test, *kind),
+            } => return self.contest.result(*host, *judging, *test, *kind),
             Event::Entry {
                 judging,
                 test,
                 kind,
-            } => self.contest.enter(*judging, *test, *kind),
+            } => return self.contest.enter(*judging, *test, *kind),
             Event::Renew {
                 host,
                 judging,
@@ -88,7 +89,7 @@ impl Farm {
             } => self.contest.renew(*host, *judging, *test),
             Event::Tick { moment } => self.contest.tick(*moment),
             Event::Down { host } => self.contest.bring_down(*host),
-            Event::Show { judging } => self.contest.show(*judging),
+            Event::Show { judging } => return self.contest.show(*judging),
             Event::Owner { judging } => self.contest.owner(*judging),
             Event::Board => self.contest.board(),
             Event::Matrix { rejudging } => self.contest.matrix(*rejudging),
