@@ -1,4 +1,5 @@
 use Rattle.std.proofs.Common.{ℕ, ◌≡◌, ◌≤◌, ◌+◌, List, sym, subst, arith, length}
+use Rattle.std.proofs.lemmas.Grind.{elements}
 use Rattle.farm_kinds.specs.declared.outcomes.Class.TheVariants.{Normal}
 use Rattle.task_tree.specs.Shown.{JudgingTasks, tests_listed}
 use Rattle.judging_core.specs.Listed.{IsWider}
@@ -19,3 +20,6 @@ returns-clause-wide c =
 
 pub returns-clause-wider : goal.returns-clause-wider
 returns-clause-wider c = subst (λ (ts : List JudgingTasks). IsWider c.args.tasks.now ts) (sym c.in_ok-add.ensures.added) (pushed_wider c.args.tasks.now Normal c.args.tests)
+
+pub returns-then-judging-judging_count-clause-wide : goal.returns-then-judging-judging_count-clause-wide
+returns-then-judging-judging_count-clause-wide c = grind (arith, elements)

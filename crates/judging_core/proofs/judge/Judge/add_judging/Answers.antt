@@ -1,4 +1,5 @@
 use Rattle.std.proofs.Common.{ℕ, ◌≡◌, ◌∙◌, ◌≤◌, ◌<◌, ◌+◌, rules, sym, ap, arith, List, ◌++◌, ◌∷◌, [], Bool, true, false, if◌then◌else◌, is_ok, length}
+use Rattle.std.proofs.lemmas.Grind.{common_steps}
 use Rattle.std.specs.List.{All}
 use Rattle.std.proofs.lemmas.List.{length_push, length-map, map_push, map-append}
 use Rattle.std.proofs.lemmas.List.Elements.{All-push}
@@ -61,7 +62,26 @@ invariant_of-self c =
     let listed : IsListed at.rule (judging_values at.judgings.items) at.leases.leases c.make_room.new.tasks = wider_listed at.rule (judging_values at.judgings.items) at.leases.leases at.tasks c.make_room.new.tasks c.make_room.ensures.wider c.self.invariant.listed in
     let ahead : HasRoom (length at.judgings.items) (reserved_of at.prepared.items) c.make_room.new.tasks =
     wider_ahead (length at.judgings.items) (reserved_of at.prepared.items) at.tasks c.make_room.new.tasks c.make_room.ensures.wider c.self.invariant.ahead in
-    search rules
+    record {
+      some = c.self.invariant.some;
+      short = c.self.invariant.short;
+      moment = c.self.invariant.moment;
+      few = c.self.invariant.few;
+      rows = c.self.invariant.rows;
+      ruled = c.self.invariant.ruled;
+      answered = c.self.invariant.answered;
+      few_hosts = c.self.invariant.few_hosts;
+      held = c.self.invariant.held;
+      cells = c.self.invariant.cells;
+      counted = c.self.invariant.counted;
+      roomy = c.self.invariant.roomy;
+      prepared = c.self.invariant.prepared;
+      prepared_ruled = c.self.invariant.prepared_ruled;
+      spare = c.self.invariant.spare;
+      spare_answers = c.self.invariant.spare_answers;
+      listed = listed;
+      ahead = ahead;
+    }
 
 pub invariant_of-self-in_err-make_lease_room : goal.invariant_of-self-in_err-make_lease_room
 invariant_of-self-in_err-make_lease_room c =
@@ -73,7 +93,26 @@ invariant_of-self-in_err-make_lease_room c =
     let listed : IsListed at.rule (judging_values at.judgings.items) leases.leases c.make_room.new.tasks = rw same (wider_listed at.rule (judging_values at.judgings.items) at.leases.leases at.tasks c.make_room.new.tasks c.make_room.ensures.wider c.self.invariant.listed) in
     let ahead : HasRoom (length at.judgings.items) (reserved_of at.prepared.items) c.make_room.new.tasks =
     wider_ahead (length at.judgings.items) (reserved_of at.prepared.items) at.tasks c.make_room.new.tasks c.make_room.ensures.wider c.self.invariant.ahead in
-    search rules
+    record {
+      some = c.self.invariant.some;
+      short = c.self.invariant.short;
+      moment = c.self.invariant.moment;
+      few = c.self.invariant.few;
+      rows = c.self.invariant.rows;
+      ruled = c.self.invariant.ruled;
+      answered = c.self.invariant.answered;
+      few_hosts = c.self.invariant.few_hosts;
+      held = held;
+      cells = cells;
+      counted = c.self.invariant.counted;
+      roomy = omega (arith, c.self.invariant.roomy, c.make_lease_room.ensures.grows);
+      prepared = c.self.invariant.prepared;
+      prepared_ruled = c.self.invariant.prepared_ruled;
+      spare = c.self.invariant.spare;
+      spare_answers = c.self.invariant.spare_answers;
+      listed = listed;
+      ahead = ahead;
+    }
 
 pub invariant_of-self-in_err-make_answer_room : goal.invariant_of-self-in_err-make_answer_room
 invariant_of-self-in_err-make_answer_room c =
@@ -86,7 +125,26 @@ invariant_of-self-in_err-make_answer_room c =
     let ahead : HasRoom (length at.judgings.items) (reserved_of at.prepared.items) c.make_room.new.tasks =
     wider_ahead (length at.judgings.items) (reserved_of at.prepared.items) at.tasks c.make_room.new.tasks c.make_room.ensures.wider c.self.invariant.ahead in
     let answered : c.make_answer_room.new.answers.items ≡ answers_by at.rule (judging_values at.judgings.items) = c.make_answer_room.ensures.items ∙ c.self.invariant.answered in
-    search rules
+    record {
+      some = c.self.invariant.some;
+      short = c.self.invariant.short;
+      moment = c.self.invariant.moment;
+      few = c.self.invariant.few;
+      rows = c.self.invariant.rows;
+      ruled = c.self.invariant.ruled;
+      answered = answered;
+      few_hosts = c.self.invariant.few_hosts;
+      held = held;
+      cells = cells;
+      counted = c.self.invariant.counted;
+      roomy = omega (arith, c.self.invariant.roomy, c.make_lease_room.ensures.grows);
+      prepared = c.self.invariant.prepared;
+      prepared_ruled = c.self.invariant.prepared_ruled;
+      spare = c.self.invariant.spare;
+      spare_answers = search rules;
+      listed = listed;
+      ahead = ahead;
+    }
 
 pub overflow_add-cells : goal.overflow_add-cells
 overflow_add-cells c = omega (arith, c.from.ensures, c.requires.short, c.self.invariant.counted, cells_few c.self.inside.judgings.items c.self.invariant.rows, c.self.invariant.few)
@@ -108,7 +166,26 @@ invariant_of-self-in_err-map_err c =
     let cells : AreOnEmptyCells (judging_values c.push.new.self.items) leases.leases = rw (same, c.make_lease_room.ensures.leases) c.self.invariant.cells in
     let counted : at.cells ≡ cells_in c.push.new.self.items = c.self.invariant.counted ∙ sym (ap cells_in same) in
     let answered : c.make_answer_room.new.answers.items ≡ answers_by at.rule (judging_values c.push.new.self.items) = c.make_answer_room.ensures.items ∙ c.self.invariant.answered ∙ sym (ap (λ xs. answers_by at.rule (judging_values xs)) same) in
-    search rules
+    record {
+      some = c.self.invariant.some;
+      short = c.self.invariant.short;
+      moment = c.self.invariant.moment;
+      few = few;
+      rows = rows;
+      ruled = ruled;
+      answered = answered;
+      few_hosts = c.self.invariant.few_hosts;
+      held = held;
+      cells = cells;
+      counted = counted;
+      roomy = omega (arith, c.self.invariant.roomy, c.make_lease_room.ensures.grows);
+      prepared = c.self.invariant.prepared;
+      prepared_ruled = c.self.invariant.prepared_ruled;
+      spare = search rules;
+      spare_answers = search rules;
+      listed = listed;
+      ahead = ahead;
+    }
 
 pub list_judging-requires-clause-known : goal.list_judging-requires-clause-known
 list_judging-requires-clause-known c = c.in_ok-make_room.ensures.known
@@ -157,7 +234,26 @@ invariant_of-self-2 c =
     let known : length c.push.new.self.items ≤ length c.list_judging.new.tasks = omega (arith, more, c.in_ok-make_room.ensures.known, same_size c.make_room.new.tasks c.list_judging.new.tasks c.list_judging.ensures.widths) in
     let ahead : HasRoom (length c.push.new.self.items) (reserved_of c.new.result.items) c.list_judging.new.tasks =
     rw c.new.ensures.items (room_none (length c.push.new.self.items) c.list_judging.new.tasks known) in
-    search rules
+    record {
+      some = c.self.invariant.some;
+      short = c.self.invariant.short;
+      moment = c.self.invariant.moment;
+      few = few;
+      rows = rows;
+      ruled = ruled;
+      answered = answered;
+      few_hosts = c.self.invariant.few_hosts;
+      held = held;
+      cells = cells;
+      counted = counted;
+      roomy = roomy;
+      prepared = search rules;
+      prepared_ruled = search rules;
+      spare = search rules;
+      spare_answers = search rules;
+      listed = listed;
+      ahead = ahead;
+    }
 
 -- no room is left where another number of tests was reserved
 pub returns-clause-added : goal.returns-clause-added
@@ -177,3 +273,9 @@ returns-clause-added c =
     ∙ ap (λ (judgings : List Judging). record start { state = record start.state { judgings = judgings }; reserved = [] }) seen
     ∙ ap (λ (left : List ℕ). record start { state = add_judging start.state class tests c.args.mode c.args.asked; reserved = left }) (sym (none_left start.reserved tests other))
     ∙ ap (λ (v : JudgeValue). with_judging v class tests c.args.mode c.args.asked) c.self.view_is
+
+pub make_room-requires-clause-few : goal.make_room-requires-clause-few
+make_room-requires-clause-few c = grind (arith, common_steps)
+
+pub returns-clause-number : goal.returns-clause-number
+returns-clause-number c = grind (arith, common_steps)

@@ -1,4 +1,5 @@
 use Rattle.std.proofs.Common.{ℕ, ◌≡◌, ◌≤◌, ◌<◌, ◌+◌, ◌∙◌, rules, ap, subst, arith, List, ◌++◌, ◌∷◌, [], Bool, true, false, if◌then◌else◌, length}
+use Rattle.std.proofs.lemmas.Grind.{common_steps}
 use Rattle.std.proofs.lemmas.List.{length_push, length-map, map_push}
 use Rattle.std.proofs.lemmas.List.Elements.{All-push}
 use Rattle.farm_kinds.specs.RuleValue.{RuleValue}
@@ -88,3 +89,9 @@ invariant_of-self-2 c =
     let ahead : HasRoom (length c.push_reserved.new.self.items) (reserved_of c.take_prepared.new.prepared.items) c.list_judging.new.tasks =
     ahead_kept (length at + 1) (length c.push_reserved.new.self.items) (reserved_of c.take_prepared.new.prepared.items) inside.tasks c.list_judging.new.tasks more c.list_judging.ensures.widths left in
     search rules
+
+pub returns-clause-number : goal.returns-clause-number
+returns-clause-number c = grind (arith, common_steps)
+
+pub returns-clause-added : goal.returns-clause-added
+returns-clause-added c = grind (arith, common_steps)

@@ -1,4 +1,5 @@
-use Rattle.std.proofs.Common.{ℕ, ◌≡◌, ◌≤◌, ◌-◌, ◌∙◌, Some, None, rules, not, refl, ap, sym, subst, length, List, false}
+use Rattle.std.proofs.Common.{arith, ℕ, ◌≡◌, ◌≤◌, ◌-◌, ◌∙◌, Some, None, rules, not, refl, ap, sym, subst, length, List, false}
+use Rattle.std.proofs.lemmas.Grind.{common_steps}
 use Rattle.std.proofs.lemmas.List.{length-set}
 use Rattle.farm_model.specs.Leases.{same_task, without_task}
 use Rattle.farm_model.specs.Judgings.{task_of}
@@ -98,3 +99,12 @@ returns-clause-state c =
     ap (λ (js : List Judging). record start { state = record start.state { judgings = js; leases = c.end_counted.new.leases.leases } }) c.fill.ensures.value
     ∙ ap (λ (leases : List Lease). record start { state = record start.state { judgings = new; leases = leases } }) vain
     ∙ ap (λ (v : JudgeValue). in_state v (counted v.state c.args.judging c.args.test c.args.given).0) c.self.view_is
+
+pub fill-requires-clause-known : goal.fill-requires-clause-known
+fill-requires-clause-known c = grind (arith, common_steps)
+
+pub keep_answer-requires-clause-known : goal.keep_answer-requires-clause-known
+keep_answer-requires-clause-known c = grind (arith, common_steps)
+
+pub keep_answer-requires-clause-count : goal.keep_answer-requires-clause-count
+keep_answer-requires-clause-count c = grind (arith, common_steps)

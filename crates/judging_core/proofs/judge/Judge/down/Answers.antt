@@ -19,3 +19,9 @@ invariant_of-self c =
     c.end_host.ensures.listed at.rule (judging_values at.judgings.items) fits c.self.invariant.listed in
     let ahead : HasRoom (length at.judgings.items) (reserved_of at.prepared.items) c.end_host.new.tasks = ahead_kept (length at.judgings.items) (length at.judgings.items) (reserved_of at.prepared.items) at.tasks c.end_host.new.tasks refl c.end_host.ensures.widths c.self.invariant.ahead in
     search rules
+
+pub returns-clause-state : goal.returns-clause-state
+returns-clause-state c = search rules
+
+pub returns-clause-count : goal.returns-clause-count
+returns-clause-count c = search rules

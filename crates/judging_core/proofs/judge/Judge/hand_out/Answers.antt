@@ -74,3 +74,6 @@ invariant_of-self c =
     let same : widths c.hide_task.new.self ≡ widths at.tasks = ap widths c.hide_task.ensures ∙ widths_shown at.tasks task false in
     let ahead : HasRoom (length c.mark_handed.new.judgings.items) (reserved_of at.prepared.items) c.hide_task.new.self = ahead_kept (length at.judgings.items) (length c.mark_handed.new.judgings.items) (reserved_of at.prepared.items) at.tasks c.hide_task.new.self c.mark_handed.ensures.count same c.self.invariant.ahead in
     search rules
+
+pub returns-clause-state : goal.returns-clause-state
+returns-clause-state c = search rules

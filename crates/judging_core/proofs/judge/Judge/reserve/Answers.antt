@@ -31,7 +31,26 @@ invariant_of-self c =
     let listed : IsListed at.rule (judging_values c.reserve.new.self.items) at.leases.leases at.tasks = rw c.reserve.ensures.items c.self.invariant.listed in
     let same : length c.reserve.new.self.items ≡ length at.judgings.items = ap length c.reserve.ensures.items in
     let ahead : HasRoom (length c.reserve.new.self.items) (reserved_of at.prepared.items) at.tasks = ahead_kept (length at.judgings.items) (length c.reserve.new.self.items) (reserved_of at.prepared.items) at.tasks at.tasks same refl c.self.invariant.ahead in
-    search rules
+    record {
+      some = c.self.invariant.some;
+      short = c.self.invariant.short;
+      moment = c.self.invariant.moment;
+      few = rw c.reserve.ensures.items c.self.invariant.few;
+      rows = rw c.reserve.ensures.items c.self.invariant.rows;
+      ruled = rw c.reserve.ensures.items c.self.invariant.ruled;
+      answered = c.self.invariant.answered ∙ sym (ap (λ xs. answers_by at.rule (judging_values xs)) c.reserve.ensures.items);
+      few_hosts = c.self.invariant.few_hosts;
+      held = c.self.invariant.held;
+      cells = rw c.reserve.ensures.items c.self.invariant.cells;
+      counted = c.self.invariant.counted ∙ sym (ap cells_in c.reserve.ensures.items);
+      roomy = c.self.invariant.roomy;
+      prepared = c.self.invariant.prepared;
+      prepared_ruled = c.self.invariant.prepared_ruled;
+      spare = search rules;
+      spare_answers = c.self.invariant.spare_answers;
+      listed = listed;
+      ahead = ahead;
+    }
 
 pub invariant_of-self-in_err-make_answer_room : goal.invariant_of-self-in_err-make_answer_room
 invariant_of-self-in_err-make_answer_room c =
@@ -40,7 +59,26 @@ invariant_of-self-in_err-make_answer_room c =
     let same : length c.reserve.new.self.items ≡ length at.judgings.items = ap length c.reserve.ensures.items in
     let ahead : HasRoom (length c.reserve.new.self.items) (reserved_of at.prepared.items) at.tasks = ahead_kept (length at.judgings.items) (length c.reserve.new.self.items) (reserved_of at.prepared.items) at.tasks at.tasks same refl c.self.invariant.ahead in
     let answered : c.make_answer_room.new.answers.items ≡ answers_by at.rule (judging_values c.reserve.new.self.items) = c.make_answer_room.ensures.items ∙ c.self.invariant.answered ∙ sym (ap (λ xs. answers_by at.rule (judging_values xs)) c.reserve.ensures.items) in
-    search rules
+    record {
+      some = c.self.invariant.some;
+      short = c.self.invariant.short;
+      moment = c.self.invariant.moment;
+      few = rw c.reserve.ensures.items c.self.invariant.few;
+      rows = rw c.reserve.ensures.items c.self.invariant.rows;
+      ruled = rw c.reserve.ensures.items c.self.invariant.ruled;
+      answered = answered;
+      few_hosts = c.self.invariant.few_hosts;
+      held = c.self.invariant.held;
+      cells = rw c.reserve.ensures.items c.self.invariant.cells;
+      counted = c.self.invariant.counted ∙ sym (ap cells_in c.reserve.ensures.items);
+      roomy = c.self.invariant.roomy;
+      prepared = c.self.invariant.prepared;
+      prepared_ruled = c.self.invariant.prepared_ruled;
+      spare = search rules;
+      spare_answers = search rules;
+      listed = listed;
+      ahead = ahead;
+    }
 
 pub invariant_of-self-in_err-make_room_ahead : goal.invariant_of-self-in_err-make_room_ahead
 invariant_of-self-in_err-make_room_ahead c =
@@ -50,7 +88,26 @@ invariant_of-self-in_err-make_room_ahead c =
     let ahead : HasRoom (length c.reserve.new.self.items) (reserved_of at.prepared.items) c.make_room_ahead.new.tasks = wider_ahead (length c.reserve.new.self.items) (reserved_of at.prepared.items) at.tasks c.make_room_ahead.new.tasks c.make_room_ahead.ensures.wider
     (ahead_kept (length at.judgings.items) (length c.reserve.new.self.items) (reserved_of at.prepared.items) at.tasks at.tasks same refl c.self.invariant.ahead) in
     let answered : c.make_answer_room.new.answers.items ≡ answers_by at.rule (judging_values c.reserve.new.self.items) = c.make_answer_room.ensures.items ∙ c.self.invariant.answered ∙ sym (ap (λ xs. answers_by at.rule (judging_values xs)) c.reserve.ensures.items) in
-    search rules
+    record {
+      some = c.self.invariant.some;
+      short = c.self.invariant.short;
+      moment = c.self.invariant.moment;
+      few = rw c.reserve.ensures.items c.self.invariant.few;
+      rows = rw c.reserve.ensures.items c.self.invariant.rows;
+      ruled = rw c.reserve.ensures.items c.self.invariant.ruled;
+      answered = answered;
+      few_hosts = c.self.invariant.few_hosts;
+      held = c.self.invariant.held;
+      cells = rw c.reserve.ensures.items c.self.invariant.cells;
+      counted = c.self.invariant.counted ∙ sym (ap cells_in c.reserve.ensures.items);
+      roomy = c.self.invariant.roomy;
+      prepared = c.self.invariant.prepared;
+      prepared_ruled = c.self.invariant.prepared_ruled;
+      spare = search rules;
+      spare_answers = search rules;
+      listed = listed;
+      ahead = ahead;
+    }
 
 pub invariant_of-self-in_err-make_lease_room : goal.invariant_of-self-in_err-make_lease_room
 invariant_of-self-in_err-make_lease_room c =
@@ -65,7 +122,26 @@ invariant_of-self-in_err-make_lease_room c =
     let ahead : HasRoom (length c.reserve.new.self.items) (reserved_of at.prepared.items) c.make_room_ahead.new.tasks = wider_ahead (length c.reserve.new.self.items) (reserved_of at.prepared.items) at.tasks c.make_room_ahead.new.tasks c.make_room_ahead.ensures.wider
     (ahead_kept (length at.judgings.items) (length c.reserve.new.self.items) (reserved_of at.prepared.items) at.tasks at.tasks count refl c.self.invariant.ahead) in
     let answered : c.make_answer_room.new.answers.items ≡ answers_by at.rule (judging_values c.reserve.new.self.items) = c.make_answer_room.ensures.items ∙ c.self.invariant.answered ∙ sym (ap (λ xs. answers_by at.rule (judging_values xs)) c.reserve.ensures.items) in
-    search rules
+    record {
+      some = c.self.invariant.some;
+      short = c.self.invariant.short;
+      moment = c.self.invariant.moment;
+      few = rw c.reserve.ensures.items c.self.invariant.few;
+      rows = rw c.reserve.ensures.items c.self.invariant.rows;
+      ruled = rw c.reserve.ensures.items c.self.invariant.ruled;
+      answered = answered;
+      few_hosts = c.self.invariant.few_hosts;
+      held = held;
+      cells = cells;
+      counted = c.self.invariant.counted ∙ sym (ap cells_in c.reserve.ensures.items);
+      roomy = omega (arith, c.self.invariant.roomy, c.make_lease_room.ensures.grows);
+      prepared = c.self.invariant.prepared;
+      prepared_ruled = c.self.invariant.prepared_ruled;
+      spare = search rules;
+      spare_answers = search rules;
+      listed = listed;
+      ahead = ahead;
+    }
 
 pub invariant_of-self-2 : goal.invariant_of-self-2
 invariant_of-self-2 c =
@@ -85,4 +161,26 @@ invariant_of-self-2 c =
     let ahead : HasRoom (length c.reserve.new.self.items) (reserved_of prepared.items) c.make_room_ahead.new.tasks =
     rw (count, tests) c.in_ok-make_room_ahead.ensures.room in
     let answered : c.make_answer_room.new.answers.items ≡ answers_by at.rule (judging_values c.reserve.new.self.items) = c.make_answer_room.ensures.items ∙ c.self.invariant.answered ∙ sym (ap (λ xs. answers_by at.rule (judging_values xs)) c.reserve.ensures.items) in
-    search rules
+    record {
+      some = c.self.invariant.some;
+      short = c.self.invariant.short;
+      moment = c.self.invariant.moment;
+      few = rw c.reserve.ensures.items c.self.invariant.few;
+      rows = rw c.reserve.ensures.items c.self.invariant.rows;
+      ruled = rw c.reserve.ensures.items c.self.invariant.ruled;
+      answered = answered;
+      few_hosts = c.self.invariant.few_hosts;
+      held = held;
+      cells = cells;
+      counted = c.self.invariant.counted ∙ sym (ap cells_in c.reserve.ensures.items);
+      roomy = roomy;
+      prepared = c.in_ok-prepared.ensures.prepared;
+      prepared_ruled = c.in_ok-prepared.ensures.ruled;
+      spare = search rules;
+      spare_answers = search rules;
+      listed = listed;
+      ahead = ahead;
+    }
+
+pub returns-clause-ok : goal.returns-clause-ok
+returns-clause-ok c = search rules
