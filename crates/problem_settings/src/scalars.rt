@@ -39,7 +39,6 @@ pub(crate) fn plain_text(spaced: bool, text: &[u8]) -> &[u8]
 }
 
 /// What stands behind the closing single quote.
-#[tactic(auto, using(crate::proofs::ScalarLemmas::single_skips, crate::proofs::ScalarLemmas::single_ends))]
 fn single_after(text: &[u8]) -> Result<&[u8], YamlWhy>
     ensures { Says (λ rest. rest.now) (single_after text.now) result }
 {
@@ -61,7 +60,6 @@ fn single_after(text: &[u8]) -> Result<&[u8], YamlWhy>
 }
 
 /// What stands behind the closing double quote.
-#[tactic(auto, using(crate::proofs::ScalarLemmas::double_skips, crate::proofs::ScalarLemmas::double_ends, crate::proofs::ScalarLemmas::double_stops))]
 fn double_after(text: &[u8]) -> Result<&[u8], YamlWhy>
     ensures { Says (λ rest. rest.now) (double_after text.now) result }
 {
