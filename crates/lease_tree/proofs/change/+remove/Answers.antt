@@ -1,4 +1,5 @@
-use Rattle.std.proofs.Common.{◌≡◌, ◌∙◌, List, ◌∷◌, ◌++◌, Option, Some, None, true, false, rules, ap, subst}
+use Rattle.std.proofs.Common.{◌≡◌, ◌∙◌, List, ◌∷◌, ◌++◌, Option, Some, None, true, false, rules, ap, subst, arith}
+use Rattle.std.proofs.lemmas.Grind.{common_steps}
 use Rattle.std.specs.Prelude.{find, IfSome}
 use Rattle.farm_model.specs.declared.records.Lease.{Lease}
 use Rattle.lease_tree.specs.declared.keys.Key.{Key}
@@ -73,3 +74,9 @@ returns-clause-lease t c = λ up.
     ap (find (has_key by c.args.key)) old ∙ key_here by (leases_of root.left) root.lease (leases_of root.right) c.args.key (subst (Rising by) old up) not_before not_behind in
     let same : root.lease ≡ c.deref_mut-3.result.now.lease = search rules in
     in_root (find (has_key by c.args.key) (leases_of c.args.tree.now)) (Some c.deref_mut-3.result.now.lease) (λ node. node.value.lease) c.replace_root.result (found ∙ ap (λ (lease : Lease). Some lease) same) c.replace_root.ensures.root
+
+pub returns-then-is_before-clause-balanced : goal.returns-then-is_before-clause-balanced
+returns-then-is_before-clause-balanced t c = grind (arith, common_steps)
+
+pub returns-clause-taken : goal.returns-clause-taken
+returns-clause-taken t c = search rules
