@@ -26,7 +26,8 @@ data_in files path = and_then (tests_in files path) (stems_of (data_of path) (pa
 
 abbrev pub with_flags : List TreeFile → List ℕ → ℕ → YamlValue → ℕ → Option ValidatorFlags → Result Package PackageFault
 with_flags files path ips yaml ms flags =
-    and_then (with_tests files path ips yaml ms flags) (data_in files path)
+    and_then (with_tests files path ips yaml ms flags)
+    (and_then (tests_in files path) (stems_of (data_of path) (paths_below (data_of path) files)))
 
 abbrev pub with_yaml : List TreeFile → List ℕ → ℕ → YamlValue → Result Package PackageFault
 with_yaml files path ips yaml =
