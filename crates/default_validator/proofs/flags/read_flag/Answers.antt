@@ -1,4 +1,4 @@
-use Rattle.std.proofs.Common.{◌≡◌, ◌+◌, ◌∷◌, ◌∙◌, ap, sym, arith}
+use Rattle.std.proofs.Common.{rules, ◌≡◌, ◌+◌, ◌∷◌, ◌∙◌, ap, sym, arith}
 use Rattle.std.specs.Str.{bytes_eq}
 use Rattle.std.proofs.lemmas.Int.{to_z-of_z}
 use Rattle.default_validator.proofs.FlagSteps.{case_step, space_step, value_step}
@@ -25,3 +25,6 @@ returns-clause-value c =
     (sym (c.if-eq-2.ensures ∙ ap (bytes_eq c.args.word.now) c.as_slice-2.ensures))
     (sym c.in-Some.ensures) c.in-Ok.ensures.amount
     ∙ ap (λ f. flags_from f (c.args.number + 2) (tokens c.in-Some-next_token.rest.now)) (sym result)
+
+pub returns-in_default-read_amount-clause-value : goal.returns-in_default-read_amount-clause-value
+returns-in_default-read_amount-clause-value c = search rules

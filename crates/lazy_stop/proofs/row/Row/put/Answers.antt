@@ -1,4 +1,4 @@
-use Rattle.std.proofs.Common.{◌≡◌, ◌≢◌, ◌<◌, ◌-◌, ℕ, sym, subst, arith, Option, Some, None, List, set, ap, ◌∙◌}
+use Rattle.std.proofs.Common.{rules, ◌≡◌, ◌≢◌, ◌<◌, ◌-◌, ℕ, sym, subst, arith, Option, Some, None, List, set, ap, ◌∙◌}
 use Rattle.std.specs.List.{slice_get, Contains}
 use Rattle.std.proofs.lemmas.Grind.{common_steps}
 use Rattle.std.proofs.lemmas.Option.{gets}
@@ -33,3 +33,6 @@ returns-clause-kept c kept h =
     let k : slice_get c.self.inside.cells (c.args.rank - 1) ≡ Some (Some kept) = ap (λ (v : RowValue). slice_get v.cells (c.args.rank - 1)) c.self.view_is ∙ h in
     let q : Some None ≡ Some (Some kept) = sym e ∙ k in
     cc
+
+pub returns-in-Some-clause-kept : goal.returns-in-Some-clause-kept
+returns-in-Some-clause-kept c = search rules

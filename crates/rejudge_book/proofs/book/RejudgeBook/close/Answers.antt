@@ -1,4 +1,4 @@
-use Rattle.std.proofs.Common.{◌≡◌, List, Some, sym, ap, ◌∙◌}
+use Rattle.std.proofs.Common.{rules, ◌≡◌, List, Some, sym, ap, ◌∙◌}
 use Rattle.std.specs.Option.{option_copied}
 use Rattle.farm_model.specs.declared.records.Rejudging.{Rejudging}
 use Rattle.farm_model.specs.declared.records.RejudgeState.TheVariants as state
@@ -16,3 +16,6 @@ close_open-requires c =
     = sym (ap (λ (xs : List Rejudging). item_of xs c.args.number) c.deref.ensures.value) ∙ (sym c.item_of.ensures.item ∙ ap (λ o. option_copied o) c.in-Some.is) in
     let still : own.state ≡ state.Open = is_open own.state (sym c.how_closed.ensures ∙ c.in_default-how_closed.is) in
     ap (λ (b : Book). close_refusal b.rejudgings c.args.number) (sym c.self.view_is) ∙ accepted rs c.args.number own item still
+
+pub returns-in-Some-how_closed-clause-fault : goal.returns-in-Some-how_closed-clause-fault
+returns-in-Some-how_closed-clause-fault c = search rules

@@ -1,0 +1,5 @@
+use Rattle.std.proofs.Common.{rules}
+use Rattle.farm_kinds.proofs.rules.Rule.standard.Goals as goal
+
+pub returns : goal.returns
+returns c = search rules

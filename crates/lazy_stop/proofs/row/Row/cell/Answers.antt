@@ -1,0 +1,5 @@
+use Rattle.std.proofs.Common.{rules}
+use Rattle.lazy_stop.proofs.row.Row.cell.Goals as goal
+
+pub returns : goal.returns
+returns c = search rules
