@@ -1,6 +1,6 @@
 //! The grammar of the command line.
-ghost use Rattle.std.specs.Prelude.{◌≡◌, IfOk, false};
-ghost use Rattle.clap.specs.Words.{app_of, rule_of};
+ghost use Rattle.std.specs.Prelude.{◌≡◌, IfOk, false, true};
+ghost use Rattle.clap.specs.Words.{app_of, rule_of, with_rule, with_subcommand};
 ghost use Rattle.clap.specs.declared.builder.command.Command.TheViews.{out-Command as fields_of};
 ghost use Rattle.command_line.specs.Commands.{option, flag, operand, judge, script, make, serve, bare, with_contests, farm};
 
@@ -11,17 +11,46 @@ use std::alloc::{AllocError, Global};
 pub(crate) fn farm_command<'a>(alloc: Global) -> Result<Command<'a>, AllocError>
     ensures { IfOk result (λ command. app_of command ≡ farm) }
 {
-    let with_script = contest_commands(alloc)?.subcommand(script_command(alloc)?)?;
-    with_script.subcommand(make_command(alloc)?)
+    let with_judge = with_judge(alloc, bare_command(alloc))?;
+    let with_serve = with_serve(alloc, with_judge)?;
+    let with_script = with_script(alloc, with_serve)?;
+    with_make(alloc, with_script)
 }
 
-/// The program with the commands that read the folder of a contest.
-fn contest_commands<'a>(alloc: Global) -> Result<Command<'a>, AllocError>
-    ensures app { IfOk result (λ command. app_of command ≡ with_contests) }
-    ensures globals { IfOk result (λ command. (fields_of command).has_globals ≡ false) }
+/// The program with the command `judge`.
+fn with_judge<'a>(alloc: Global, program: Command<'a>) -> Result<Command<'a>, AllocError>
+    requires { (fields_of program).has_globals ≡ false }
+    ensures app { IfOk result (λ with. app_of with ≡ with_subcommand (app_of program.entry) judge.top) }
+    ensures globals { IfOk result (λ with. (fields_of with).has_globals ≡ false) }
 {
-    let with_judge = bare_command(alloc).subcommand(judge_command(alloc)?)?;
-    with_judge.subcommand(serve_command(alloc)?)
+    program.subcommand(judge_command(alloc)?)
+}
+
+/// The program with the command `serve`.
+fn with_serve<'a>(alloc: Global, program: Command<'a>) -> Result<Command<'a>, AllocError>
+    requires { (fields_of program).has_globals ≡ false }
+    ensures app { IfOk result (λ with. app_of with ≡ with_subcommand (app_of program.entry) serve.top) }
+    ensures globals { IfOk result (λ with. (fields_of with).has_globals ≡ false) }
+{
+    program.subcommand(serve_command(alloc)?)
+}
+
+/// The program with the command `script`.
+fn with_script<'a>(alloc: Global, program: Command<'a>) -> Result<Command<'a>, AllocError>
+    requires { (fields_of program).has_globals ≡ false }
+    ensures app { IfOk result (λ with. app_of with ≡ with_subcommand (app_of program.entry) script.top) }
+    ensures globals { IfOk result (λ with. (fields_of with).has_globals ≡ false) }
+{
+    program.subcommand(script_command(alloc)?)
+}
+
+/// The program with the command `make`.
+fn with_make<'a>(alloc: Global, program: Command<'a>) -> Result<Command<'a>, AllocError>
+    requires { (fields_of program).has_globals ≡ false }
+    ensures app { IfOk result (λ with. app_of with ≡ with_subcommand (app_of program.entry) make.top) }
+    ensures globals { IfOk result (λ with. (fields_of with).has_globals ≡ false) }
+{
+    program.subcommand(make_command(alloc)?)
 }
 
 /// The program without its commands: one has to be named, and there are no words for help or the version.
@@ -41,8 +70,8 @@ fn judge_command<'a>(alloc: Global) -> Result<Command<'a>, AllocError>
     ensures app { IfOk result (λ command. app_of command ≡ judge) }
     ensures globals { IfOk result (λ command. (fields_of command).has_globals ≡ false) }
 {
-    let with_folder = Command::new(alloc, "judge").arg(operand(alloc, "folder"))?;
-    let with_hosts = with_folder.arg(option(alloc, "hosts", true))?;
+    let with_folder = with_operand(alloc, Command::new(alloc, "judge"), "folder")?;
+    let with_hosts = with_option(alloc, with_folder, "hosts")?;
     with_hosts.arg(flag(alloc, "journal"))
 }
 
@@ -59,9 +88,9 @@ fn make_command<'a>(alloc: Global) -> Result<Command<'a>, AllocError>
     ensures app { IfOk result (λ command. app_of command ≡ make) }
     ensures globals { IfOk result (λ command. (fields_of command).has_globals ≡ false) }
 {
-    let with_number = Command::new(alloc, "make").arg(operand(alloc, "number"))?;
-    let with_problems = with_number.arg(operand(alloc, "problems"))?;
-    with_problems.arg(operand(alloc, "submissions"))
+    let with_number = with_operand(alloc, Command::new(alloc, "make"), "number")?;
+    let with_problems = with_operand(alloc, with_number, "problems")?;
+    with_operand(alloc, with_problems, "submissions")
 }
 
 /// `serve FOLDER --port P --lanes N --connections M`
@@ -69,10 +98,36 @@ fn serve_command<'a>(alloc: Global) -> Result<Command<'a>, AllocError>
     ensures app { IfOk result (λ command. app_of command ≡ serve) }
     ensures globals { IfOk result (λ command. (fields_of command).has_globals ≡ false) }
 {
-    let with_folder = Command::new(alloc, "serve").arg(operand(alloc, "folder"))?;
-    let with_port = with_folder.arg(option(alloc, "port", true))?;
-    let with_lanes = with_port.arg(option(alloc, "lanes", true))?;
-    with_lanes.arg(option(alloc, "connections", true))
+    let with_folder = with_operand(alloc, Command::new(alloc, "serve"), "folder")?;
+    let with_port = with_option(alloc, with_folder, "port")?;
+    let with_lanes = with_option(alloc, with_port, "lanes")?;
+    with_option(alloc, with_lanes, "connections")
+}
+
+/// The command with one more option, which has to be there.
+fn with_option<'a>(
+    alloc: Global,
+    command: Command<'a>,
+    name: &'a str,
+) -> Result<Command<'a>, AllocError>
+    requires { (fields_of command).has_globals ≡ false }
+    ensures app { IfOk result (λ with. app_of with ≡ with_rule (app_of command.entry) (option name.entry.now true)) }
+    ensures globals { IfOk result (λ with. (fields_of with).has_globals ≡ false) }
+{
+    command.arg(option(alloc, name, true))
+}
+
+/// The command with one more word.
+fn with_operand<'a>(
+    alloc: Global,
+    command: Command<'a>,
+    name: &'a str,
+) -> Result<Command<'a>, AllocError>
+    requires { (fields_of command).has_globals ≡ false }
+    ensures app { IfOk result (λ with. app_of with ≡ with_rule (app_of command.entry) (operand name.entry.now)) }
+    ensures globals { IfOk result (λ with. (fields_of with).has_globals ≡ false) }
+{
+    command.arg(operand(alloc, name))
 }
 
 /// `--NAME VALUE` or `--NAME=VALUE`
