@@ -71,27 +71,29 @@ fn judge_named<A: Admission + Send + Sync, R: Threads + Wait + Sync, G: Gate + S
     ensures kept { IfOk result (λ outcome. is_some outcome.history ≡ journal) }
     ensures journal { IfOk result (λ outcome. (calls : List Call) → outcome.history ≡ Some calls → IsJournal roster.now hosts calls) }
 {
-    let noted = run_hosts::<A, R, G>(rt, alloc, roster, hosts, gate, journal)?;
-    judge_rest(alloc, noted, roster, hosts, progress)
+    let mut noted = run_hosts::<A, R, G>(rt, alloc, roster, hosts, gate, journal)?;
+    let outcome = judge_rest(alloc, &mut noted, roster, hosts, progress);
+    drop(noted);
+    outcome
 }
 
 /// Judges what the hosts left, and gives the table with the journal.
 fn judge_rest<P: Progress>(
     alloc: Global,
-    mut noted: NotedFarm,
+    noted: &mut NotedFarm,
     roster: &Roster,
     hosts: u16,
     progress: &mut P,
 ) -> Result<Outcome, NoMemory>
     requires hosts { hosts ≤ 16 }
-    requires under_way { IsUnderWay roster.now.settings (case_at roster.now) (map (tests_for roster.now) roster.now.submissions) [] (host_names hosts) noted.farm }
-    requires journal { KeepsJournal roster.now.settings (case_at roster.now) hosts noted.farm noted.history }
+    requires under_way { IsUnderWay roster.now.settings (case_at roster.now) (map (tests_for roster.now) roster.now.submissions) [] (host_names hosts) noted.old.farm }
+    requires journal { KeepsJournal roster.now.settings (case_at roster.now) hosts noted.old.farm noted.old.history }
     ensures table { IfOk result (λ outcome. outcome.table ≡ table_rows roster.now) }
-    ensures kept { IfOk result (λ outcome. is_some outcome.history ≡ is_some noted.history) }
+    ensures kept { IfOk result (λ outcome. is_some outcome.history ≡ is_some noted.old.history) }
     ensures journal { IfOk result (λ outcome. (calls : List Call) → outcome.history ≡ Some calls → IsJournal roster.now hosts calls) }
 {
-    let table = judge_left(alloc, &mut noted, roster, hosts, progress)?;
-    let NotedFarm { history, .. } = noted;
+    let table = judge_left(alloc, noted, roster, hosts, progress)?;
+    let history = noted.history.take();
     Ok(Outcome { table, history })
 }
 
