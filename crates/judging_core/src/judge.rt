@@ -132,12 +132,12 @@ impl Judge {
         if is_next(&self.prepared, tests) {
             return Ok(self.add_reserved(class, tests, mode, asked));
         }
-        let judging = empty_judging(self.alloc, self.rule, class, tests, mode, asked)?;
         let number = self.judgings.len() + 1;
         make_room(&mut self.tasks, number as u32, tests)?;
         let cells = self.cells + u32::from(tests);
         make_lease_room(&mut self.leases, self.hosts, cells)?;
         make_answer_room(&mut self.answers, 1)?;
+        let judging = empty_judging(self.alloc, self.rule, class, tests, mode, asked)?;
         let answer = answer_of(&judging);
         self.judgings.push(judging).map_err(|_| NoMemory)?;
         self.answers.push_reserved(answer);

@@ -146,6 +146,38 @@ invariant_of-self-in_err-make_answer_room c =
       ahead = ahead;
     }
 
+pub invariant_of-self-in_err-judging : goal.invariant_of-self-in_err-judging
+invariant_of-self-in_err-judging c =
+    let at = c.self.inside in
+    let leases = c.make_lease_room.new.leases in
+    let same = c.make_lease_room.ensures.leases in
+    let held : IsHeldWell at.hosts leases.leases = rw same c.self.invariant.held in
+    let cells : AreOnEmptyCells (judging_values at.judgings.items) leases.leases = rw same c.self.invariant.cells in
+    let listed : IsListed at.rule (judging_values at.judgings.items) leases.leases c.make_room.new.tasks = rw same (wider_listed at.rule (judging_values at.judgings.items) at.leases.leases at.tasks c.make_room.new.tasks c.make_room.ensures.wider c.self.invariant.listed) in
+    let ahead : HasRoom (length at.judgings.items) (reserved_of at.prepared.items) c.make_room.new.tasks =
+    wider_ahead (length at.judgings.items) (reserved_of at.prepared.items) at.tasks c.make_room.new.tasks c.make_room.ensures.wider c.self.invariant.ahead in
+    let answered : c.make_answer_room.new.answers.items ≡ answers_by at.rule (judging_values at.judgings.items) = c.make_answer_room.ensures.items ∙ c.self.invariant.answered in
+    record {
+      some = c.self.invariant.some;
+      short = c.self.invariant.short;
+      moment = c.self.invariant.moment;
+      few = c.self.invariant.few;
+      rows = c.self.invariant.rows;
+      ruled = c.self.invariant.ruled;
+      answered = answered;
+      few_hosts = c.self.invariant.few_hosts;
+      held = held;
+      cells = cells;
+      counted = c.self.invariant.counted;
+      roomy = omega (arith, c.self.invariant.roomy, c.make_lease_room.ensures.grows);
+      prepared = c.self.invariant.prepared;
+      prepared_ruled = c.self.invariant.prepared_ruled;
+      spare = c.self.invariant.spare;
+      spare_answers = search rules;
+      listed = listed;
+      ahead = ahead;
+    }
+
 pub overflow_add-cells : goal.overflow_add-cells
 overflow_add-cells c = omega (arith, c.from.ensures, c.requires.short, c.self.invariant.counted, cells_few c.self.inside.judgings.items c.self.invariant.rows, c.self.invariant.few)
 
