@@ -17,19 +17,30 @@ from place import TOP  # noqa: E402
 
 PROGRAM = os.path.join(TOP, "crates", "validate", "out", "validate")
 
-# The flags, the answer, the output, the status, and what the message or the line on standard error has.
+# The flags, the answer, the output, the status, and the message or the line on standard error: the whole of it where
+# that ends with a line feed, else what it has.
 CASES = [
     ([], b"7\n", b" 7", 42, None),
     ([], b"7\n", b"8\n", 43, b"token 1 of the answer is `7`, and the output has `8`"),
     ([], b"7\n", b"", 43, b"the output ends before token 1"),
     ([], b"", b"", 42, None),
+    ([], b"a b\n", b"A  b", 42, None),
+    ([], b"1 2 3", b"1 2", 43, b"Wrong answer: the output ends before token 3, and the answer has `3`\n"),
+    ([], b"1", b"1 2", 43, b"Wrong answer: the answer ends before token 2, and the output has `2`\n"),
+    ([], b"x", b"0123456789" * 4 + b"_", 43,
+     b"Wrong answer: token 1 of the answer is `x`, and the output has `0123456789012345678901234567890123456789..`\n"),
     (["float_tolerance", "1e-6"], b"0.0314\n", b"3.14000000e-2\n", 42, None),
-    (["float_absolute_tolerance", "1e-6"], b"1.0\n", b"1.000002\n", 43, b"token 1"),
+    (["float_tolerance", "1e-6"], b"0.0314", b"3.14000000e-2", 42, None),
+    (["float_absolute_tolerance", "1e-6"], b"1.0\n", b"1.000002\n", 43,
+     b"Wrong answer: token 1 of the answer is `1.0`, and the output has `1.000002`\n"),
     (["case_sensitive"], b"a\n", b"A\n", 43, b"token 1"),
+    (["case_sensitive"], b"a b\n", b"A b\n", 43, b"Wrong answer: token 1 of the answer is `a`, and the output has `A`\n"),
     (["space_change_sensitive"], b"a b\n", b"a  b\n", 43, b"white space"),
-    (["float_tolerance"], b"1\n", b"1\n", 1, b"word 1 of the flags"),
-    (["fast"], b"1\n", b"1\n", 1, b"word 1 of the flags"),
-    (["float_tolerance", "1e-6"], b"1e12\n", b"1e12\n", 1, b"token 0"),
+    (["space_change_sensitive"], b"1\n", b"1", 43, b"Wrong answer: the white space differs\n"),
+    (["float_tolerance"], b"1\n", b"1\n", 1, b"validate: word 1 of the flags wants a value behind it\n"),
+    (["fast"], b"1\n", b"1\n", 1, b"validate: word 1 of the flags is no flag\n"),
+    (["float_tolerance", "1e-6"], b"1e12\n", b"1e12\n", 1,
+     b"validate: token 0 (from 0) of the answer is a floating point number of 10^12 or more\n"),
 ]
 
 
@@ -52,6 +63,8 @@ def fault_of(got, status, said):
         return f"status {got[0]}, wrote {got[2]!r}"
     if said is None:
         return f"said {got[1]!r}" if got[1] else None
+    if said.endswith(b"\n"):
+        return None if got[1] == said else f"said {got[1]!r}"
     return None if said in got[1] and got[1].count(b"\n") == 1 else f"said {got[1]!r}"
 
 

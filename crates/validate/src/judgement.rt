@@ -4,7 +4,7 @@ ghost use Rattle.validate.specs.Judgements.{judgement_of, status_of};
 use default_validator::{FlagFault, Flags, accepts, wide_token};
 
 /// What the validator says of an output.
-#[derive(Clone, Copy, Debug, PartialEq, Eq)]
+#[derive(Clone, Copy)]
 pub enum Judgement {
     /// The output is accepted.
     Accepted,

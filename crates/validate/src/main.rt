@@ -9,8 +9,6 @@
 
 mod judgement;
 mod message;
-#[cfg(test)]
-mod tests;
 mod words;
 
 use crate::judgement::{Judgement, judge};
