@@ -5,6 +5,8 @@
 mod contest_folder_tests;
 #[cfg(test)]
 mod farm_cli_tests;
+#[cfg(test)]
+mod farm_tree_tests;
 pub mod gates;
 #[cfg(test)]
 mod judging_tests;

@@ -152,8 +152,13 @@ fn refusal(about: &Metadata) -> Option<TreeErr>
     None
 }
 
-/// All bytes of a file, which may have grown since its metadata told this length.
-pub(crate) fn read_whole<F: Read + Drop>(file: F, len: u64, alloc: Global) -> Result<Text, TreeErr>
+/// All bytes of a file, which may have grown since its metadata told this length. Any other reader is read as if it
+/// were one.
+///
+/// - `TooLarge` with 16,777,217 bytes: it has more than 16 MiB, and no more than that many are read.
+/// - `NoMemory`: there is no room for the bytes.
+/// - `Absent` or `Failed`: a read failed, with what the system says of it.
+pub fn read_whole<F: Read + Drop>(file: F, len: u64, alloc: Global) -> Result<Text, TreeErr>
     ensures short { IfOk result (λ bytes. length bytes ≤ file_limit) }
     ensures whole { IfOk result (λ bytes. IfSome (F.remaining file) (λ left. bytes ≡ left)) }
 {

@@ -9,11 +9,9 @@ mod entries;
 mod listing;
 mod memory;
 mod reads;
-#[cfg(test)]
-mod tests;
 mod worked;
 
-pub use disk::DiskTree;
+pub use disk::{DiskTree, read_whole};
 pub use entries::{Entries, Entry, TreeFiles};
 pub use listing::below;
 pub use memory::{MemoryTree, ReliableTree};

@@ -1,8 +1,8 @@
-use crate::disk::read_whole;
-use crate::{
-    DiskTree, Entries, FILE_LIMIT, MemoryTree, ReliableTree, Tree, TreeErr, TreeFile, TreeFiles,
-};
 use farm_kinds::{NoMemory, Text};
+use farm_tree::{
+    DiskTree, Entries, FILE_LIMIT, MemoryTree, ReliableTree, Tree, TreeErr, TreeFile, TreeFiles,
+    read_whole,
+};
 use std::alloc::{AllocError, Global};
 use std::fs::OpenFile;
 use std::io::{ErrorKind, Read};
