@@ -4,8 +4,9 @@ use farm_tree::{
     read_whole,
 };
 use std::alloc::{AllocError, Global};
-use std::fs::OpenFile;
+use std::fs::{Files, OpenFile};
 use std::io::{ErrorKind, Read};
+use std::process::Abort;
 use std::test::Fail;
 use std::{fs, io};
 
@@ -25,6 +26,11 @@ fn fails<A>(answer: &Result<A, TreeErr>, error: TreeErr) -> bool {
     }
 }
 
+/// A tree in memory without a file.
+fn empty(alloc: Global) -> ReliableTree {
+    ReliableTree::new(alloc, TreeFiles::new(alloc))
+}
+
 #[test]
 fn gives_the_files_that_were_added(rt: HostRuntime) -> Result<(), Fail> {
     let alloc = rt.alloc();
@@ -32,6 +38,13 @@ fn gives_the_files_that_were_added(rt: HostRuntime) -> Result<(), Fail> {
     let settings = Text::from_vec(b"{}".to_vec(alloc)?);
     files.push(TreeFile::new(String::from_str(alloc, "farm.json")?, settings))?;
     let mut tree = ReliableTree::new(alloc, files);
+    let added = add_files(&rt, &mut tree);
+    drop(tree);
+    added
+}
+
+/// Adds files to a tree with one file, and looks at what it gives then.
+fn add_files(rt: &impl Abort, tree: &mut ReliableTree) -> Result<(), Fail> {
     assert!(rt; fails(&tree.read("a/b"), TreeErr::Absent));
     assert_eq!(rt; tree.add("a/b", b""), Ok(()));
     assert!(rt; holds(&tree.read("farm.json"), b"{}"));
@@ -45,15 +58,26 @@ fn gives_the_files_that_were_added(rt: HostRuntime) -> Result<(), Fail> {
 
 #[test]
 fn a_file_has_at_most_16_mebibytes(rt: HostRuntime) -> Result<(), Fail> {
-    let alloc = rt.alloc();
-    let mut tree = ReliableTree::new(alloc, TreeFiles::new(alloc));
-    let mut bytes = vec![in alloc; b'x'; FILE_LIMIT]?;
-    assert_eq!(rt; tree.add("file", bytes.as_slice()), Ok(()));
-    assert!(rt; holds(&tree.read("file"), bytes.as_slice()));
+    let mut bytes = vec![in rt.alloc(); b'x'; FILE_LIMIT]?;
+    assert_eq!(rt; read_back(rt.alloc(), bytes.as_slice()), Ok(()));
     bytes.push(b'x')?;
-    assert_eq!(rt; tree.add("file", bytes.as_slice()), Ok(()));
-    assert!(rt; fails(&tree.read("file"), TreeErr::TooLarge { len: 16_777_217 }));
+    let error = TreeErr::TooLarge { len: 16_777_217 };
+    assert_eq!(rt; read_back(rt.alloc(), bytes.as_slice()), Err(error));
     Ok(())
+}
+
+/// Adds a file with these bytes to a tree, and says why it does not give them.
+fn read_back(alloc: Global, bytes: &[u8]) -> Result<(), TreeErr> {
+    let mut tree = empty(alloc);
+    let added = tree.add("file", bytes);
+    let answer = tree.read("file");
+    drop(tree);
+    added.map_err(|_| TreeErr::NoMemory)?;
+    match answer {
+        Ok(text) if text.as_slice() == bytes => Ok(()),
+        Ok(_) => Err(TreeErr::Failed),
+        Err(error) => Err(error),
+    }
 }
 
 /// Call 0 is a read, call 1 a listing, and so on in turn.
@@ -62,22 +86,34 @@ fn each_listed_call_fails(rt: HostRuntime) -> Result<(), Fail> {
     let alloc = rt.alloc();
     for failing in 0..4u64 {
         let mut tree = MemoryTree::new(alloc, TreeFiles::new(alloc), [failing].to_vec(alloc)?);
-        tree.add("a/file", b"text")?;
-        for call in 0..4u64 {
-            let (held, failed) = if call % 2 == 0 {
-                let answer = tree.read("a/file");
-                (holds(&answer, b"text"), fails(&answer, TreeErr::Failed))
-            } else {
-                let answer = tree.list("a");
-                (has_one(&answer, b"file"), fails(&answer, TreeErr::Failed))
-            };
-            assert_eq!(rt; failed, call == failing, "{call} of {failing}");
-            assert_eq!(rt; held, call != failing, "{call} of {failing}");
-        }
-        assert!(rt; fails(&tree.read("a"), TreeErr::Absent));
-        assert!(rt; fails(&tree.list("a/file"), TreeErr::Absent));
+        let called = call_each(&rt, &mut tree, failing);
+        drop(tree);
+        called?;
     }
     Ok(())
+}
+
+/// Calls a tree without a file whose call of this number fails.
+fn call_each(rt: &impl Abort, tree: &mut MemoryTree, failing: u64) -> Result<(), Fail> {
+    tree.add("a/file", b"text")?;
+    for call in 0..4u64 {
+        let (held, failed) = call_one(tree, call);
+        assert_eq!(rt; failed, call == failing, "{call} of {failing}");
+        assert_eq!(rt; held, call != failing, "{call} of {failing}");
+    }
+    assert!(rt; fails(&tree.read("a"), TreeErr::Absent));
+    assert!(rt; fails(&tree.list("a/file"), TreeErr::Absent));
+    Ok(())
+}
+
+/// Whether a call of this number gives what the tree holds, and whether it fails.
+fn call_one(tree: &mut MemoryTree, call: u64) -> (bool, bool) {
+    if call % 2 == 0 {
+        let answer = tree.read("a/file");
+        return (holds(&answer, b"text"), fails(&answer, TreeErr::Failed));
+    }
+    let answer = tree.list("a");
+    (has_one(&answer, b"file"), fails(&answer, TreeErr::Failed))
 }
 
 /// Whether the listing gave one file with this name.
@@ -142,63 +178,88 @@ fn names<T: Tree>(alloc: Global, tree: &mut T, path: &str) -> Result<String, All
 
 #[test]
 fn both_trees_list_the_same(rt: HostRuntime) -> Result<(), Fail> {
-    let alloc = rt.alloc();
-    let mut memory = ReliableTree::new(alloc, TreeFiles::new(alloc));
     fs::create_dir_all(&rt, "listed/b/c")?;
     fs::create_dir_all(&rt, "listed/a b")?;
     for path in PATHS {
-        memory.add(path, path.as_bytes())?;
         fs::write(&rt, path, path)?;
     }
-    let mut disk = DiskTree::new(&rt, alloc);
-    for (folder, expected) in LISTINGS {
-        assert_eq!(rt;
-            names(alloc, &mut memory, folder)?.as_str(),
-            expected,
-            "{folder}"
-        );
-        assert_eq!(rt;
-            names(alloc, &mut disk, folder)?.as_str(),
-            expected,
-            "{folder}"
-        );
-    }
+    let mut memory = empty(rt.alloc());
+    let listed = list_memory(&rt, rt.alloc(), &mut memory);
+    drop(memory);
+    listed?;
+    let mut disk = DiskTree::new(&rt, rt.alloc());
+    list_all(&rt, rt.alloc(), &mut disk)?;
     assert_eq!(rt; disk.faults, 0);
     fs::remove_dir_all(&rt, "listed")?;
     Ok(())
 }
 
-#[test]
-fn a_longer_path_is_no_folder_of_a_disk(rt: HostRuntime) -> Result<(), Fail> {
-    let alloc = rt.alloc();
-    let mut path = String::from_str(alloc, ".")?;
-    for _ in 0..2048 {
-        path.push_str("/.")?;
+/// Adds the files, and looks at each listing.
+fn list_memory(rt: &impl Abort, alloc: Global, memory: &mut ReliableTree) -> Result<(), Fail> {
+    for path in PATHS {
+        memory.add(path, path.as_bytes())?;
     }
-    let mut disk = DiskTree::new(&rt, alloc);
-    assert!(rt; fails(&disk.list(path.as_str()), TreeErr::Failed));
-    assert_eq!(rt; disk.faults, 1);
+    list_all(rt, alloc, memory)
+}
+
+/// Looks at each listing.
+fn list_all<T: Tree>(rt: &impl Abort, alloc: Global, tree: &mut T) -> Result<(), Fail> {
+    for (folder, expected) in LISTINGS {
+        let listed = names(alloc, tree, folder)?;
+        assert_eq!(rt; listed.as_str(), expected, "{folder}");
+    }
     Ok(())
 }
 
 #[test]
+fn a_longer_path_is_no_folder_of_a_disk(rt: HostRuntime) -> Result<(), Fail> {
+    let path = ["./"; 2048].concat(rt.alloc())?;
+    let mut disk = DiskTree::new(&rt, rt.alloc());
+    let longer = format!(in rt.alloc(); "{path}.")?;
+    assert!(rt; fails(&disk.list(longer.as_str()), TreeErr::Failed));
+    assert_eq!(rt; disk.faults, 1);
+    Ok(())
+}
+
+/// Files of a folder of the disk, and the bytes that each gives.
+const TEXTS: [(&str, &[u8]); 2] = [("text", b"alpha\nbeta\n"), ("folder/empty", b"")];
+
+/// Paths of that folder at which there is no file.
+const ABSENT: [&str; 5] = ["other", "folder", "folder/", "folder/other", "text/other"];
+
+#[test]
 fn reads_the_disk(rt: HostRuntime) -> Result<(), Fail> {
     fs::create_dir_all(&rt, "tree_of_test/folder")?;
-    fs::write(&rt, "tree_of_test/text", "alpha\nbeta\n")?;
-    fs::write(&rt, "tree_of_test/folder/empty", "")?;
+    for (path, text) in TEXTS {
+        fs::write(&rt, in_folder(rt.alloc(), path)?.as_str(), text)?;
+    }
     fs::create(&rt, "tree_of_test/large")?.set_len(16_777_217)?;
     let mut tree = DiskTree::new(&rt, rt.alloc());
-    assert!(rt; holds(&tree.read("tree_of_test/text"), b"alpha\nbeta\n"));
-    assert!(rt; holds(&tree.read("tree_of_test/folder/empty"), b""));
-    assert!(rt;
-        fails(
-            &tree.read("tree_of_test/large"),
-            TreeErr::TooLarge { len: 16_777_217 }
-        )
-    );
-    for path in ["other", "folder", "folder/", "folder/other", "text/other"] {
-        let path = format!(in rt.alloc(); "tree_of_test/{path}")?;
-        assert!(rt; fails(&tree.read(path.as_str()), TreeErr::Absent), "{path}");
+    read_disk(&rt, rt.alloc(), &mut tree)?;
+    fs::remove_dir_all(&rt, "tree_of_test")?;
+    Ok(())
+}
+
+/// The path of a file of the folder.
+fn in_folder(alloc: Global, path: &str) -> Result<String, AllocError> {
+    format!(in alloc; "tree_of_test/{path}")
+}
+
+/// Reads what is in the folder, and what is not.
+fn read_disk<R: Files + Alloc<A = Global> + Clone + Drop>(
+    rt: &impl Abort,
+    alloc: Global,
+    tree: &mut DiskTree<R>,
+) -> Result<(), Fail> {
+    for (path, text) in TEXTS {
+        let answer = tree.read(in_folder(alloc, path)?.as_str());
+        assert!(rt; holds(&answer, text), "{path}");
+    }
+    let large = tree.read("tree_of_test/large");
+    assert!(rt; fails(&large, TreeErr::TooLarge { len: 16_777_217 }));
+    for path in ABSENT {
+        let answer = tree.read(in_folder(alloc, path)?.as_str());
+        assert!(rt; fails(&answer, TreeErr::Absent), "{path}");
     }
     assert!(rt; fails(&tree.read(""), TreeErr::Absent));
     assert_eq!(rt; tree.faults, 0);
@@ -206,7 +267,6 @@ fn reads_the_disk(rt: HostRuntime) -> Result<(), Fail> {
     assert_eq!(rt; tree.faults, 1);
     assert!(rt; holds(&tree.read("tree_of_test/text"), b"alpha\nbeta\n"));
     assert_eq!(rt; tree.faults, 1);
-    fs::remove_dir_all(&rt, "tree_of_test")?;
     Ok(())
 }
 
