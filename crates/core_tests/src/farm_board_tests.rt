@@ -1,11 +1,10 @@
-ghost use Rattle.std.specs.Prelude.{◌≡◌, [], IfOk, None, true};
+ghost use Rattle.std.specs.Prelude.{◌≡◌, ◌+◌, ◌<◌, ◌≤◌, ◌^◌, [], None, true};
 ghost use Rattle.default_validator.specs.Accepts.{wide_token_of};
-ghost use Rattle.case_run.specs.Cases.{CanRun, test_case};
 ghost use Rattle.case_run.specs.Images.{is_image};
-ghost use Rattle.case_run.specs.Values.{case_value};
 ghost use Rattle.farm_board.specs.Trusts.{is_value_of};
 
-use case_run::{Case, Cases, Check, image_ok, run_case};
+use crate::judgehost_tests::counting_runner;
+use case_run::{Case, Cases, Check, image_ok};
 use default_validator::{Flags, wide_token};
 use farm_board::{Admission, Anyone, Board, History, LocalBench, Pass, Proved};
 use farm_core::Farm;
@@ -40,6 +39,101 @@ fn submission() -> Event {
     }
 }
 
+/// Enters the problem and submits to it.
+fn submit<W: Wait, A: Admission>(rt: &W, board: &Board<Anyone, A>, pass: &mut Pass<A>)
+    requires board { pass.old.board ≡ board.now.id }
+    requires left { 2 ≤ pass.old.left }
+    ensures board { pass.new.board ≡ pass.old.board }
+    ensures spare { pass.new.spare ≡ pass.old.spare }
+    ensures start { pass.new.start ≡ pass.old.start }
+{
+    board.step(rt, pass, &problem());
+    board.step(rt, pass, &submission());
+}
+
+/// Keeps its turn, which ends by `let_go`, and before the pass is split, joined or closed.
+fn keep_turns<W: Wait, A: Admission>(rt: &W, board: &Board<Anyone, A>, pass: &mut Pass<A>)
+    requires board { pass.old.board ≡ board.now.id }
+    requires left { 20 ≤ pass.old.left }
+    requires spare { 0 < pass.old.spare }
+    ensures board { pass.new.board ≡ pass.old.board }
+    ensures spare { pass.new.spare ≡ pass.old.spare }
+    ensures start { pass.new.start ≡ pass.old.start }
+{
+    board.step_and_keep(rt, pass, &problem());
+    let mut other = board.split(rt, pass, 10);
+    board.step_and_keep(rt, pass, &submission());
+    board.let_go(pass);
+    board.step(rt, &mut other, &submission());
+    board.step_and_keep(rt, &mut other, &submission());
+    board.join(rt, pass, other);
+    board.step_and_keep(rt, pass, &submission());
+}
+
+/// By which passes the calls were made, in order.
+fn are_made_by(history: &History, passes: &[u64]) -> bool {
+    let numbers = history.as_slice().iter().map(|call| call.number);
+    numbers.eq(passes.iter().copied())
+}
+
+/// Whether the last call is the submission of this number.
+fn ends_with_submission(history: &History, number: u32) -> bool {
+    let Some(last) = history.as_slice().last() else {
+        return false;
+    };
+    matches!(last.event, Event::Submit { broken, .. } if !broken)
+        && matches!(last.reply, Reply::Submitted { judging, .. } if judging == number)
+}
+
+/// Whether a journal was kept, of calls by these passes, of which the last is the submission of this number.
+fn is_noted(history: &Option<History>, passes: &[u64], number: u32) -> bool {
+    match history {
+        Some(history) => are_made_by(history, passes) && ends_with_submission(history, number),
+        None => false,
+    }
+}
+
+/// Whether the journal of a board with so many seats is so, once its only pass, or where there are two one of them,
+/// has submitted.
+fn notes(
+    rt: &impl Wait,
+    alloc: Global,
+    seats: u16,
+    passes: &[u64],
+    number: u32,
+) -> Result<bool, NoMemory>
+    requires seats { (1 ≤ seats) × (seats ≤ 64) }
+{
+    let farm = Farm::new(alloc, Settings::standard(alloc));
+    let (board, mut pass) = Board::<Anyone, Brand>::new(alloc, farm, Anyone, seats, true)?;
+    if seats == 1 {
+        submit(rt, &board, &mut pass);
+    } else {
+        keep_turns(rt, &board, &mut pass);
+    }
+    let _ = pass.is_alone();
+    let (farm, history) = board.close(pass);
+    let noted = is_noted(&history, passes, number);
+    drop(history);
+    drop(farm);
+    Ok(noted)
+}
+
+#[test]
+fn journal_is_read_back(rt: HostRuntime) -> Result<(), Fail> {
+    let noted = notes(&rt, rt.alloc(), 1, &[0, 0], 1)?;
+    assert!(rt; noted);
+    Ok(())
+}
+
+/// A turn that was kept ends by `let_go`, and before the pass is split, joined or closed.
+#[test]
+fn a_kept_turn_is_let_go(rt: HostRuntime) -> Result<(), Fail> {
+    let noted = notes(&rt, rt.alloc(), 2, &[0, 0, 1, 1, 0], 4)?;
+    assert!(rt; noted);
+    Ok(())
+}
+
 // Enters a submission, and looks until there are two, at most this often.
 fn submit_and_wait<W: Wait, A: Admission>(
     rt: &W,
@@ -66,100 +160,6 @@ fn submit_and_wait<W: Wait, A: Admission>(
         thread::yield_now();
     }
     (pass, false)
-}
-
-/// The journal of a board, where the pass is the only one.
-fn journal_of<A: Admission>(board: Board<Anyone, A>, pass: Pass<A>) -> Option<History>
-    requires { pass.board ≡ board.id }
-{
-    if !pass.is_alone() {
-        return None;
-    }
-    let (_, history) = board.close(pass);
-    history
-}
-
-/// By which passes the calls were made, in order.
-fn are_made_by(history: &History, passes: &[u64]) -> bool {
-    let numbers = history.as_slice().iter().map(|call| call.number);
-    numbers.eq(passes.iter().copied())
-}
-
-/// Whether the last call is the first submission.
-fn ends_with_submission(history: &History) -> bool {
-    let Some(last) = history.as_slice().last() else {
-        return false;
-    };
-    matches!(last.event, Event::Submit { broken, .. } if !broken)
-        && matches!(last.reply, Reply::Submitted { judging, .. } if judging == 1)
-}
-
-#[test]
-fn journal_is_read_back(rt: HostRuntime) -> Result<(), Fail> {
-    let farm = Farm::new(rt.alloc(), Settings::standard(rt.alloc()));
-    let opened = Board::<Anyone, Brand>::new(rt.alloc(), farm, Anyone, 1, true);
-    let Ok((board, mut pass)) = opened else {
-        return Err(Fail::new("no memory"));
-    };
-    board.step(&rt, &mut pass, &problem());
-    board.step(&rt, &mut pass, &submission());
-    let Some(history) = journal_of(board, pass) else {
-        return Err(Fail::new("not alone, or no journal"));
-    };
-    assert!(rt; are_made_by(&history, &[0, 0]));
-    assert!(rt; ends_with_submission(&history));
-    Ok(())
-}
-
-#[test]
-fn seats_run_out_and_come_back(rt: HostRuntime) -> Result<(), Fail> {
-    let farm = Farm::new(rt.alloc(), Settings::standard(rt.alloc()));
-    let opened = Board::<Anyone, Brand>::new(rt.alloc(), farm, Anyone, 2, false);
-    let Ok((board, mut pass)) = opened else {
-        return Err(Fail::new("no memory"));
-    };
-    assert!(rt; pass.spare() == 1);
-    let other = board.split(&rt, &mut pass, 1000);
-    assert!(rt; pass.spare() == 0);
-    assert!(rt; other.left() == 1000);
-    board.join(&rt, &mut pass, other);
-    assert!(rt; pass.spare() == 1);
-    let alone = pass.is_alone();
-    assert!(rt; alone);
-    Ok(())
-}
-
-// Two threads, each with a pass of its own, submit and wait for one another.
-fn submit_in_two_threads<R: Threads + Wait + Sync, A: Admission + Send + Sync>(
-    rt: &R,
-    board: &Board<Anyone, A>,
-    one: Pass<A>,
-    two: Pass<A>,
-) -> (bool, bool)
-    requires { (one.board ≡ board.now.id) × (two.board ≡ board.now.id) }
-{
-    let ((_, one_saw), (_, two_saw)) = thread::join(
-        rt,
-        || submit_and_wait(rt, board, one, 1_000_000),
-        || submit_and_wait(rt, board, two, 1_000_000),
-    );
-    (one_saw, two_saw)
-}
-
-#[test]
-fn two_passes_are_live_at_once(rt: HostRuntime) -> Result<(), Fail> {
-    let farm = Farm::new(rt.alloc(), Settings::standard(rt.alloc()));
-    let opened = Board::<Anyone, Brand>::new(rt.alloc(), farm, Anyone, 3, false);
-    let Ok((board, mut pass)) = opened else {
-        return Err(Fail::new("no memory"));
-    };
-    board.step(&rt, &mut pass, &problem());
-    let one = board.split(&rt, &mut pass, 2_000_000);
-    let two = board.split(&rt, &mut pass, 2_000_000);
-    let (one_saw, two_saw) = submit_in_two_threads(&rt, &board, one, two);
-    assert!(rt; one_saw);
-    assert!(rt; two_saw);
-    Ok(())
 }
 
 // Submits this often and looks each time, in the same turn, whether another submission came behind it.
@@ -191,6 +191,23 @@ fn submit_and_look<W: Wait, A: Admission>(
     (pass, true)
 }
 
+// Two threads, each with a pass of its own, submit and wait for one another.
+fn submit_in_two_threads<R: Threads + Wait + Sync, A: Admission + Send + Sync>(
+    rt: &R,
+    board: &Board<Anyone, A>,
+    one: Pass<A>,
+    two: Pass<A>,
+) -> (bool, bool)
+    requires { (one.board ≡ board.now.id) × (two.board ≡ board.now.id) }
+{
+    let ((_, one_saw), (_, two_saw)) = thread::join(
+        rt,
+        || submit_and_wait(rt, board, one, 1_000_000),
+        || submit_and_wait(rt, board, two, 1_000_000),
+    );
+    (one_saw, two_saw)
+}
+
 // Two threads, each with a pass of its own, submit in turn and look.
 fn look_in_two_threads<R: Threads + Wait + Sync, A: Admission + Send + Sync>(
     rt: &R,
@@ -208,43 +225,95 @@ fn look_in_two_threads<R: Threads + Wait + Sync, A: Admission + Send + Sync>(
     (one_alone, two_alone)
 }
 
-/// Whoever keeps its turn makes its next call before any other pass makes one.
-#[test]
-fn no_call_comes_between_two_of_one_turn(rt: HostRuntime) -> Result<(), Fail> {
-    let farm = Farm::new(rt.alloc(), Settings::standard(rt.alloc()));
-    let opened = Board::<Anyone, Brand>::new(rt.alloc(), farm, Anyone, 3, false);
-    let Ok((board, mut pass)) = opened else {
-        return Err(Fail::new("no memory"));
+/// Whether seats run out when a pass is split off, and come back when it is joined. There are two.
+fn split_and_join<W: Wait, A: Admission>(
+    rt: &W,
+    board: &Board<Anyone, A>,
+    pass: &mut Pass<A>,
+) -> bool
+    requires { pass.old.board ≡ board.now.id }
+{
+    if pass.spare() != 1 || pass.left() <= 1001 {
+        return false;
+    }
+    let other = board.split(rt, pass, 1000);
+    let split = pass.spare() == 0 && other.left() == 1000;
+    board.join(rt, pass, other);
+    split && pass.spare() == 1 && pass.is_alone()
+}
+
+/// Whether two passes, each in a thread, see what they should: each that the other submits too, or where they look
+/// within a turn, that no call of the other came behind theirs.
+fn two_see<R: Threads + Wait + Sync, A: Admission + Send + Sync>(
+    rt: &R,
+    board: &Board<Anyone, A>,
+    pass: &mut Pass<A>,
+    look: bool,
+) -> bool
+    requires { pass.old.board ≡ board.now.id }
+{
+    if pass.spare() < 2 || pass.left() < 10_000_000 {
+        return false;
+    }
+    board.step(rt, pass, &problem());
+    let one = board.split(rt, pass, 2_000_000);
+    let two = board.split(rt, pass, 2_000_000);
+    let (one_saw, two_saw) = if look {
+        look_in_two_threads(rt, board, one, two)
+    } else {
+        submit_in_two_threads(rt, board, one, two)
     };
-    board.step(&rt, &mut pass, &problem());
-    let one = board.split(&rt, &mut pass, 4000);
-    let two = board.split(&rt, &mut pass, 4000);
-    let (one_alone, two_alone) = look_in_two_threads(&rt, &board, one, two);
-    assert!(rt; one_alone);
-    assert!(rt; two_alone);
+    one_saw && two_saw
+}
+
+/// What is shown of a board.
+#[derive(Clone, Copy)]
+enum Shown {
+    Seats,
+    Live,
+    Turns,
+}
+
+/// Whether it is so on a board with so many seats.
+fn is_so<R: Threads + Wait + Sync>(
+    rt: &R,
+    alloc: Global,
+    seats: u16,
+    shown: Shown,
+) -> Result<bool, NoMemory>
+    requires seats { (1 ≤ seats) × (seats ≤ 64) }
+{
+    let farm = Farm::new(alloc, Settings::standard(alloc));
+    let (board, mut pass) = Board::<Anyone, Brand>::new(alloc, farm, Anyone, seats, false)?;
+    let so = match shown {
+        Shown::Seats => split_and_join(rt, &board, &mut pass),
+        Shown::Live => two_see(rt, &board, &mut pass, false),
+        Shown::Turns => two_see(rt, &board, &mut pass, true),
+    };
+    drop(pass);
+    drop(board);
+    Ok(so)
+}
+
+#[test]
+fn seats_run_out_and_come_back(rt: HostRuntime) -> Result<(), Fail> {
+    let so = is_so(&rt, rt.alloc(), 2, Shown::Seats)?;
+    assert!(rt; so);
     Ok(())
 }
 
-/// A turn that was kept ends by `let_go`, and before the pass is split, joined or closed.
 #[test]
-fn a_kept_turn_is_let_go(rt: HostRuntime) -> Result<(), Fail> {
-    let farm = Farm::new(rt.alloc(), Settings::standard(rt.alloc()));
-    let opened = Board::<Anyone, Brand>::new(rt.alloc(), farm, Anyone, 2, true);
-    let Ok((board, mut pass)) = opened else {
-        return Err(Fail::new("no memory"));
-    };
-    board.step_and_keep(&rt, &mut pass, &problem());
-    let mut other = board.split(&rt, &mut pass, 10);
-    board.step_and_keep(&rt, &mut pass, &submission());
-    board.let_go(&mut pass);
-    board.step(&rt, &mut other, &submission());
-    board.step_and_keep(&rt, &mut other, &submission());
-    board.join(&rt, &mut pass, other);
-    board.step_and_keep(&rt, &mut pass, &submission());
-    let Some(history) = journal_of(board, pass) else {
-        return Err(Fail::new("not alone, or no journal"));
-    };
-    assert!(rt; are_made_by(&history, &[0, 0, 1, 1, 0]));
+fn two_passes_are_live_at_once(rt: HostRuntime) -> Result<(), Fail> {
+    let so = is_so(&rt, rt.alloc(), 3, Shown::Live)?;
+    assert!(rt; so);
+    Ok(())
+}
+
+/// Whoever keeps its turn makes its next call before any other pass makes one.
+#[test]
+fn no_call_comes_between_two_of_one_turn(rt: HostRuntime) -> Result<(), Fail> {
+    let so = is_so(&rt, rt.alloc(), 3, Shown::Turns)?;
+    assert!(rt; so);
     Ok(())
 }
 
@@ -283,57 +352,102 @@ impl<'a> Cases for OneProgram<'a> {
     }
 }
 
-/// What a host is told, how often it ran a case, and what is shown of the submission: a problem of three tests, one
-/// submission and one host.
-fn judge_three_tests<W: Wait, C: Cases + Drop, A: Admission>(
+/// Enters a problem of three tests, a submission to it and a host.
+fn enter<W: Wait, C: Cases + Drop, A: Admission>(
     rt: &W,
-    alloc: Global,
-    cases: C,
-) -> Result<(HostEnd, u64, Reply), NoMemory>
-    requires named { A.admits ≡ (λ task kind. is_value_of (C.case_at cases task) kind) }
+    board: &Board<Proved<C>, A>,
+    pass: &mut Pass<A>,
+)
+    requires board { pass.old.board ≡ board.now.id }
+    requires left { 3 ≤ pass.old.left }
+    ensures board { pass.new.board ≡ pass.old.board }
+    ensures spare { pass.new.spare ≡ pass.old.spare }
+    ensures left { pass.new.left + 3 ≡ pass.old.left }
 {
-    let runs = Arc::new(alloc, AtomicU64::new(0)).map_err(|_| NoMemory)?;
-    let counted = Arc::try_clone(&runs).map_err(|_| NoMemory)?;
-    let Ok(run) = Box::new(
-        alloc,
-        move |case: &Case<'_>| -> Result<Kind, NoMemory>
-            requires { CanRun (test_case case.now) }
-            ensures { IfOk result (λ kind. kind ≡ case_value (test_case case.now)) }
-        {
-            counted.fetch_add(1, Ordering::SeqCst);
-            run_case(alloc, case)
-        },
-    ) else {
-        return Err(NoMemory);
-    };
-    let runner = Runner::new(run);
-    let farm = Farm::new(alloc, Settings::standard(alloc));
-    let (board, mut pass) = Board::<Proved<C>, A>::new(alloc, farm, Proved::new(cases), 2, false)?;
+    let problem = name(b"A");
     board.step(
         rt,
-        &mut pass,
+        pass,
         &Event::Problem {
             who: Name::jury(),
-            name: name(b"A"),
+            name: problem,
             tests: 3,
         },
     );
     board.step(
         rt,
-        &mut pass,
+        pass,
         &Event::Submit {
-            problem: name(b"A"),
+            problem,
             class: Class::Normal,
             broken: false,
         },
     );
-    board.step(rt, &mut pass, &Event::Host { name: name(b"h1") });
-    let share = board.split(rt, &mut pass, 1 << 33);
-    let mut bench = LocalBench::new(rt, &board, share, name(b"h1"));
-    let end = host_loop(&runner, &mut bench, &AlwaysOn, 1, 1 << 32);
-    board.join(rt, &mut pass, bench.end());
-    let shown = board.step(rt, &mut pass, &Event::Show { judging: 1 });
-    Ok((end, runs.load(Ordering::SeqCst), shown))
+    board.step(rt, pass, &Event::Host { name: name(b"h1") });
+}
+
+/// Has the host judge the submission, and tells how it ends, and whether a run error is shown then.
+fn judge_on<W: Wait, C: Cases + Drop, A: Admission>(
+    rt: &W,
+    board: &Board<Proved<C>, A>,
+    pass: &mut Pass<A>,
+    runner: &Runner,
+) -> (HostEnd, bool)
+    requires board { pass.old.board ≡ board.now.id }
+    requires spare { 0 < pass.old.spare }
+    requires left { 2 ^ 34 ≤ pass.old.left }
+{
+    enter(rt, board, pass);
+    let share = board.split(rt, pass, 1 << 33);
+    let mut bench = LocalBench::new(rt, board, share, name(b"h1"));
+    let end = host_loop(runner, &mut bench, &AlwaysOn, 1, 1 << 32);
+    board.join(rt, pass, bench.end());
+    let shown = board.step(rt, pass, &Event::Show { judging: 1 });
+    (end, is_run_error(&shown))
+}
+
+/// Whether the judging ended with a run error.
+fn is_run_error(shown: &Reply) -> bool {
+    matches!(
+        shown,
+        Reply::Shown(Answer::Final(Verdict::Tests(Kind::RunError)))
+    )
+}
+
+/// The same on a board of these cases.
+fn judge_of<W: Wait, C: Cases + Drop, A: Admission>(
+    rt: &W,
+    alloc: Global,
+    cases: C,
+    runner: &Runner,
+) -> Result<(HostEnd, bool), NoMemory>
+    requires named { A.admits ≡ (λ task kind. is_value_of (C.case_at cases task) kind) }
+{
+    let farm = Farm::new(alloc, Settings::standard(alloc));
+    let (board, mut pass) = Board::<Proved<C>, A>::new(alloc, farm, Proved::new(cases), 2, false)?;
+    let judged = judge_on(rt, &board, &mut pass, runner);
+    drop(pass);
+    drop(board);
+    Ok(judged)
+}
+
+/// How a host ends, how often it ran a case, and whether a run error is shown then: a problem of three tests, one
+/// submission and one host.
+fn judge_three_tests<W: Wait, C: Cases + Drop, A: Admission>(
+    rt: &W,
+    alloc: Global,
+    cases: C,
+) -> Result<(HostEnd, u64, bool), Fail>
+    requires named { A.admits ≡ (λ task kind. is_value_of (C.case_at cases task) kind) }
+{
+    let runs = Arc::new(alloc, AtomicU64::new(0))?;
+    let runner = counting_runner(alloc, &runs, None)?;
+    let judged = judge_of::<W, C, A>(rt, alloc, cases, &runner);
+    drop(runner);
+    let ran = runs.load(Ordering::SeqCst);
+    drop(runs);
+    let (end, run_error) = judged?;
+    Ok((end, ran, run_error))
 }
 
 /// After a run error on the first test no other test can matter, so a host runs one of three.
@@ -344,15 +458,7 @@ fn one_of_three_tests_is_run(rt: HostRuntime) -> Result<(), Fail> {
         return Err(Fail::from("no case"));
     }
     let cases = OneProgram { image: FAIL, flags };
-    let judged = judge_three_tests::<_, _, Brand>(&rt, rt.alloc(), cases);
-    let (end, runs, shown) = judged.map_err(|_| "no memory")?;
-    assert!(rt; end == HostEnd::Idle);
-    assert!(rt; runs == 1);
-    assert!(rt;
-        matches!(
-            shown,
-            Reply::Shown(Answer::Final(Verdict::Tests(Kind::RunError)))
-        )
-    );
+    let judged = judge_three_tests::<_, _, Brand>(&rt, rt.alloc(), cases)?;
+    assert!(rt; judged == (HostEnd::Idle, 1, true));
     Ok(())
 }

@@ -114,7 +114,9 @@ fn rejudge_and_close(alloc: Global, farm: &mut Farm, event: &Event) -> Result<Cl
 /// proved to drop it, and so all that it holds.
 fn closed_by(alloc: Global, event: &Event) -> Result<Closed, NoMemory> {
     let mut farm = Farm::new(alloc, Settings::standard(alloc));
-    rejudge_and_close(alloc, &mut farm, event)
+    let closed = rejudge_and_close(alloc, &mut farm, event);
+    drop(farm);
+    closed
 }
 
 #[test]

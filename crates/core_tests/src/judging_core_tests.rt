@@ -1,138 +1,305 @@
 ghost use Rattle.std.specs.Prelude.{◌≡◌, ◌∷◌, [], ◌≤◌, ◌<◌, length, true, IfOk, OnOk, OnErr};
 
+use crate::rows::{is_reported, is_said, moment, number, parts_of, rank, rule_of, word};
 use farm_kinds::{
-    Answer, AskEnd, Claim, Class, Count, Fetched, Kind, Mode, NoMemory, Numbers, Renewed, Rule,
-    Task, Verdict,
+    AskEnd, Claim, Class, Count, Fetched, Kind, Mode, NoMemory, Numbers, Renewed, Rule, Task,
 };
 use judging_core::Judge;
 use std::alloc::Global;
-use std::process::Abort;
 use std::test::Fail;
 
-/// What a judge is asked, and in the last place what it should answer.
-#[derive(Clone, Copy)]
-enum Step {
-    /// A judging of so many tests and two hosts are added.
-    SetUp(u16),
-    /// The number of a host that is added.
-    AddHost(u32),
-    /// The number of a judging of the class normal that is added, with so many tests.
-    Add(u16, u32),
-    /// The number of a judging that is added and waits to be asked for, with so many tests.
-    AddWaiting(u16, u32),
-    /// What becomes of a judging that is asked for.
-    Ask(u32, AskEnd),
-    /// Whether a judging was asked for.
-    Asked(u32, bool),
-    /// Room is made ahead for judgings of these numbers of tests.
-    Reserve([u16; 3]),
-    /// Room is made ahead for judgings of these numbers of tests, and they are added: the first of the class low, the
-    /// second of the class high, and the third of the class normal.
-    AddReserved([u16; 3]),
-    /// A host claims a task.
-    Claim(u32, Claim),
-    /// A host claims a task, and is handed a test of a judging until a moment.
-    Handed(u32, u32, u16, u64),
-    /// A host claims once for each of these tests, and is handed them in turn.
-    ClaimEach(u32, u16, u16),
-    /// A host fetches at most so many tasks.
-    Fetch(u32, u8, Fetch),
-    /// A host's result of a test of a judging.
-    Result(u32, u32, Kind, Count),
-    /// A result from outside, of a test of a judging.
-    Enter(u32, u32, Kind, Count),
-    /// A host renews its lease on a test of a judging.
-    Renew(u32, u32, u32, Renewed),
-    /// Time goes on to a moment, and so many leases end.
-    Tick(u64, u32),
-    /// A host goes down, and so many leases end.
-    Down(u32, u32),
-    /// A judging is dropped.
-    Drop(u32),
-    /// Whether a judging was dropped.
-    Dropped(u32, bool),
-    /// What is reported of a judging.
-    Answer(u32, Option<Answer>),
-    /// How many judgings there are.
-    Judgings(usize),
-}
+/// Judges with leases of a minute, a row each: what is shown of the judge, behind `|` its rule, behind the next `|` in
+/// which mode it judges (in each of the two behind `each`), and behind the last `|` what it is asked, each step before
+/// a `~` and what it should answer behind `=`. Numbers of a step are, in this order, those of a host, of a judging and
+/// of a test, as far as it has them.
+///
+/// `set-up` adds a judging of so many tests and two hosts. `host`, `add` and `add-waiting` are answered the number of
+/// what they add, these two a judging of the class normal with so many tests, of which the second waits to be asked
+/// for. `reserve` makes room ahead for judgings of these numbers of tests, and `add-reserved` makes it and adds them: the
+/// first of the class low, the second of the class high, and the third of the class normal. A claim is `handed` a
+/// judging, a test and until when; the host that does `claim-each` claims once for each test from one to another of
+/// judging 1, and is handed them in turn. A fetch of at most so many tasks is handed a `batch`: a judging, its tests from
+/// one to another, and until when. `tick`, with a moment, and `down` are answered how many leases end.
+const ROWS: &str = concat!(
+    "final once every cell is filled|standard|each|",
+    "set-up 2~",
+    "enter 1 2 run-error = counted~",
+    "answer 1 = pending~",
+    "enter 1 1 correct = counted~",
+    "answer 1 = final run-error~",
+    "judgings = 1~",
+    "answer 2 = none~",
+    "\n",
+    "lazy judging ends once the verdict is known|standard|lazy|",
+    "set-up 2~",
+    "enter 1 1 run-error = counted~",
+    "answer 1 = final run-error~",
+    "claim 1 = nothing~",
+    "\n",
+    "full judging goes on once the verdict is known|standard|full|",
+    "set-up 2~",
+    "enter 1 1 run-error = counted~",
+    "answer 1 = pending~",
+    "claim 1 = handed 1 2 60~",
+    "result 1 2 correct = counted~",
+    "answer 1 = final run-error~",
+    "\n",
+    "a tie waits for an earlier rank|standard|lazy|",
+    "set-up 3~",
+    "enter 1 2 run-error = counted~",
+    "answer 1 = pending~",
+    "claim 1 = handed 1 1 60~",
+    "claim 2 = nothing~",
+    "result 1 1 correct = counted~",
+    "answer 1 = final run-error~",
+    "claim 1 = nothing~",
+    // a result that comes all the same is kept, and the verdict stays
+    "enter 1 3 timelimit = counted~",
+    "answer 1 = final run-error~",
+    "\n",
+    "a middle priority does not stop|standard|lazy|",
+    "set-up 2~",
+    "enter 1 1 wrong-answer = counted~",
+    "answer 1 = pending~",
+    "claim 1 = handed 1 2 60~",
+    "\n",
+    "a unique greatest priority stops|one-greatest|lazy|",
+    "set-up 3~",
+    "enter 1 3 run-error = counted~",
+    "answer 1 = final run-error~",
+    "claim 1 = nothing~",
+    "\n",
+    "one possible kind needs no test|one-kind|lazy|",
+    "set-up 2~",
+    "answer 1 = final run-error~",
+    "claim 1 = nothing~",
+    "\n",
+    "with equal priorities the first test decides|equal|lazy|",
+    "set-up 3~",
+    "enter 1 2 correct = counted~",
+    "answer 1 = pending~",
+    "claim 1 = handed 1 1 60~",
+    "claim 2 = nothing~",
+    "result 1 1 run-error = counted~",
+    "answer 1 = final run-error~",
+    "\n",
+    "a judging waits until it is asked for|standard|each|",
+    "set-up 1~",
+    "add-waiting 2 = 2~",
+    "claim 1 = handed 1 1 60~",
+    "claim 2 = nothing~",
+    "asked 1 = yes~",
+    "asked 2 = no~",
+    "ask 3 = no-judging~",
+    "ask 1 = already~",
+    "answer 2 = pending~",
+    "ask 2 = done~",
+    "ask 2 = already~",
+    "asked 2 = yes~",
+    "claim 2 = handed 2 1 60~",
+    "claim 1 = handed 2 2 60~",
+    // one that is dropped is not asked for, and one that waits takes results from outside
+    "add-waiting 1 = 3~",
+    "drop 3~",
+    "ask 3 = dropped~",
+    "add-waiting 1 = 4~",
+    "enter 4 1 correct = counted~",
+    "answer 4 = final correct~",
+    "\n",
+    "a broken submission is final at once|standard|each|",
+    "set-up 0~",
+    "answer 1 = final compiler-error~",
+    "claim 1 = nothing~",
+    "\n",
+    "a late result counts|standard|each|",
+    "set-up 2~",
+    "claim 1 = handed 1 1 60~",
+    "tick 60 = 1~",
+    "renew 1 1 1 = no-lease~",
+    "result 1 1 correct = counted~",
+    "claim 2 = handed 1 2 120~",
+    "\n",
+    "the first result stays|standard|each|",
+    "set-up 2~",
+    "result 1 1 correct = not-handed~",
+    "claim 1 = handed 1 1 60~",
+    "result 1 1 correct = counted~",
+    "result 1 1 correct = repeat correct~",
+    "result 1 1 run-error = differs correct run-error~",
+    "enter 1 1 run-error = differs correct run-error~",
+    "enter 1 3 run-error = no-test~",
+    "result 2 1 run-error = no-judging~",
+    "\n",
+    "one before the end|standard|lazy|",
+    "set-up 3~",
+    "claim 1 = handed 1 1 60~",
+    "tick 59 = 0~",
+    "claim 2 = handed 1 2 119~",
+    "tick 60 = 1~",
+    "claim 2 = handed 1 1 120~",
+    "renew 2 1 2 = until 120~",
+    "renew 1 1 2 = no-lease~",
+    "tick 119 = 0~",
+    "tick 120 = 2~",
+    "\n",
+    "a host dies and returns|standard|lazy|",
+    "set-up 2~",
+    "claim 1 = handed 1 1 60~",
+    "down 2 = 0~",
+    "down 1 = 1~",
+    "down 1 = 0~",
+    "claim 2 = handed 1 1 60~",
+    "claim 1 = handed 1 2 60~",
+    "claim 1 = nothing~",
+    "down 2 = 1~",
+    "host = 3~",
+    "claim 3 = handed 1 1 60~",
+    "\n",
+    "a host holds at most 64|standard|lazy|",
+    "set-up 66~",
+    "claim-each 1 1 64~",
+    "claim 1 = holding~",
+    "claim 2 = handed 1 65 60~",
+    "result 1 7 correct = counted~",
+    "claim 1 = handed 1 66 60~",
+    "claim 2 = nothing~",
+    "\n",
+    "leases end where nothing is left to judge|standard|lazy|",
+    "set-up 3~",
+    "fetch 1 2 = batch 1 1 2 60~",
+    "fetch 2 16 = batch 1 3 3 60~",
+    "fetch 2 1 = nothing~",
+    "tick 10 = 0~",
+    "renew 1 1 2 = until 70~",
+    "tick 60 = 1~",
+    "claim 2 = handed 1 3 120~",
+    // the first test decides: the leases on the others end
+    "result 1 1 run-error = counted~",
+    "renew 1 1 2 = no-lease~",
+    "down 2 = 0~",
+    "result 1 2 correct = counted~",
+    "\n",
+    "leases stay where all is left to judge|standard|full|",
+    "set-up 3~",
+    "fetch 1 3 = batch 1 1 3 60~",
+    "result 1 1 run-error = counted~",
+    "renew 1 1 3 = until 60~",
+    "down 1 = 2~",
+    "\n",
+    "a batch is of at most 16|standard|each|",
+    "set-up 65~",
+    "fetch 1 0 = batch 1 1 1 60~",
+    "fetch 1 255 = batch 1 2 17 60~",
+    "claim-each 1 18 60~",
+    "fetch 1 16 = batch 1 61 64 60~",
+    "fetch 1 1 = holding~",
+    "fetch 2 16 = batch 1 65 65 60~",
+    "fetch 2 16 = nothing~",
+    "\n",
+    "a batch is of one judging|standard|each|",
+    "set-up 3~",
+    "add 2 = 2~",
+    "claim 1 = handed 1 1 60~",
+    "fetch 2 16 = batch 1 2 3 60~",
+    "fetch 2 16 = batch 2 1 2 60~",
+    "fetch 2 16 = nothing~",
+    "\n",
+    // a lease from the last moment ends a minute behind it
+    "time stops at its last moment|standard|lazy|",
+    "set-up 2~",
+    "claim 1 = handed 1 1 60~",
+    "tick 1000000000000000000 = 1~",
+    "claim 1 = handed 1 1 1000000000000000059~",
+    "tick 18446744073709551615 = 0~",
+    "tick 0 = 0~",
+    "renew 1 1 1 = until 1000000000000000059~",
+    "claim 2 = handed 1 2 1000000000000000059~",
+    "\n",
+    "a judging that is dropped takes no more results, keeps its cells, and holds no lease|standard|lazy|",
+    "set-up 2~",
+    "claim 1 = handed 1 1 60~",
+    "claim 2 = handed 1 2 60~",
+    "result 1 2 correct = counted~",
+    "dropped 1 = no~",
+    "drop 1~",
+    "dropped 1 = yes~",
+    "result 1 1 correct = dropped~",
+    "enter 1 1 correct = dropped~",
+    "enter 1 2 correct = repeat correct~",
+    "claim 1 = nothing~",
+    "tick 60 = 0~",
+    "answer 1 = pending~",
+    "\n",
+    "room that is made ahead is taken in order, and a judging that is made ahead is like another|standard|lazy|",
+    "host = 1~",
+    "add-reserved 2 0 3~",
+    "judgings = 3~",
+    "answer 1 = pending~",
+    "answer 2 = final compiler-error~",
+    // the third is of the class normal, and the first of the class low
+    "claim 1 = handed 3 1 60~",
+    "claim 1 = handed 3 2 60~",
+    "claim 1 = handed 3 3 60~",
+    "claim 1 = handed 1 1 60~",
+    "claim 1 = handed 1 2 60~",
+    "claim 1 = nothing~",
+    "result 3 3 run-error = counted~",
+    "result 3 4 run-error = no-test~",
+    "enter 1 3 run-error = no-test~",
+    "\n",
+    "a judging with another number of tests ends what was reserved, and is as it was asked for|standard|full|",
+    "reserve 2 0 3~",
+    "add 2 = 1~",
+    "add 1 = 2~",
+    "add 0 = 3~",
+    "enter 2 1 correct = counted~",
+    "answer 2 = final correct~",
+    "answer 3 = final compiler-error~",
+    "\n",
+    "what is reserved again replaces what was reserved before|standard|lazy|",
+    "reserve 2 0 3~",
+    "add-reserved 0 1 1~",
+    "judgings = 3~",
+    "answer 1 = final compiler-error~",
+    "answer 2 = pending~",
+    "enter 2 2 correct = no-test~",
+    "enter 2 1 correct = counted~",
+    "enter 3 1 run-error = counted~",
+    "add 2 = 4~",
+    "\n",
+);
 
-/// What a fetch should be answered.
-#[derive(Clone, Copy)]
-enum Fetch {
-    /// The host holds as many leases as it may.
-    Holding,
-    /// No task is open.
-    Nothing,
-    /// The tests of a judging from one to another, until a moment.
-    Tests(u32, u16, u16, u64),
-}
-
-const PENDING: Option<Answer> = Some(Answer::Pending);
-
-const FINAL_CORRECT: Option<Answer> = Some(Answer::Final(Verdict::Tests(Kind::Correct)));
-
-const FINAL_RUN_ERROR: Option<Answer> = Some(Answer::Final(Verdict::Tests(Kind::RunError)));
-
-const FINAL_COMPILER_ERROR: Option<Answer> = Some(Answer::Final(Verdict::CompilerError));
-
-/// What a host is answered that is given a test of a judging until that moment.
-fn handed(judging: u32, test: u16, until: u64) -> Claim {
-    Claim::Handed {
-        task: Task { judging, test },
-        until,
-    }
-}
-
-/// What a host is answered that is one of these.
-fn claim(judge: &mut Judge, hosts: u32, host: u32) -> Option<Claim>
-    requires { judge.old.hosts ≡ hosts }
-    ensures { judge.new.hosts ≡ hosts }
-{
-    if host == 0 || host > hosts {
-        return None;
-    }
-    Some(judge.claim(host))
-}
-
-/// Whether a host that claims once for each of these tests is handed them in turn.
-fn claims_each(judge: &mut Judge, hosts: u32, host: u32, first: u16, last: u16) -> bool
-    requires { judge.old.hosts ≡ hosts }
-    ensures { judge.new.hosts ≡ hosts }
-{
-    for test in first..=last {
-        if claim(judge, hosts, host) != Some(handed(1, test, 60)) {
-            return false;
+/// Whether a claim is answered so.
+fn is_claim(claim: Claim, wanted: &str) -> bool {
+    match claim {
+        Claim::Holding => wanted == "holding",
+        Claim::Nothing => wanted == "nothing",
+        Claim::Handed { task, until } => {
+            word(wanted, 0) == "handed" && is_task(task, wanted) && until == moment(wanted, 3)
         }
     }
-    true
 }
 
-/// Whether a host that is one of these fetches at most so many tasks, and is answered so.
-fn fetches(judge: &mut Judge, hosts: u32, host: u32, most: u8, wanted: Fetch) -> bool
-    requires { judge.old.hosts ≡ hosts }
-    ensures { judge.new.hosts ≡ hosts }
-{
-    if host == 0 || host > hosts {
-        return false;
-    }
-    is_fetched(&judge.fetch(host, most), wanted)
+/// Whether the task is that of the judging and the test behind the first word.
+fn is_task(task: Task, wanted: &str) -> bool {
+    task.judging == number(wanted, 1) && task.test == rank(wanted, 2)
 }
 
-/// Whether the answer is as it should be.
-fn is_fetched(answer: &Fetched, wanted: Fetch) -> bool {
-    match (answer, wanted) {
-        (Fetched::Holding, Fetch::Holding) => true,
-        (Fetched::Nothing, Fetch::Nothing) => true,
-        (
-            Fetched::Batch {
-                judging,
-                tests,
-                until,
-            },
-            Fetch::Tests(of, first, last, end),
-        ) => *judging == of && *until == end && are_all(tests.as_slice(), first, last),
-        _ => false,
+/// Whether a fetch is answered so.
+fn is_fetched(answer: &Fetched, wanted: &str) -> bool {
+    match answer {
+        Fetched::Holding => wanted == "holding",
+        Fetched::Nothing => wanted == "nothing",
+        Fetched::Batch {
+            judging,
+            tests,
+            until,
+        } => {
+            word(wanted, 0) == "batch"
+                && *judging == number(wanted, 1)
+                && are_all(tests.as_slice(), rank(wanted, 2), rank(wanted, 3))
+                && *until == moment(wanted, 4)
+        }
     }
 }
 
@@ -146,6 +313,93 @@ fn are_all(tests: &[u16], first: u16, last: u16) -> bool {
         next = next.saturating_add(1);
     }
     next == last.saturating_add(1)
+}
+
+/// Whether a result is answered so.
+fn is_count(count: Count, wanted: &str) -> bool {
+    match count {
+        Count::NoJudging => wanted == "no-judging",
+        Count::NoTest => wanted == "no-test",
+        Count::NotHanded => wanted == "not-handed",
+        Count::Repeat { kept } => word(wanted, 0) == "repeat" && word(wanted, 1) == kept.name(),
+        Count::Differs { kept, given } => {
+            word(wanted, 0) == "differs"
+                && word(wanted, 1) == kept.name()
+                && word(wanted, 2) == given.name()
+        }
+        Count::Dropped => wanted == "dropped",
+        Count::Counted => wanted == "counted",
+    }
+}
+
+/// Whether a host that renews its leases is answered so.
+fn is_renewed(renewed: Renewed, wanted: &str) -> bool {
+    match renewed {
+        Renewed::NoJudging => wanted == "no-judging",
+        Renewed::NoTest => wanted == "no-test",
+        Renewed::NoLease => wanted == "no-lease",
+        Renewed::Until { until } => word(wanted, 0) == "until" && until == moment(wanted, 1),
+    }
+}
+
+/// Whether the jury that asks for a judging is answered so.
+fn is_ask_end(end: AskEnd, wanted: &str) -> bool {
+    match end {
+        AskEnd::NoJudging => wanted == "no-judging",
+        AskEnd::Dropped => wanted == "dropped",
+        AskEnd::Already => wanted == "already",
+        AskEnd::Done => wanted == "done",
+    }
+}
+
+/// Whether this is said of a judging that is there.
+fn is_known(said: Option<bool>, wanted: &str) -> bool {
+    match said {
+        Some(said) => is_said(said, wanted),
+        None => false,
+    }
+}
+
+/// Whether a host that is one of these claims a task, and is answered so.
+fn claims(judge: &mut Judge, hosts: u32, host: u32, wanted: &str) -> bool
+    requires { judge.old.hosts ≡ hosts }
+    ensures { judge.new.hosts ≡ hosts }
+{
+    if host == 0 || host > hosts {
+        return false;
+    }
+    is_claim(judge.claim(host), wanted)
+}
+
+/// Whether a host that is one of these claims once for each of these tests, and is handed them in turn.
+fn claims_each(judge: &mut Judge, hosts: u32, host: u32, first: u16, last: u16) -> bool
+    requires { judge.old.hosts ≡ hosts }
+    ensures { judge.new.hosts ≡ hosts }
+{
+    if host == 0 || host > hosts {
+        return false;
+    }
+    for test in first..=last {
+        let task = Task { judging: 1, test };
+        if judge.claim(host) != (Claim::Handed { task, until: 60 }) {
+            return false;
+        }
+    }
+    true
+}
+
+/// Whether a host that is one of these fetches at most so many tasks, and is answered so.
+fn fetches(judge: &mut Judge, hosts: u32, host: u32, most: &str, wanted: &str) -> bool
+    requires { judge.old.hosts ≡ hosts }
+    ensures { judge.new.hosts ≡ hosts }
+{
+    if host == 0 || host > hosts {
+        return false;
+    }
+    let Ok(most) = most.parse::<u8>() else {
+        return false;
+    };
+    is_fetched(&judge.fetch(host, most), wanted)
 }
 
 /// Adds a host where there are not too many, and counts it.
@@ -220,10 +474,10 @@ fn add_reserved(
 }
 
 /// Makes room ahead, where the numbers are not too large.
-fn reserve_few(alloc: Global, judge: &mut Judge, tests: [u16; 3]) -> bool
+fn reserve_few(alloc: Global, judge: &mut Judge, tests: &str) -> bool
     ensures { judge.new.hosts ≡ judge.old.hosts }
 {
-    let [first, second, third] = tests;
+    let (first, second, third) = (rank(tests, 1), rank(tests, 2), rank(tests, 3));
     if first > 1000 || second > 1000 || third > 1000 {
         return false;
     }
@@ -231,10 +485,10 @@ fn reserve_few(alloc: Global, judge: &mut Judge, tests: [u16; 3]) -> bool
 }
 
 /// Makes room ahead and adds, where there are not too many and the numbers are not too large.
-fn add_few_reserved(alloc: Global, judge: &mut Judge, mode: Mode, tests: [u16; 3]) -> bool
+fn add_few_reserved(alloc: Global, judge: &mut Judge, mode: Mode, tests: &str) -> bool
     ensures { judge.new.hosts ≡ judge.old.hosts }
 {
-    let [first, second, third] = tests;
+    let (first, second, third) = (rank(tests, 1), rank(tests, 2), rank(tests, 3));
     if judge.judgings() >= 1000 || first > 1000 || second > 1000 || third > 1000 {
         return false;
     }
@@ -278,493 +532,138 @@ fn asked(judge: &Judge, judging: u32) -> Option<bool> {
     Some(judge.asked(judging))
 }
 
-/// Whether the judge, which has so many hosts and judges in this mode, answers the step as it should.
-fn is_answered(alloc: Global, judge: &mut Judge, hosts: &mut u32, mode: Mode, step: Step) -> bool
+/// Counts a result of a host, where it has a kind.
+fn result(judge: &mut Judge, asked: &str, wanted: &str) -> bool
+    ensures { judge.new.hosts ≡ judge.old.hosts }
+{
+    let Some(kind) = Kind::read(word(asked, 3).as_bytes()) else {
+        return false;
+    };
+    is_count(
+        judge.result(number(asked, 1), number(asked, 2), kind),
+        wanted,
+    )
+}
+
+/// Counts a result from outside, where it has a kind.
+fn enter(judge: &mut Judge, asked: &str, wanted: &str) -> bool
+    ensures { judge.new.hosts ≡ judge.old.hosts }
+{
+    let Some(kind) = Kind::read(word(asked, 3).as_bytes()) else {
+        return false;
+    };
+    is_count(
+        judge.enter(number(asked, 1), number(asked, 2), kind),
+        wanted,
+    )
+}
+
+/// Whether a judge of a mode, which has so many hosts, takes a step that adds to it as it should.
+fn is_answered(alloc: Global, judge: &mut Judge, hosts: &mut u32, mode: Mode, step: &str) -> bool
     requires { judge.old.hosts ≡ hosts.old }
     ensures { judge.new.hosts ≡ hosts.new }
 {
-    match step {
-        Step::SetUp(tests) => set_up(judge, hosts, tests, mode),
-        Step::AddHost(wanted) => add_host(judge, hosts) == Ok(wanted),
-        Step::Add(tests, wanted) => add(judge, tests, mode, true) == Ok(wanted),
-        Step::AddWaiting(tests, wanted) => add(judge, tests, mode, false) == Ok(wanted),
-        Step::Ask(judging, wanted) => judge.ask(judging) == wanted,
-        Step::Asked(judging, wanted) => asked(judge, judging) == Some(wanted),
-        Step::Reserve(tests) => reserve_few(alloc, judge, tests),
-        Step::AddReserved(tests) => add_few_reserved(alloc, judge, mode, tests),
-        Step::Claim(host, wanted) => claim(judge, *hosts, host) == Some(wanted),
-        Step::Handed(host, judging, test, until) => {
-            claim(judge, *hosts, host) == Some(handed(judging, test, until))
-        }
-        Step::ClaimEach(host, first, last) => claims_each(judge, *hosts, host, first, last),
-        Step::Fetch(host, most, wanted) => fetches(judge, *hosts, host, most, wanted),
-        Step::Result(judging, test, kind, wanted) => judge.result(judging, test, kind) == wanted,
-        Step::Enter(judging, test, kind, wanted) => judge.enter(judging, test, kind) == wanted,
-        Step::Renew(host, judging, test, wanted) => judge.renew(host, judging, test) == wanted,
-        Step::Tick(moment, wanted) => judge.tick(moment) == wanted,
-        Step::Down(host, wanted) => judge.down(host) == wanted,
-        Step::Drop(judging) => drop_judging(judge, judging),
-        Step::Dropped(judging, wanted) => dropped(judge, judging) == Some(wanted),
-        Step::Answer(judging, wanted) => judge.answer(judging) == wanted,
-        Step::Judgings(wanted) => judge.judgings() == wanted,
+    let (asked, wanted) = parts_of(step, " = ");
+    match word(asked, 0) {
+        "set-up" => set_up(judge, hosts, rank(asked, 1), mode),
+        "host" => add_host(judge, hosts) == Ok(number(wanted, 0)),
+        "add" => add(judge, rank(asked, 1), mode, true) == Ok(number(wanted, 0)),
+        "add-waiting" => add(judge, rank(asked, 1), mode, false) == Ok(number(wanted, 0)),
+        "reserve" => reserve_few(alloc, judge, asked),
+        "add-reserved" => add_few_reserved(alloc, judge, mode, asked),
+        _ => is_judged(judge, *hosts, asked, wanted),
     }
 }
 
-/// Has a judge without hosts take the steps, each of which it should answer as is said there.
-fn play(rt: &impl Abort, alloc: Global, judge: &mut Judge, mode: Mode, steps: &[Step])
+/// The same of a step of judging.
+fn is_judged(judge: &mut Judge, hosts: u32, asked: &str, wanted: &str) -> bool
+    requires { judge.old.hosts ≡ hosts }
+    ensures { judge.new.hosts ≡ hosts }
+{
+    let first = number(asked, 1);
+    match word(asked, 0) {
+        "claim" => claims(judge, hosts, first, wanted),
+        "claim-each" => claims_each(judge, hosts, first, rank(asked, 2), rank(asked, 3)),
+        "fetch" => fetches(judge, hosts, first, word(asked, 2), wanted),
+        "result" => result(judge, asked, wanted),
+        "enter" => enter(judge, asked, wanted),
+        "renew" => is_renewed(
+            judge.renew(first, number(asked, 2), number(asked, 3)),
+            wanted,
+        ),
+        "tick" => judge.tick(moment(asked, 1)) == number(wanted, 0),
+        "down" => judge.down(first) == number(wanted, 0),
+        "ask" => is_ask_end(judge.ask(first), wanted),
+        "drop" => drop_judging(judge, first),
+        _ => is_told(judge, asked, wanted),
+    }
+}
+
+/// The same of a step that only looks.
+fn is_told(judge: &Judge, asked: &str, wanted: &str) -> bool {
+    let first = number(asked, 1);
+    match word(asked, 0) {
+        "asked" => is_known(self::asked(judge, first), wanted),
+        "dropped" => is_known(dropped(judge, first), wanted),
+        "answer" => match judge.answer(first) {
+            Some(answer) => is_reported(answer, wanted),
+            None => wanted == "none",
+        },
+        "judgings" => judge.judgings() == number(wanted, 0) as usize,
+        _ => false,
+    }
+}
+
+/// Has a judge without hosts take the steps: the first that it does not answer as it should, or nothing.
+fn play<'a>(alloc: Global, judge: &mut Judge, mode: Mode, steps: &'a str) -> &'a str
     requires { judge.old.hosts ≡ 0 }
 {
     let mut hosts = 0;
-    for (at, step) in steps.iter().enumerate() {
-        assert!(rt;
-            is_answered(alloc, judge, &mut hosts, mode, *step),
-            "step {at}"
-        );
+    for step in steps.split('~') {
+        if !step.is_empty() && !is_answered(alloc, judge, &mut hosts, mode, step) {
+            return step;
+        }
+    }
+    ""
+}
+
+/// The same of an empty judge of leases of a minute. No other function here owns a judge: each way out of one that does
+/// has to be proved to drop it, and so all that it holds.
+fn play_by(alloc: Global, rule: Rule, mode: Mode, steps: &str) -> &str {
+    let mut judge = Judge::new(alloc, rule, 60);
+    let wrong = play(alloc, &mut judge, mode, steps);
+    drop(judge);
+    wrong
+}
+
+/// The same lazily, and then in full.
+fn play_in_each_mode(alloc: Global, rule: Rule, steps: &str) -> &str {
+    let wrong = play_by(alloc, rule, Mode::Lazy, steps);
+    if !wrong.is_empty() {
+        return wrong;
+    }
+    play_by(alloc, rule, Mode::Full, steps)
+}
+
+/// The first step of a row that is not answered as it should be, or nothing.
+fn wrong_step(alloc: Global, row: &str) -> &str {
+    let (rule, rest) = parts_of(row, "|");
+    let (mode, steps) = parts_of(rest, "|");
+    let Some(rule) = rule_of(rule) else {
+        return row;
+    };
+    match mode {
+        "lazy" => play_by(alloc, rule, Mode::Lazy, steps),
+        "full" => play_by(alloc, rule, Mode::Full, steps),
+        _ => play_in_each_mode(alloc, rule, steps),
     }
 }
 
-/// Has an empty judge of leases of a minute take the steps. No other function here owns a judge: each way out of one
-/// that does has to be proved to drop it, and so all that it holds.
-fn play_by(rt: &impl Abort, alloc: Global, rule: Rule, mode: Mode, steps: &[Step]) {
-    let mut judge = Judge::new(alloc, rule, 60);
-    play(rt, alloc, &mut judge, mode, steps);
-}
-
-/// The same by the standard rule, lazily.
-fn play_lazily(rt: &impl Abort, alloc: Global, steps: &[Step]) {
-    play_by(rt, alloc, Rule::standard(), Mode::Lazy, steps);
-}
-
-/// The same by the standard rule, in full.
-fn play_in_full(rt: &impl Abort, alloc: Global, steps: &[Step]) {
-    play_by(rt, alloc, Rule::standard(), Mode::Full, steps);
-}
-
-/// The same by the standard rule, in each mode.
-fn play_in_each_mode(rt: &impl Abort, alloc: Global, steps: &[Step]) {
-    play_lazily(rt, alloc, steps);
-    play_in_full(rt, alloc, steps);
-}
-
-/// The same by a rule of these priorities and replacements, lazily.
-fn play_by_rule(
-    rt: &impl Abort,
-    alloc: Global,
-    prio: [u16; 8],
-    remap: [Kind; 8],
-    steps: &[Step],
-) -> Result<(), Fail> {
-    let Ok(rule) = Rule::new(prio, remap) else {
-        return Err(Fail::from("no rule"));
-    };
-    play_by(rt, alloc, rule, Mode::Lazy, steps);
+#[test]
+fn judges_answer_as_they_should(rt: HostRuntime) -> Result<(), Fail> {
+    for row in ROWS.lines() {
+        let (shown, row) = parts_of(row, "|");
+        assert_eq!(rt; wrong_step(rt.alloc(), row), "", "{shown}");
+    }
     Ok(())
-}
-
-const FINAL_ONCE_FILLED: [Step; 7] = [
-    Step::SetUp(2),
-    Step::Enter(1, 2, Kind::RunError, Count::Counted),
-    Step::Answer(1, PENDING),
-    Step::Enter(1, 1, Kind::Correct, Count::Counted),
-    Step::Answer(1, FINAL_RUN_ERROR),
-    Step::Judgings(1),
-    Step::Answer(2, None),
-];
-
-#[test]
-fn final_once_every_cell_is_filled(rt: HostRuntime) {
-    play_in_each_mode(&rt, rt.alloc(), FINAL_ONCE_FILLED.as_slice());
-}
-
-const LAZILY_STOPPED: [Step; 4] = [
-    Step::SetUp(2),
-    Step::Enter(1, 1, Kind::RunError, Count::Counted),
-    Step::Answer(1, FINAL_RUN_ERROR),
-    Step::Claim(1, Claim::Nothing),
-];
-
-const NOT_STOPPED_IN_FULL: [Step; 6] = [
-    Step::SetUp(2),
-    Step::Enter(1, 1, Kind::RunError, Count::Counted),
-    Step::Answer(1, PENDING),
-    Step::Handed(1, 1, 2, 60),
-    Step::Result(1, 2, Kind::Correct, Count::Counted),
-    Step::Answer(1, FINAL_RUN_ERROR),
-];
-
-#[test]
-fn only_full_judging_goes_on_once_the_verdict_is_known(rt: HostRuntime) {
-    play_lazily(&rt, rt.alloc(), LAZILY_STOPPED.as_slice());
-    play_in_full(&rt, rt.alloc(), NOT_STOPPED_IN_FULL.as_slice());
-}
-
-const TIED: [Step; 10] = [
-    Step::SetUp(3),
-    Step::Enter(1, 2, Kind::RunError, Count::Counted),
-    Step::Answer(1, PENDING),
-    Step::Handed(1, 1, 1, 60),
-    Step::Claim(2, Claim::Nothing),
-    Step::Result(1, 1, Kind::Correct, Count::Counted),
-    Step::Answer(1, FINAL_RUN_ERROR),
-    Step::Claim(1, Claim::Nothing),
-    // a result that comes all the same is kept, and the verdict stays
-    Step::Enter(1, 3, Kind::TimeLimit, Count::Counted),
-    Step::Answer(1, FINAL_RUN_ERROR),
-];
-
-#[test]
-fn a_tie_waits_for_an_earlier_rank(rt: HostRuntime) {
-    play_lazily(&rt, rt.alloc(), TIED.as_slice());
-}
-
-const OF_MIDDLE_PRIORITY: [Step; 4] = [
-    Step::SetUp(2),
-    Step::Enter(1, 1, Kind::WrongAnswer, Count::Counted),
-    Step::Answer(1, PENDING),
-    Step::Handed(1, 1, 2, 60),
-];
-
-#[test]
-fn a_middle_priority_does_not_stop(rt: HostRuntime) {
-    play_lazily(&rt, rt.alloc(), OF_MIDDLE_PRIORITY.as_slice());
-}
-
-const OF_GREATEST_PRIORITY: [Step; 4] = [
-    Step::SetUp(3),
-    Step::Enter(1, 3, Kind::RunError, Count::Counted),
-    Step::Answer(1, FINAL_RUN_ERROR),
-    Step::Claim(1, Claim::Nothing),
-];
-
-#[test]
-fn a_unique_greatest_priority_stops(rt: HostRuntime) -> Result<(), Fail> {
-    let prio = [1, 30, 100, 99, 10, 99, 99, 99];
-    play_by_rule(
-        &rt,
-        rt.alloc(),
-        prio,
-        Kind::ALL,
-        OF_GREATEST_PRIORITY.as_slice(),
-    )
-}
-
-const FINAL_UNTESTED: [Step; 3] = [
-    Step::SetUp(2),
-    Step::Answer(1, FINAL_RUN_ERROR),
-    Step::Claim(1, Claim::Nothing),
-];
-
-#[test]
-fn one_possible_kind_needs_no_test(rt: HostRuntime) -> Result<(), Fail> {
-    let prio = [1, 30, 99, 99, 10, 99, 99, 99];
-    let remap = [Kind::RunError; 8];
-    play_by_rule(&rt, rt.alloc(), prio, remap, FINAL_UNTESTED.as_slice())
-}
-
-const OF_EQUAL_PRIORITY: [Step; 7] = [
-    Step::SetUp(3),
-    Step::Enter(1, 2, Kind::Correct, Count::Counted),
-    Step::Answer(1, PENDING),
-    Step::Handed(1, 1, 1, 60),
-    Step::Claim(2, Claim::Nothing),
-    Step::Result(1, 1, Kind::RunError, Count::Counted),
-    Step::Answer(1, FINAL_RUN_ERROR),
-];
-
-#[test]
-fn with_equal_priorities_the_first_test_decides(rt: HostRuntime) -> Result<(), Fail> {
-    play_by_rule(
-        &rt,
-        rt.alloc(),
-        [7; 8],
-        Kind::ALL,
-        OF_EQUAL_PRIORITY.as_slice(),
-    )
-}
-
-const ASKED_FOR: [Step; 20] = [
-    Step::SetUp(1),
-    Step::AddWaiting(2, 2),
-    Step::Handed(1, 1, 1, 60),
-    Step::Claim(2, Claim::Nothing),
-    Step::Asked(1, true),
-    Step::Asked(2, false),
-    Step::Ask(3, AskEnd::NoJudging),
-    Step::Ask(1, AskEnd::Already),
-    Step::Answer(2, PENDING),
-    Step::Ask(2, AskEnd::Done),
-    Step::Ask(2, AskEnd::Already),
-    Step::Asked(2, true),
-    Step::Handed(2, 2, 1, 60),
-    Step::Handed(1, 2, 2, 60),
-    // one that is dropped is not asked for, and one that waits takes results from outside
-    Step::AddWaiting(1, 3),
-    Step::Drop(3),
-    Step::Ask(3, AskEnd::Dropped),
-    Step::AddWaiting(1, 4),
-    Step::Enter(4, 1, Kind::Correct, Count::Counted),
-    Step::Answer(4, FINAL_CORRECT),
-];
-
-#[test]
-fn a_judging_waits_until_it_is_asked_for(rt: HostRuntime) {
-    play_in_each_mode(&rt, rt.alloc(), ASKED_FOR.as_slice());
-}
-
-const BROKEN: [Step; 3] = [
-    Step::SetUp(0),
-    Step::Answer(1, FINAL_COMPILER_ERROR),
-    Step::Claim(1, Claim::Nothing),
-];
-
-#[test]
-fn broken_submission_is_final_at_once(rt: HostRuntime) {
-    play_in_each_mode(&rt, rt.alloc(), BROKEN.as_slice());
-}
-
-const LATE: [Step; 6] = [
-    Step::SetUp(2),
-    Step::Handed(1, 1, 1, 60),
-    Step::Tick(60, 1),
-    Step::Renew(1, 1, 1, Renewed::NoLease),
-    Step::Result(1, 1, Kind::Correct, Count::Counted),
-    Step::Handed(2, 1, 2, 120),
-];
-
-#[test]
-fn late_result_counts(rt: HostRuntime) {
-    play_in_each_mode(&rt, rt.alloc(), LATE.as_slice());
-}
-
-const REPEATED: Count = Count::Repeat {
-    kept: Kind::Correct,
-};
-
-const DIFFERING: Count = Count::Differs {
-    kept: Kind::Correct,
-    given: Kind::RunError,
-};
-
-const GIVEN_AGAIN: [Step; 9] = [
-    Step::SetUp(2),
-    Step::Result(1, 1, Kind::Correct, Count::NotHanded),
-    Step::Handed(1, 1, 1, 60),
-    Step::Result(1, 1, Kind::Correct, Count::Counted),
-    Step::Result(1, 1, Kind::Correct, REPEATED),
-    Step::Result(1, 1, Kind::RunError, DIFFERING),
-    Step::Enter(1, 1, Kind::RunError, DIFFERING),
-    Step::Enter(1, 3, Kind::RunError, Count::NoTest),
-    Step::Result(2, 1, Kind::RunError, Count::NoJudging),
-];
-
-#[test]
-fn first_result_stays(rt: HostRuntime) {
-    play_in_each_mode(&rt, rt.alloc(), GIVEN_AGAIN.as_slice());
-}
-
-const BEFORE_THE_END: [Step; 10] = [
-    Step::SetUp(3),
-    Step::Handed(1, 1, 1, 60),
-    Step::Tick(59, 0),
-    Step::Handed(2, 1, 2, 119),
-    Step::Tick(60, 1),
-    Step::Handed(2, 1, 1, 120),
-    Step::Renew(2, 1, 2, Renewed::Until { until: 120 }),
-    Step::Renew(1, 1, 2, Renewed::NoLease),
-    Step::Tick(119, 0),
-    Step::Tick(120, 2),
-];
-
-#[test]
-fn one_before_the_end(rt: HostRuntime) {
-    play_lazily(&rt, rt.alloc(), BEFORE_THE_END.as_slice());
-}
-
-const DEAD_AND_BACK: [Step; 11] = [
-    Step::SetUp(2),
-    Step::Handed(1, 1, 1, 60),
-    Step::Down(2, 0),
-    Step::Down(1, 1),
-    Step::Down(1, 0),
-    Step::Handed(2, 1, 1, 60),
-    Step::Handed(1, 1, 2, 60),
-    Step::Claim(1, Claim::Nothing),
-    Step::Down(2, 1),
-    Step::AddHost(3),
-    Step::Handed(3, 1, 1, 60),
-];
-
-#[test]
-fn host_dies_and_returns(rt: HostRuntime) {
-    play_lazily(&rt, rt.alloc(), DEAD_AND_BACK.as_slice());
-}
-
-const HOLDING_MANY: [Step; 7] = [
-    Step::SetUp(66),
-    Step::ClaimEach(1, 1, 64),
-    Step::Claim(1, Claim::Holding),
-    Step::Handed(2, 1, 65, 60),
-    Step::Result(1, 7, Kind::Correct, Count::Counted),
-    Step::Handed(1, 1, 66, 60),
-    Step::Claim(2, Claim::Nothing),
-];
-
-#[test]
-fn holds_at_most_64(rt: HostRuntime) {
-    play_lazily(&rt, rt.alloc(), HOLDING_MANY.as_slice());
-}
-
-const BATCHES: [Step; 12] = [
-    Step::SetUp(3),
-    Step::Fetch(1, 2, Fetch::Tests(1, 1, 2, 60)),
-    Step::Fetch(2, 16, Fetch::Tests(1, 3, 3, 60)),
-    Step::Fetch(2, 1, Fetch::Nothing),
-    Step::Tick(10, 0),
-    Step::Renew(1, 1, 2, Renewed::Until { until: 70 }),
-    Step::Tick(60, 1),
-    Step::Handed(2, 1, 3, 120),
-    // the first test decides: the leases on the others end
-    Step::Result(1, 1, Kind::RunError, Count::Counted),
-    Step::Renew(1, 1, 2, Renewed::NoLease),
-    Step::Down(2, 0),
-    Step::Result(1, 2, Kind::Correct, Count::Counted),
-];
-
-const BATCHES_IN_FULL: [Step; 5] = [
-    Step::SetUp(3),
-    Step::Fetch(1, 3, Fetch::Tests(1, 1, 3, 60)),
-    Step::Result(1, 1, Kind::RunError, Count::Counted),
-    Step::Renew(1, 1, 3, Renewed::Until { until: 60 }),
-    Step::Down(1, 2),
-];
-
-#[test]
-fn leases_end_where_nothing_is_left_to_judge(rt: HostRuntime) {
-    play_lazily(&rt, rt.alloc(), BATCHES.as_slice());
-    play_in_full(&rt, rt.alloc(), BATCHES_IN_FULL.as_slice());
-}
-
-const BATCH_SIZES: [Step; 8] = [
-    Step::SetUp(65),
-    Step::Fetch(1, 0, Fetch::Tests(1, 1, 1, 60)),
-    Step::Fetch(1, 255, Fetch::Tests(1, 2, 17, 60)),
-    Step::ClaimEach(1, 18, 60),
-    Step::Fetch(1, 16, Fetch::Tests(1, 61, 64, 60)),
-    Step::Fetch(1, 1, Fetch::Holding),
-    Step::Fetch(2, 16, Fetch::Tests(1, 65, 65, 60)),
-    Step::Fetch(2, 16, Fetch::Nothing),
-];
-
-const BATCHES_OF_TWO: [Step; 6] = [
-    Step::SetUp(3),
-    Step::Add(2, 2),
-    Step::Handed(1, 1, 1, 60),
-    Step::Fetch(2, 16, Fetch::Tests(1, 2, 3, 60)),
-    Step::Fetch(2, 16, Fetch::Tests(2, 1, 2, 60)),
-    Step::Fetch(2, 16, Fetch::Nothing),
-];
-
-#[test]
-fn a_batch_is_of_one_judging_and_of_at_most_16(rt: HostRuntime) {
-    play_in_each_mode(&rt, rt.alloc(), BATCH_SIZES.as_slice());
-    play_in_each_mode(&rt, rt.alloc(), BATCHES_OF_TWO.as_slice());
-}
-
-/// When a lease from the last moment ends.
-const LAST_END: u64 = 1_000_000_000_000_000_059;
-
-const AT_THE_LAST_MOMENT: [Step; 8] = [
-    Step::SetUp(2),
-    Step::Handed(1, 1, 1, 60),
-    Step::Tick(1_000_000_000_000_000_000, 1),
-    Step::Handed(1, 1, 1, LAST_END),
-    Step::Tick(u64::MAX, 0),
-    Step::Tick(0, 0),
-    Step::Renew(1, 1, 1, Renewed::Until { until: LAST_END }),
-    Step::Handed(2, 1, 2, LAST_END),
-];
-
-#[test]
-fn time_stops_at_its_last_moment(rt: HostRuntime) {
-    play_lazily(&rt, rt.alloc(), AT_THE_LAST_MOMENT.as_slice());
-}
-
-const DROPPED: [Step; 13] = [
-    Step::SetUp(2),
-    Step::Handed(1, 1, 1, 60),
-    Step::Handed(2, 1, 2, 60),
-    Step::Result(1, 2, Kind::Correct, Count::Counted),
-    Step::Dropped(1, false),
-    Step::Drop(1),
-    Step::Dropped(1, true),
-    Step::Result(1, 1, Kind::Correct, Count::Dropped),
-    Step::Enter(1, 1, Kind::Correct, Count::Dropped),
-    Step::Enter(1, 2, Kind::Correct, REPEATED),
-    Step::Claim(1, Claim::Nothing),
-    Step::Tick(60, 0),
-    Step::Answer(1, PENDING),
-];
-
-/// A judging that is dropped takes no more results, keeps its cells, and holds no lease.
-#[test]
-fn dropped_judging(rt: HostRuntime) {
-    play_lazily(&rt, rt.alloc(), DROPPED.as_slice());
-}
-
-const RESERVED: [Step; 14] = [
-    Step::AddHost(1),
-    Step::AddReserved([2, 0, 3]),
-    Step::Judgings(3),
-    Step::Answer(1, PENDING),
-    Step::Answer(2, FINAL_COMPILER_ERROR),
-    // the third is of the class normal, and the first of the class low
-    Step::Handed(1, 3, 1, 60),
-    Step::Handed(1, 3, 2, 60),
-    Step::Handed(1, 3, 3, 60),
-    Step::Handed(1, 1, 1, 60),
-    Step::Handed(1, 1, 2, 60),
-    Step::Claim(1, Claim::Nothing),
-    Step::Result(3, 3, Kind::RunError, Count::Counted),
-    Step::Result(3, 4, Kind::RunError, Count::NoTest),
-    Step::Enter(1, 3, Kind::RunError, Count::NoTest),
-];
-
-/// Room that is made ahead is taken in order, and a judging that is made ahead is like another.
-#[test]
-fn reserved_judgings_come_in_order(rt: HostRuntime) {
-    play_lazily(&rt, rt.alloc(), RESERVED.as_slice());
-}
-
-const ADDED_OTHERWISE: [Step; 7] = [
-    Step::Reserve([2, 0, 3]),
-    Step::Add(2, 1),
-    Step::Add(1, 2),
-    Step::Add(0, 3),
-    Step::Enter(2, 1, Kind::Correct, Count::Counted),
-    Step::Answer(2, FINAL_CORRECT),
-    Step::Answer(3, FINAL_COMPILER_ERROR),
-];
-
-/// A judging with another number of tests ends what was reserved, and is as it was asked for.
-#[test]
-fn another_number_ends_the_reservation(rt: HostRuntime) {
-    play_in_full(&rt, rt.alloc(), ADDED_OTHERWISE.as_slice());
-}
-
-const RESERVED_AGAIN: [Step; 9] = [
-    Step::Reserve([2, 0, 3]),
-    Step::AddReserved([0, 1, 1]),
-    Step::Judgings(3),
-    Step::Answer(1, FINAL_COMPILER_ERROR),
-    Step::Answer(2, PENDING),
-    Step::Enter(2, 2, Kind::Correct, Count::NoTest),
-    Step::Enter(2, 1, Kind::Correct, Count::Counted),
-    Step::Enter(3, 1, Kind::RunError, Count::Counted),
-    Step::Add(2, 4),
-];
-
-/// What is reserved again replaces what was reserved before.
-#[test]
-fn reserving_again_replaces(rt: HostRuntime) {
-    play_lazily(&rt, rt.alloc(), RESERVED_AGAIN.as_slice());
 }

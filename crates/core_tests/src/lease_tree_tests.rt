@@ -1,56 +1,118 @@
-use farm_kinds::{NoMemory, Task};
+use crate::rows::{is_said, moment, number, parts_of, rank, word};
+use farm_kinds::Task;
 use farm_model::Lease;
 use lease_tree::{Key, LeaseTree, Order};
+use std::alloc::Global;
 use std::test::Fail;
 
-/// A lease: the host, the judging, the test and the end.
-type Parts = (u32, u32, u16, u64);
+/// Leases, each as its host, its judging, its test and its end.
+const LEASES: &str = "2 3 1 60~1 3 2 60~2 1 10 61~1 1 9 59~3 2 1 60~3 3 10 59";
 
-const LEASES: [Parts; 6] = [
-    (2, 3, 1, 60),
-    (1, 3, 2, 60),
-    (2, 1, 10, 61),
-    (1, 1, 9, 59),
-    (3, 2, 1, 60),
-    (3, 3, 10, 59),
-];
+/// Trees, a row each: what is shown, behind `|` the order of the tree, and behind the next `|` the steps, each before a
+/// `~`, with what is answered behind `=`.
+///
+/// `fill` makes room for 10 leases and puts in the leases above. A key stands there as its rank, and its task as its
+/// judging and its test. `take` asks whether the lease is the first, is found by its key, and is removed once.
+const ROWS: &str = concat!(
+    "leases come out in the order of judgings|judging|",
+    "fill = yes~",
+    "len = 6~",
+    "spare = 4~",
+    "take 1 1 9 59 = yes~",
+    "take 2 1 10 61 = yes~",
+    "take 3 2 1 60 = yes~",
+    "take 2 3 1 60 = yes~",
+    "take 1 3 2 60 = yes~",
+    "take 3 3 10 59 = yes~",
+    "len = 0~",
+    "spare = 10~",
+    "depth = 0~",
+    "\n",
+    "leases come out in the order of hosts|host|",
+    "fill = yes~",
+    "len = 6~",
+    "spare = 4~",
+    "take 1 1 9 59 = yes~",
+    "take 1 3 2 60 = yes~",
+    "take 2 1 10 61 = yes~",
+    "take 2 3 1 60 = yes~",
+    "take 3 2 1 60 = yes~",
+    "take 3 3 10 59 = yes~",
+    "len = 0~",
+    "spare = 10~",
+    "depth = 0~",
+    "\n",
+    "leases come out in the order of ends|end|",
+    "fill = yes~",
+    "len = 6~",
+    "spare = 4~",
+    "take 1 1 9 59 = yes~",
+    "take 3 3 10 59 = yes~",
+    "take 3 2 1 60 = yes~",
+    "take 2 3 1 60 = yes~",
+    "take 1 3 2 60 = yes~",
+    "take 2 1 10 61 = yes~",
+    "len = 0~",
+    "spare = 10~",
+    "depth = 0~",
+    "\n",
+    "what stands at a rank|host|",
+    "fill = yes~",
+    "first-of 2 = 2 1 10 61~",
+    "first-of 4 = none~",
+    "count 0 = 0~",
+    "count 1 = 2~",
+    "count 2 = 2~",
+    "count 3 = 2~",
+    "count 4 = 0~",
+    "find 2 3 2 = none~",
+    "find 1 3 2 = 1 3 2 60~",
+    "\n",
+    "what stands first from a key on|host|",
+    "fill = yes~",
+    "from 1 3 2 = 1 3 2 60~",
+    "behind 1 3 2 = 2 1 10 61~",
+    "from 2 2 0 = 2 3 1 60~",
+    "behind 2 2 0 = 2 3 1 60~",
+    "from 3 3 10 = 3 3 10 59~",
+    "behind 3 3 10 = none~",
+    "from 3 3 65535 = none~",
+    "behind 3 3 65535 = none~",
+    "\n",
+);
 
-/// The leases above in the order of judgings, of hosts and of ends.
-const JUDGING_ORDER: [Parts; 6] = [
-    (1, 1, 9, 59),
-    (2, 1, 10, 61),
-    (3, 2, 1, 60),
-    (2, 3, 1, 60),
-    (1, 3, 2, 60),
-    (3, 3, 10, 59),
-];
-
-const HOST_ORDER: [Parts; 6] = [
-    (1, 1, 9, 59),
-    (1, 3, 2, 60),
-    (2, 1, 10, 61),
-    (2, 3, 1, 60),
-    (3, 2, 1, 60),
-    (3, 3, 10, 59),
-];
-
-const END_ORDER: [Parts; 6] = [
-    (1, 1, 9, 59),
-    (3, 3, 10, 59),
-    (3, 2, 1, 60),
-    (2, 3, 1, 60),
-    (1, 3, 2, 60),
-    (2, 1, 10, 61),
-];
-
-fn lease_of(parts: Parts) -> Lease {
-    let (host, judging, test, until) = parts;
-    let task = Task { judging, test };
-    Lease { host, task, until }
+/// The lease of four words.
+fn lease_of(words: &str) -> Lease {
+    Lease {
+        host: number(words, 0),
+        task: Task {
+            judging: number(words, 1),
+            test: rank(words, 2),
+        },
+        until: moment(words, 3),
+    }
 }
 
-fn parts_of(lease: Lease) -> Parts {
-    (lease.host, lease.task.judging, lease.task.test, lease.until)
+/// The key behind the first word.
+fn key_of(words: &str) -> Key {
+    Key {
+        rank: number(words, 1) as u64,
+        task: Task {
+            judging: number(words, 2),
+            test: rank(words, 3),
+        },
+    }
+}
+
+/// Whether this lease is answered.
+fn is_lease(lease: Option<Lease>, wanted: &str) -> bool {
+    match lease {
+        Some(lease) => {
+            let wanted = lease_of(wanted);
+            lease.host == wanted.host && lease.task == wanted.task && lease.until == wanted.until
+        }
+        None => wanted == "none",
+    }
 }
 
 /// Puts in the lease, where there is room for it and none stands at its key.
@@ -65,73 +127,83 @@ fn insert(tree: &mut LeaseTree, lease: Lease) -> bool {
     true
 }
 
-/// A tree of the leases above, with room for 10.
-fn tree_of(rt: &HostRuntime, order: Order) -> Result<LeaseTree, NoMemory> {
-    let mut tree = LeaseTree::new(rt.alloc(), order);
-    tree.reserve(10)?;
-    for parts in LEASES {
-        let _ = insert(&mut tree, lease_of(parts));
+/// Makes room for 10 leases, and puts in those above.
+fn fill(tree: &mut LeaseTree) -> bool {
+    if tree.reserve(10).is_err() {
+        return false;
     }
-    Ok(tree)
-}
-
-#[test]
-fn leases_come_out_in_order(rt: HostRuntime) -> Result<(), Fail> {
-    for (order, leases) in [
-        (Order::Judging, JUDGING_ORDER),
-        (Order::Host, HOST_ORDER),
-        (Order::End, END_ORDER),
-    ] {
-        let mut tree = tree_of(&rt, order)?;
-        assert_eq!(rt; (tree.len(), tree.spare()), (6, 4));
-        for want in leases {
-            let first = tree.first().map(parts_of);
-            assert_eq!(rt; first, Some(want));
-            let key = order.key(lease_of(want));
-            assert_eq!(rt; tree.find(key).map(parts_of), Some(want));
-            assert_eq!(rt; tree.remove(key).map(parts_of), Some(want));
-            assert_eq!(rt; tree.remove(key).map(parts_of), None);
+    for lease in LEASES.split('~') {
+        if !insert(tree, lease_of(lease)) {
+            return false;
         }
-        assert_eq!(rt; (tree.len(), tree.spare(), tree.depth()), (0, 10, 0));
     }
-    Ok(())
+    true
 }
 
-#[test]
-fn what_stands_at_a_rank(rt: HostRuntime) -> Result<(), Fail> {
-    let tree = tree_of(&rt, Order::Host)?;
-    assert_eq!(rt; tree.first_of(2).map(parts_of), Some((2, 1, 10, 61)));
-    assert_eq!(rt; tree.first_of(4).map(parts_of), None);
-    assert_eq!(rt;
-        (tree.count_of(0), tree.count_of(1), tree.count_of(2)),
-        (0, 2, 2)
-    );
-    assert_eq!(rt; (tree.count_of(3), tree.count_of(4)), (2, 0));
-    let task = Task {
-        judging: 3,
-        test: 2,
+/// Whether the lease is the first, is found by its key, and is removed once.
+fn take(tree: &mut LeaseTree, wanted: &str) -> bool {
+    let key = tree.order().key(lease_of(wanted));
+    is_lease(tree.first(), wanted)
+        && is_lease(tree.find(key), wanted)
+        && is_lease(tree.remove(key), wanted)
+        && tree.remove(key).is_none()
+}
+
+/// Whether the tree answers the step as it should.
+fn is_answered(tree: &mut LeaseTree, step: &str) -> bool {
+    let (asked, wanted) = parts_of(step, " = ");
+    match parts_of(asked, " ") {
+        ("fill", _) => is_said(fill(tree), wanted),
+        ("take", lease) => is_said(take(tree, lease), wanted),
+        _ => is_told(tree, asked, wanted),
+    }
+}
+
+/// The same of a step that only looks.
+fn is_told(tree: &LeaseTree, asked: &str, wanted: &str) -> bool {
+    let first = number(asked, 1) as u64;
+    match word(asked, 0) {
+        "find" => is_lease(tree.find(key_of(asked)), wanted),
+        "from" => is_lease(tree.first_from(key_of(asked)), wanted),
+        "behind" => is_lease(tree.first_behind(key_of(asked)), wanted),
+        "first-of" => is_lease(tree.first_of(first), wanted),
+        "count" => tree.count_of(first) == number(wanted, 0),
+        "len" => tree.len() == number(wanted, 0),
+        "spare" => tree.spare() == number(wanted, 0) as usize,
+        "depth" => tree.depth() == number(wanted, 0),
+        _ => false,
+    }
+}
+
+/// Has a tree take the steps: the first that it does not answer as it should, or nothing.
+fn play<'a>(tree: &mut LeaseTree, steps: &'a str) -> &'a str {
+    for step in steps.split('~') {
+        if !step.is_empty() && !is_answered(tree, step) {
+            return step;
+        }
+    }
+    ""
+}
+
+/// The same of a new tree of an order.
+fn wrong_step<'a>(alloc: Global, order: &str, steps: &'a str) -> &'a str {
+    let order = match order {
+        "judging" => Order::Judging,
+        "host" => Order::Host,
+        _ => Order::End,
     };
-    assert_eq!(rt; tree.find(Key { rank: 2, task }).map(parts_of), None);
-    assert_eq!(rt;
-        tree.find(Key { rank: 1, task }).map(parts_of),
-        Some((1, 3, 2, 60))
-    );
-    Ok(())
+    let mut tree = LeaseTree::new(alloc, order);
+    let wrong = play(&mut tree, steps);
+    drop(tree);
+    wrong
 }
 
 #[test]
-fn what_stands_first_from_a_key_on(rt: HostRuntime) -> Result<(), Fail> {
-    let tree = tree_of(&rt, Order::Host)?;
-    for (rank, judging, test, from, behind) in [
-        (1, 3, 2, Some((1, 3, 2, 60)), Some((2, 1, 10, 61))),
-        (2, 2, 0, Some((2, 3, 1, 60)), Some((2, 3, 1, 60))),
-        (3, 3, 10, Some((3, 3, 10, 59)), None),
-        (3, 3, u16::MAX, None, None),
-    ] {
-        let task = Task { judging, test };
-        let key = Key { rank, task };
-        assert_eq!(rt; tree.first_from(key).map(parts_of), from);
-        assert_eq!(rt; tree.first_behind(key).map(parts_of), behind);
+fn trees_answer_as_they_should(rt: HostRuntime) -> Result<(), Fail> {
+    for row in ROWS.lines() {
+        let (shown, row) = parts_of(row, "|");
+        let (order, steps) = parts_of(row, "|");
+        assert_eq!(rt; wrong_step(rt.alloc(), order, steps), "", "{shown}");
     }
     Ok(())
 }

@@ -23,4 +23,6 @@ pub mod recording;
 #[cfg(test)]
 mod rejudge_book_tests;
 #[cfg(test)]
+mod rows;
+#[cfg(test)]
 mod task_tree_tests;
