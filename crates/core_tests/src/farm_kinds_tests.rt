@@ -1,4 +1,4 @@
-use farm_kinds::{Few, Kind, Name, NoMemory, Numbers, Rule, RuleFault, Text, raw_image, verdict};
+use farm_kinds::{Few, Kind, Name, Numbers, Rule, RuleFault, Text, raw_image, verdict};
 use std::test::Fail;
 
 #[test]
@@ -55,20 +55,26 @@ fn names_have_1_to_32_bytes(rt: HostRuntime) -> Result<(), Fail> {
     Ok(())
 }
 
+/// Whether lists that are new hold what is added to them, in order.
+fn grow(numbers: &mut Numbers, text: &mut Text) -> bool {
+    numbers.push(7).is_ok()
+        && numbers.push(1).is_ok()
+        && text.push(b'o').is_ok()
+        && text.push(b'k').is_ok()
+        && numbers.as_slice() == [7, 1].as_slice()
+        && text.as_slice() == b"ok".as_slice()
+}
+
 #[test]
 fn lists_grow_at_their_end(rt: HostRuntime) -> Result<(), Fail> {
-    let alloc = rt.alloc();
-    let mut numbers = Numbers::new(alloc);
-    let mut text = Text::new(alloc);
-    for n in [7, 1] {
-        assert_eq!(rt; numbers.push(n), Ok::<(), NoMemory>(()));
-    }
-    for b in *b"ok" {
-        assert_eq!(rt; text.push(b), Ok::<(), NoMemory>(()));
-    }
-    assert_eq!(rt; numbers.as_slice(), [7, 1].as_slice());
-    assert_eq!(rt; text.as_slice(), b"ok".as_slice());
-    assert_eq!(rt; text.into_vec().len(), 2);
+    let mut numbers = Numbers::new(rt.alloc());
+    let mut text = Text::new(rt.alloc());
+    let grown = grow(&mut numbers, &mut text);
+    let bytes = text.into_vec();
+    let len = bytes.len();
+    drop(bytes);
+    drop(numbers);
+    assert_eq!(rt; (grown, len), (true, 2));
     Ok(())
 }
 

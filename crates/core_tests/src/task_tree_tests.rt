@@ -1,15 +1,18 @@
 ghost use Rattle.std.specs.Prelude.{◌≡◌, ◌<◌};
 
-use farm_kinds::{Class, MAX_JUDGINGS, MAX_TESTS, NoMemory, Task};
+use farm_kinds::{Class, MAX_JUDGINGS, MAX_TESTS, Task};
+use std::alloc::Global;
 use std::marker::Brand;
 use std::sync::ledger::{Blank, Ledger};
 use std::test::Fail;
 use task_tree::{Steps, TaskTree};
 
 /// What is done to a tree of no judgings, and then the tasks in the order in which they are found and hidden.
-/// `n64x2` adds 64 judgings of two tests to the class normal, `+3.1` shows test 1 of judging 3, `-3.1` hides it.
+/// `n64x2` adds 64 judgings of two tests to the class normal, `+3.1` shows test 1 of judging 3, `-3.1` hides it. Each
+/// judging that is added is answered its number, from 1.
 const ROWS: &str = concat!(
     "n1x3 => \n",
+    "l1x1000 h1x0 => \n",
     "l1x1 n1x1 h1x1 +1.1 +2.1 +3.1 => 3.1 2.1 1.1\n",
     "n3x3 +3.1 +2.2 +2.1 +1.3 => 1.3 2.1 2.2 3.1\n",
     "n1x1 h1x2 l1x1 h1x2 +4.1 +3.1 +2.2 +1.1 => 2.2 4.1 1.1 3.1\n",
@@ -47,29 +50,45 @@ fn set_shown(tree: &mut TaskTree, task: Task, shown: bool) {
     }
 }
 
+/// Adds a judging, where there is room for it. Whether it is answered its number.
+fn add_one(tree: &mut TaskTree, class: Class, tests: u16) -> bool {
+    if tests as u32 > MAX_TESTS || tree.judging_count() >= MAX_JUDGINGS as usize {
+        return false;
+    }
+    match tree.add(class, tests) {
+        Ok(number) => number as usize == tree.judging_count(),
+        Err(_) => false,
+    }
+}
+
 /// Adds the judgings of `64x2`.
-fn add(tree: &mut TaskTree, class: Class, text: &str) -> Result<(), NoMemory> {
+fn add(tree: &mut TaskTree, class: Class, text: &str) -> bool {
     let (count, tests) = text.split_once('x').unwrap_or((text, ""));
-    let tests = tests.parse::<u16>().unwrap_or(0);
-    for _ in 0..count.parse::<u32>().unwrap_or(0) {
-        if tests as u32 <= MAX_TESTS && tree.judging_count() < MAX_JUDGINGS as usize {
-            tree.add(class, tests)?;
+    let tests = tests.parse::<u16>().unwrap_or(u16::MAX);
+    for _ in 0..count.parse::<u32>().unwrap_or(1) {
+        if !add_one(tree, class, tests) {
+            return false;
         }
     }
-    Ok(())
+    true
 }
 
 /// Does what one word says.
-fn change(tree: &mut TaskTree, word: &str) -> Result<(), NoMemory> {
+fn change(tree: &mut TaskTree, word: &str) -> bool {
     match word.split_at_checked(1) {
-        Some(("+", rest)) => set_shown(tree, task_of(rest), true),
-        Some(("-", rest)) => set_shown(tree, task_of(rest), false),
-        Some(("h", rest)) => add(tree, Class::High, rest)?,
-        Some(("n", rest)) => add(tree, Class::Normal, rest)?,
-        Some(("l", rest)) => add(tree, Class::Low, rest)?,
-        _ => {}
+        Some(("+", rest)) => {
+            set_shown(tree, task_of(rest), true);
+            true
+        }
+        Some(("-", rest)) => {
+            set_shown(tree, task_of(rest), false);
+            true
+        }
+        Some(("h", rest)) => add(tree, Class::High, rest),
+        Some(("n", rest)) => add(tree, Class::Normal, rest),
+        Some(("l", rest)) => add(tree, Class::Low, rest),
+        _ => false,
     }
-    Ok(())
 }
 
 /// The least shown task, which is hidden then.
@@ -89,11 +108,13 @@ fn take_first_with<L: Ledger>(tree: &mut TaskTree, blank: Blank) -> Option<Task>
 }
 
 /// Does what the words say.
-fn change_all(tree: &mut TaskTree, words: &str) -> Result<(), NoMemory> {
+fn change_all(tree: &mut TaskTree, words: &str) -> bool {
     for word in words.split(' ') {
-        change(tree, word)?;
+        if !change(tree, word) {
+            return false;
+        }
     }
-    Ok(())
+    true
 }
 
 /// Whether these tasks are found in this order, and no other.
@@ -107,26 +128,18 @@ fn are_found(tree: &mut TaskTree, tasks: &str) -> bool {
 }
 
 /// Whether what the row says of a tree is so.
-fn is_right(tree: &mut TaskTree, row: &str) -> Result<bool, NoMemory> {
+fn is_right(alloc: Global, row: &str) -> bool {
     let (words, tasks) = row.split_once(" => ").unwrap_or((row, ""));
-    change_all(tree, words)?;
-    Ok(are_found(tree, tasks))
+    let mut tree = TaskTree::new(alloc);
+    let right = change_all(&mut tree, words) && are_found(&mut tree, tasks);
+    drop(tree);
+    right
 }
 
 #[test]
 fn tasks_are_found_by_class_judging_and_test(rt: HostRuntime) -> Result<(), Fail> {
     for row in ROWS.lines() {
-        let right = is_right(&mut TaskTree::new(rt.alloc()), row)?;
-        assert!(rt; right, "{row}");
+        assert!(rt; is_right(rt.alloc(), row), "{row}");
     }
-    Ok(())
-}
-
-#[test]
-fn judgings_are_numbered_from_1(rt: HostRuntime) -> Result<(), Fail> {
-    let mut tree = TaskTree::new(rt.alloc());
-    let numbers = (tree.add(Class::Low, 1_000), tree.add(Class::High, 0));
-    let count = tree.judging_count();
-    assert_eq!(rt; (numbers, count), ((Ok(1), Ok(2)), 2));
     Ok(())
 }
