@@ -1,4 +1,4 @@
-use crate::rows::{number, parts_of, word};
+use crate::rows::{check_row, number, parts_of, word};
 use audit_log::{Audit, Entry, check};
 use farm_kinds::{Name, Text};
 use std::alloc::{AllocError, Global};
@@ -141,7 +141,7 @@ fn logs_take_entries(rt: HostRuntime) -> Result<(), Fail> {
         "reserve makes room for one entry",
         "a log takes 70,000 entries",
     ] {
-        assert_eq!(rt; wrong_of(rt.alloc(), shown), "", "{shown}");
+        check_row(&rt, shown, wrong_of(rt.alloc(), shown));
     }
     Ok(())
 }
@@ -269,6 +269,6 @@ fn check_finds_the_first_change(rt: HostRuntime) -> Result<(), Fail> {
     let mut audit = Audit::new(rt.alloc());
     let wrong = wrong_row(rt.alloc(), &mut audit);
     drop(audit);
-    assert_eq!(rt; wrong, "");
+    check_row(&rt, "changes", wrong);
     Ok(())
 }

@@ -1,6 +1,8 @@
 ghost use Rattle.std.specs.Prelude.{◌≡◌, ◌∷◌, [], ◌≤◌, ◌<◌, length, true, IfOk, OnOk, OnErr};
 
-use crate::rows::{is_reported, is_said, moment, number, parts_of, rank, rule_of, word};
+use crate::rows::{
+    are_words, check_row, is_reported, is_said, moment, number, parts_of, rank, rule_of, word,
+};
 use farm_kinds::{
     AskEnd, Claim, Class, Count, Fetched, Kind, Mode, NoMemory, Numbers, Renewed, Rule, Task,
 };
@@ -271,13 +273,17 @@ const ROWS: &str = concat!(
 
 /// Whether a claim is answered so.
 fn is_claim(claim: Claim, wanted: &str) -> bool {
-    match claim {
-        Claim::Holding => wanted == "holding",
-        Claim::Nothing => wanted == "nothing",
+    let what = match claim {
+        Claim::Holding => "holding",
+        Claim::Nothing => "nothing",
         Claim::Handed { task, until } => {
-            word(wanted, 0) == "handed" && is_task(task, wanted) && until == moment(wanted, 3)
+            if !is_task(task, wanted) || until != moment(wanted, 3) {
+                return false;
+            }
+            "handed"
         }
-    }
+    };
+    word(wanted, 0) == what
 }
 
 /// Whether the task is that of the judging and the test behind the first word.
@@ -317,39 +323,43 @@ fn are_all(tests: &[u16], first: u16, last: u16) -> bool {
 
 /// Whether a result is answered so.
 fn is_count(count: Count, wanted: &str) -> bool {
-    match count {
-        Count::NoJudging => wanted == "no-judging",
-        Count::NoTest => wanted == "no-test",
-        Count::NotHanded => wanted == "not-handed",
-        Count::Repeat { kept } => word(wanted, 0) == "repeat" && word(wanted, 1) == kept.name(),
-        Count::Differs { kept, given } => {
-            word(wanted, 0) == "differs"
-                && word(wanted, 1) == kept.name()
-                && word(wanted, 2) == given.name()
-        }
-        Count::Dropped => wanted == "dropped",
-        Count::Counted => wanted == "counted",
-    }
+    let (what, kept, given) = match count {
+        Count::NoJudging => ("no-judging", "", ""),
+        Count::NoTest => ("no-test", "", ""),
+        Count::NotHanded => ("not-handed", "", ""),
+        Count::Repeat { kept } => ("repeat", kept.name(), ""),
+        Count::Differs { kept, given } => ("differs", kept.name(), given.name()),
+        Count::Dropped => ("dropped", "", ""),
+        Count::Counted => ("counted", "", ""),
+    };
+    are_words(wanted, what, kept) && word(wanted, 2) == given
 }
 
 /// Whether a host that renews its leases is answered so.
 fn is_renewed(renewed: Renewed, wanted: &str) -> bool {
-    match renewed {
-        Renewed::NoJudging => wanted == "no-judging",
-        Renewed::NoTest => wanted == "no-test",
-        Renewed::NoLease => wanted == "no-lease",
-        Renewed::Until { until } => word(wanted, 0) == "until" && until == moment(wanted, 1),
-    }
+    let what = match renewed {
+        Renewed::NoJudging => "no-judging",
+        Renewed::NoTest => "no-test",
+        Renewed::NoLease => "no-lease",
+        Renewed::Until { until } => {
+            if until != moment(wanted, 1) {
+                return false;
+            }
+            "until"
+        }
+    };
+    word(wanted, 0) == what
 }
 
 /// Whether the jury that asks for a judging is answered so.
 fn is_ask_end(end: AskEnd, wanted: &str) -> bool {
-    match end {
-        AskEnd::NoJudging => wanted == "no-judging",
-        AskEnd::Dropped => wanted == "dropped",
-        AskEnd::Already => wanted == "already",
-        AskEnd::Done => wanted == "done",
-    }
+    let what = match end {
+        AskEnd::NoJudging => "no-judging",
+        AskEnd::Dropped => "dropped",
+        AskEnd::Already => "already",
+        AskEnd::Done => "done",
+    };
+    wanted == what
 }
 
 /// Whether this is said of a judging that is there.
@@ -663,7 +673,7 @@ fn wrong_step(alloc: Global, row: &str) -> &str {
 fn judges_answer_as_they_should(rt: HostRuntime) -> Result<(), Fail> {
     for row in ROWS.lines() {
         let (shown, row) = parts_of(row, "|");
-        assert_eq!(rt; wrong_step(rt.alloc(), row), "", "{shown}");
+        check_row(&rt, shown, wrong_step(rt.alloc(), row));
     }
     Ok(())
 }

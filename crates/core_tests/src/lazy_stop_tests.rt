@@ -1,6 +1,8 @@
 ghost use Rattle.std.specs.Prelude.{◌≡◌, ◌<◌, length};
 
-use crate::rows::{is_reported, is_said, number, parts_of, rank, rule_of, word};
+use crate::rows::{
+    are_words, check_row, is_reported, is_said, number, parts_of, rank, rule_of, word,
+};
 use farm_kinds::{Kind, Mode, Rule};
 use lazy_stop::{Put, Row, remapped_is_possible};
 use std::alloc::Global;
@@ -54,10 +56,11 @@ const ROWS: &str = concat!(
 
 /// Whether a kind that is put is answered so.
 fn is_put(put: Put, wanted: &str) -> bool {
-    match put {
-        Put::First => wanted == "first",
-        Put::Kept(kind) => word(wanted, 0) == "kept" && word(wanted, 1) == kind.name(),
-    }
+    let (what, kept) = match put {
+        Put::First => ("first", ""),
+        Put::Kept(kind) => ("kept", kind.name()),
+    };
+    are_words(wanted, what, kept)
 }
 
 /// Whether the kind, as the rule has it, is put in the cell of a test that is there, and is answered so.
@@ -98,10 +101,11 @@ fn holds(row: &Row, tests: u16, test: u16, wanted: &str) -> bool
     if test == 0 || test > tests {
         return false;
     }
-    match row.cell(test) {
-        Some(kind) => wanted == kind.name(),
-        None => wanted == "none",
-    }
+    let held = match row.cell(test) {
+        Some(kind) => kind.name(),
+        None => "none",
+    };
+    wanted == held
 }
 
 /// Whether the row of a rule, which has so many tests, answers the step as it should.
@@ -160,7 +164,7 @@ fn rows_answer_as_they_should(rt: HostRuntime) -> Result<(), Fail> {
     for line in ROWS.lines() {
         let (shown, rest) = parts_of(line, "|");
         let (made, steps) = parts_of(rest, "|");
-        assert_eq!(rt; wrong_step(rt.alloc(), made, steps), "", "{shown}");
+        check_row(&rt, shown, wrong_step(rt.alloc(), made, steps));
     }
     Ok(())
 }

@@ -1,4 +1,4 @@
-use crate::rows::{is_said, moment, number, parts_of, rank, word};
+use crate::rows::{check_row, is_said, moment, number, parts_of, rank, word};
 use farm_kinds::Task;
 use farm_model::Lease;
 use lease_tree::{Key, LeaseTree, Order};
@@ -203,7 +203,7 @@ fn trees_answer_as_they_should(rt: HostRuntime) -> Result<(), Fail> {
     for row in ROWS.lines() {
         let (shown, row) = parts_of(row, "|");
         let (order, steps) = parts_of(row, "|");
-        assert_eq!(rt; wrong_step(rt.alloc(), order, steps), "", "{shown}");
+        check_row(&rt, shown, wrong_step(rt.alloc(), order, steps));
     }
     Ok(())
 }

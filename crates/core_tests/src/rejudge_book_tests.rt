@@ -1,7 +1,7 @@
 ghost use Rattle.std.specs.Prelude.{◌≡◌, true};
 ghost use Rattle.rejudge_book.specs.Refusals.{AreKnown};
 
-use crate::rows::{is_said, number, parts_of, word};
+use crate::rows::{are_words, check_row, is_said, number, parts_of, word};
 use farm_kinds::{Answer, How, Kind, MatrixRow, Verdict};
 use farm_model::RejudgeState;
 use rejudge_book::{BookFault, CloseFault, RejudgeBook, matrix};
@@ -172,21 +172,16 @@ fn reserves(book: &mut RejudgeBook, members: &[u32], wanted: &str) -> bool {
 
 /// Whether a list is refused so.
 fn is_fault(fault: BookFault, wanted: &str) -> bool {
-    match fault {
-        BookFault::EmptySet => wanted == "empty-set",
-        BookFault::Twice { submission } => {
-            word(wanted, 0) == "twice" && submission == number(wanted, 1)
-        }
+    let (what, submission, rejudging) = match fault {
+        BookFault::EmptySet => ("empty-set", u32::MAX, u32::MAX),
+        BookFault::Twice { submission } => ("twice", submission, u32::MAX),
         BookFault::Busy {
             submission,
             rejudging,
-        } => {
-            word(wanted, 0) == "busy"
-                && submission == number(wanted, 1)
-                && rejudging == number(wanted, 2)
-        }
-        BookFault::NoMemory => false,
-    }
+        } => ("busy", submission, rejudging),
+        BookFault::NoMemory => ("no-memory", u32::MAX, u32::MAX),
+    };
+    word(wanted, 0) == what && number(wanted, 1) == submission && number(wanted, 2) == rejudging
 }
 
 fn how_of(word: &str) -> How {
@@ -196,28 +191,32 @@ fn how_of(word: &str) -> How {
     }
 }
 
+fn name_of(how: How) -> &'static str {
+    match how {
+        How::Applied => "applied",
+        How::Cancelled => "cancelled",
+    }
+}
+
 /// Whether a rejudging is closed, or refused, so.
 fn is_closed(closed: Result<(), CloseFault>, wanted: &str) -> bool {
-    match closed {
-        Ok(()) => wanted == "done",
-        Err(CloseFault::NoRejudging) => wanted == "no-rejudging",
-        Err(CloseFault::Closed { how: How::Applied }) => wanted == "closed applied",
-        Err(
-            CloseFault::Closed {
-                how: How::Cancelled,
-            },
-        ) => wanted == "closed cancelled",
-    }
+    let (what, how) = match closed {
+        Ok(()) => ("done", ""),
+        Err(CloseFault::NoRejudging) => ("no-rejudging", ""),
+        Err(CloseFault::Closed { how }) => ("closed", name_of(how)),
+    };
+    are_words(wanted, what, how)
 }
 
 /// Whether a rejudging stands there.
 fn is_state(state: Option<RejudgeState>, wanted: &str) -> bool {
-    match state {
-        Some(RejudgeState::Open) => wanted == "open",
-        Some(RejudgeState::Applied) => wanted == "applied",
-        Some(RejudgeState::Cancelled) => wanted == "cancelled",
-        None => wanted == "none",
-    }
+    let what = match state {
+        Some(RejudgeState::Open) => "open",
+        Some(RejudgeState::Applied) => "applied",
+        Some(RejudgeState::Cancelled) => "cancelled",
+        None => "none",
+    };
+    wanted == what
 }
 
 /// Whether these are the members of a rejudging.
@@ -302,7 +301,7 @@ fn wrong_step(alloc: Global, steps: &str) -> &str {
 fn books_answer_as_they_should(rt: HostRuntime) -> Result<(), Fail> {
     for row in ROWS.lines() {
         let (shown, steps) = parts_of(row, "|");
-        assert_eq!(rt; wrong_step(rt.alloc(), steps), "", "{shown}");
+        check_row(&rt, shown, wrong_step(rt.alloc(), steps));
     }
     Ok(())
 }
@@ -386,7 +385,12 @@ fn is_matrix(alloc: Global, text: &str, wanted: &str) -> bool {
 fn rows_of_a_matrix_stand_in_order(rt: HostRuntime) -> Result<(), Fail> {
     for row in MATRICES.lines() {
         let (pairs, wanted) = parts_of(row, " => ");
-        assert!(rt; is_matrix(rt.alloc(), pairs, wanted), "{pairs}");
+        let wrong = if is_matrix(rt.alloc(), pairs, wanted) {
+            ""
+        } else {
+            wanted
+        };
+        check_row(&rt, pairs, wrong);
     }
     Ok(())
 }

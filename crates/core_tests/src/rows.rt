@@ -1,6 +1,12 @@
 //! Rows of texts that tests are written with.
 
 use farm_kinds::{Answer, Kind, Rule, Verdict};
+use std::process::Abort;
+
+/// Ends a test where something is wrong of what it shows.
+pub(crate) fn check_row(rt: &impl Abort, shown: &str, wrong: &str) {
+    assert!(rt; wrong.is_empty(), "{shown}: {wrong}");
+}
 
 /// The parts of a row, or of a step: before the first of these marks and behind it.
 pub(crate) fn parts_of<'a>(row: &'a str, mark: &str) -> (&'a str, &'a str) {
@@ -34,13 +40,17 @@ pub(crate) fn is_said(said: bool, wanted: &str) -> bool {
 
 /// Whether this is what is reported of a judging.
 pub(crate) fn is_reported(answer: Answer, wanted: &str) -> bool {
-    match answer {
-        Answer::Pending => wanted == "pending",
-        Answer::Final(Verdict::CompilerError) => wanted == "final compiler-error",
-        Answer::Final(Verdict::Tests(kind)) => {
-            word(wanted, 0) == "final" && word(wanted, 1) == kind.name()
-        }
-    }
+    let (what, kind) = match answer {
+        Answer::Pending => ("pending", ""),
+        Answer::Final(Verdict::CompilerError) => ("final", "compiler-error"),
+        Answer::Final(Verdict::Tests(kind)) => ("final", kind.name()),
+    };
+    are_words(wanted, what, kind)
+}
+
+/// Whether these are the first two words. A word that is missing is empty.
+pub(crate) fn are_words(words: &str, first: &str, second: &str) -> bool {
+    word(words, 0) == first && word(words, 1) == second
 }
 
 /// The rule of this name.
