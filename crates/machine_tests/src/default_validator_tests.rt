@@ -1,124 +1,81 @@
-use crate::rows::bytes_of;
+use crate::rows::{bytes_of, check_row, number, parts_of, word};
 use crate::verdicts::verdict;
-use decimal_compare::Tolerance;
 use default_validator::{FlagFault, Flags, wide_token};
-use std::alloc::{AllocError, Global};
-use std::process::Abort;
+use std::alloc::Global;
 use std::test::Fail;
 
-const UNIT: i128 = 1_000_000_000_000;
+/// Flags, as `bytes_of` reads them, and what is read of them: whether case and space count, and the relative and the
+/// absolute tolerance in units of 10^-12, or which word is wrong, from 1.
+const FLAGS: &str = concat!(
+    " => no no - -\n",
+    " \t~ => no no - -\n",
+    "case_sensitive => yes no - -\n",
+    "\x0bspace_change_sensitive\r~case_sensitive\x0c => yes yes - -\n",
+    "float_tolerance 1e-6 => no no 1000000 1000000\n",
+    "float_relative_tolerance 1 => no no 1000000000000 -\n",
+    "float_absolute_tolerance 1e3 => no no - 1000000000000000\n",
+    "float_tolerance 1e-6 float_relative_tolerance 0 => no no 0 1000000\n",
+    "float_absolute_tolerance 2 float_absolute_tolerance 3 => no no - 3000000000000\n",
+    "float_tolerance => no-value 1\n",
+    "case_sensitive float_tolerance  => no-value 2\n",
+    "float_tolerance 1e-13 => bad-tolerance 2\n",
+    "float_tolerance case_sensitive => bad-tolerance 2\n",
+    "float_absolute_tolerance -1 => bad-tolerance 2\n",
+    "float_tolerance 1 float_relative_tolerance 2 => bad-tolerance 4\n",
+    "fast => unknown 1\n",
+    "float_tolerance 1e-13 fast => bad-tolerance 2\n",
+    "case_sensitive Case_sensitive float_tolerance => unknown 2\n",
+);
 
-fn tolerance(relative: Option<i128>, absolute: Option<i128>) -> Tolerance {
-    Tolerance { relative, absolute }
+fn name_of(set: bool) -> &'static str {
+    if set { "yes" } else { "no" }
+}
+
+/// Whether a tolerance is so much.
+fn is_amount(amount: Option<i128>, wanted: &str) -> bool {
+    match (amount, wanted.parse::<u64>()) {
+        (Some(amount), Ok(wanted)) => amount == wanted as i128,
+        (None, Err(_)) => wanted == "-",
+        _ => false,
+    }
+}
+
+/// Whether this is read of flags.
+fn is_read(read: Result<Flags, FlagFault>, wanted: &str) -> bool {
+    let (what, place) = match read {
+        Ok(flags) => return are_flags(&flags, wanted),
+        Err(FlagFault::NoValue(place)) => ("no-value", place),
+        Err(FlagFault::BadTolerance(place)) => ("bad-tolerance", place),
+        Err(FlagFault::Unknown(place)) => ("unknown", place),
+    };
+    word(wanted, 0) == what && number(wanted, 1) as usize == place as usize
+}
+
+/// Whether the flags are so.
+fn are_flags(flags: &Flags, wanted: &str) -> bool {
+    word(wanted, 0) == name_of(flags.case)
+        && word(wanted, 1) == name_of(flags.space)
+        && is_amount(flags.tolerance.relative, word(wanted, 2))
+        && is_amount(flags.tolerance.absolute, word(wanted, 3))
+}
+
+/// What is wrong of a row of flags, or nothing.
+fn wrong_flags(alloc: Global, row: &str) -> &str {
+    let (text, wanted) = parts_of(row, " => ");
+    let Ok(bytes) = bytes_of(alloc, text) else {
+        return "no memory";
+    };
+    let right = is_read(Flags::read(bytes.as_slice()), wanted);
+    drop(bytes);
+    if right { "" } else { wanted }
 }
 
 #[test]
-fn reads_flags(rt: HostRuntime) {
-    let none = tolerance(None, None);
-    let rows: [(&[u8], Result<Flags, FlagFault>); 18] = [
-        (
-            b"",
-            Ok(Flags {
-                case: false,
-                space: false,
-                tolerance: none,
-            }),
-        ),
-        (
-            b" \t\n",
-            Ok(Flags {
-                case: false,
-                space: false,
-                tolerance: none,
-            }),
-        ),
-        (
-            b"case_sensitive",
-            Ok(Flags {
-                case: true,
-                space: false,
-                tolerance: none,
-            }),
-        ),
-        (
-            b"\x0bspace_change_sensitive\r\ncase_sensitive\x0c",
-            Ok(Flags {
-                case: true,
-                space: true,
-                tolerance: none,
-            }),
-        ),
-        (
-            b"float_tolerance 1e-6",
-            Ok(Flags {
-                case: false,
-                space: false,
-                tolerance: tolerance(Some(1_000_000), Some(1_000_000)),
-            }),
-        ),
-        (
-            b"float_relative_tolerance 1",
-            Ok(Flags {
-                case: false,
-                space: false,
-                tolerance: tolerance(Some(UNIT), None),
-            }),
-        ),
-        (
-            b"float_absolute_tolerance 1e3",
-            Ok(Flags {
-                case: false,
-                space: false,
-                tolerance: tolerance(None, Some(1000 * UNIT)),
-            }),
-        ),
-        (
-            b"float_tolerance 1e-6 float_relative_tolerance 0",
-            Ok(Flags {
-                case: false,
-                space: false,
-                tolerance: tolerance(Some(0), Some(1_000_000)),
-            }),
-        ),
-        (
-            b"float_absolute_tolerance 2 float_absolute_tolerance 3",
-            Ok(Flags {
-                case: false,
-                space: false,
-                tolerance: tolerance(None, Some(3 * UNIT)),
-            }),
-        ),
-        (b"float_tolerance", Err(FlagFault::NoValue(1))),
-        (
-            b"case_sensitive float_tolerance ",
-            Err(FlagFault::NoValue(2)),
-        ),
-        (b"float_tolerance 1e-13", Err(FlagFault::BadTolerance(2))),
-        (
-            b"float_tolerance case_sensitive",
-            Err(FlagFault::BadTolerance(2)),
-        ),
-        (
-            b"float_absolute_tolerance -1",
-            Err(FlagFault::BadTolerance(2)),
-        ),
-        (
-            b"float_tolerance 1 float_relative_tolerance 2",
-            Err(FlagFault::BadTolerance(4)),
-        ),
-        (b"fast", Err(FlagFault::Unknown(1))),
-        (
-            b"float_tolerance 1e-13 fast",
-            Err(FlagFault::BadTolerance(2)),
-        ),
-        (
-            b"case_sensitive Case_sensitive float_tolerance",
-            Err(FlagFault::Unknown(2)),
-        ),
-    ];
-    for (text, want) in rows {
-        assert_eq!(rt; Flags::read(text), want, "at {text:?}");
+fn reads_flags(rt: HostRuntime) -> Result<(), Fail> {
+    for row in FLAGS.lines() {
+        check_row(&rt, row, wrong_flags(rt.alloc(), row));
     }
+    Ok(())
 }
 
 /// Flags, an answer and an output, as `bytes_of` reads these two, and what the validator says: numbers.
@@ -186,54 +143,75 @@ fn said(verdict: Option<bool>) -> &'static str {
     }
 }
 
-/// What the validator says of the flags, the answer and the output of a row.
-fn verdict_of(alloc: Global, row: &str) -> Result<&'static str, AllocError> {
-    let (flags, texts) = row.split_once('|').unwrap_or((row, ""));
-    let (answer, output) = texts.split_once('|').unwrap_or((texts, ""));
-    let answer = bytes_of(alloc, answer)?;
-    let output = bytes_of(alloc, output)?;
-    Ok(said(verdict(flags.as_bytes(), answer.as_slice(), output.as_slice())))
-}
-
-fn check_verdicts<R: Abort + AllocGlobal>(rt: &R, rows: &str) -> Result<(), Fail> {
-    for row in rows.lines() {
-        let (texts, want) = row.split_once(" => ").unwrap_or((row, ""));
-        assert_eq!(rt; verdict_of(rt.alloc(), texts)?, want, "{texts:?}");
-    }
-    Ok(())
+/// What the validator says of the flags, the answer and the output of a row, as it should, or else what is wrong.
+fn wrong_verdict(alloc: Global, row: &str) -> &str {
+    let (texts, wanted) = parts_of(row, " => ");
+    let (flags, texts) = parts_of(texts, "|");
+    let (answer, output) = parts_of(texts, "|");
+    let Ok(answer) = bytes_of(alloc, answer) else {
+        return "no memory";
+    };
+    let Ok(output) = bytes_of(alloc, output) else {
+        drop(answer);
+        return "no memory";
+    };
+    let said = said(verdict(flags.as_bytes(), answer.as_slice(), output.as_slice()));
+    drop(answer);
+    drop(output);
+    if said == wanted { "" } else { wanted }
 }
 
 #[test]
 fn compares_numbers_within_tolerances(rt: HostRuntime) -> Result<(), Fail> {
-    check_verdicts(&rt, NUMBERS)
+    for row in NUMBERS.lines() {
+        check_row(&rt, row, wrong_verdict(rt.alloc(), row));
+    }
+    Ok(())
 }
 
 #[test]
 fn minds_white_space_and_case(rt: HostRuntime) -> Result<(), Fail> {
     assert_eq!(rt; verdict(b"", b"\xc4", b"\xe4"), Some(false));
-    check_verdicts(&rt, SPACES)
+    for row in SPACES.lines() {
+        check_row(&rt, row, wrong_verdict(rt.alloc(), row));
+    }
+    Ok(())
+}
+
+/// Answers, and which of their words is a wide token where there is a tolerance, from 0.
+const WIDE: &str = concat!(
+    "1e12 => 0\n",
+    "1000000000000 => none\n",
+    "1000000000000. => 0\n",
+    " 1 2.5 -1e12 1e13 => 2\n",
+    "999999999999.999999999999 => none\n",
+    "1e9999 => 0\n",
+    "10000000000000 => none\n",
+    "1e12x => none\n",
+    " => none\n",
+);
+
+/// What is wrong of a row of wide tokens, or nothing.
+fn wrong_token(row: &str) -> &str {
+    let (answer, wanted) = parts_of(row, " => ");
+    let (Ok(tolerant), Ok(plain)) = (Flags::read(b"float_relative_tolerance 0"), Flags::read(b""))
+    else {
+        return "flags";
+    };
+    let found = match wide_token(&tolerant, answer.as_bytes()) {
+        Some(place) => number(wanted, 0) as usize == place,
+        None => wanted == "none",
+    };
+    if found && wide_token(&plain, answer.as_bytes()).is_none() {
+        ""
+    } else {
+        wanted
+    }
 }
 
 #[test]
-fn finds_wide_tokens(rt: HostRuntime) -> Result<(), Fail> {
-    let tolerant = Flags::read(b"float_relative_tolerance 0")
-        .ok()
-        .ok_or("good flags")?;
-    let plain = Flags::read(b"").ok().ok_or("no flags")?;
-    let rows: [(&[u8], Option<usize>); 9] = [
-        (b"1e12", Some(0)),
-        (b"1000000000000", None),
-        (b"1000000000000.", Some(0)),
-        (b" 1 2.5 -1e12 1e13", Some(2)),
-        (b"999999999999.999999999999", None),
-        (b"1e9999", Some(0)),
-        (b"10000000000000", None),
-        (b"1e12x", None),
-        (b"", None),
-    ];
-    for (answer, want) in rows {
-        let found = (wide_token(&tolerant, answer), wide_token(&plain, answer));
-        assert_eq!(rt; found, (want, None), "at {answer:?}");
+fn finds_wide_tokens(rt: HostRuntime) {
+    for row in WIDE.lines() {
+        check_row(&rt, row, wrong_token(row));
     }
-    Ok(())
 }

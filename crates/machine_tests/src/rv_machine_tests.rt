@@ -1,14 +1,84 @@
-use crate::rows::image_of;
+use crate::rows::{check_row, image_of, number, parts_of, word};
 use farm_kinds::{Limits, raw_image};
 use rv_machine::{Ending, Extra, Files, Machine, Trap};
-use std::process::Abort;
+use std::alloc::Global;
 use std::test::Fail;
 
-const AMPLE: Limits = Limits {
-    instructions: 1000,
-    pages: 100,
-    output: 100,
-};
+/// Programs that are run, a row each: the program, how many instructions, pages and bytes of output it may use, and what
+/// it reads; and how it ends, what it cost, how many pages it touched, and what it wrote. `~` is a line feed, and `_`
+/// stands for nothing. Behind `/` stand what the descriptors 3, 4 and 5 have.
+const ROWS: &str = concat!(
+    // what instructions cost
+    "exit 2 100 100 _ => exit 0 2 1 _\n",
+    "exit 1 100 100 _ => time _ 1 1 _\n",
+    "exit 0 100 100 _ => time _ 0 1 _\n",
+    "loop 1 100 100 _ => time _ 1 1 _\n",
+    "loop 1000 100 100 _ => time _ 1000 1 _\n",
+    "zero 1 100 100 _ => trap illegal 0 1 _\n",
+    // each limit
+    "echo 16 2 2 7~ => exit 0 16 2 7~\n",
+    "echo 15 2 2 7~ => time _ 15 2 7~\n",
+    "echo 16 1 2 7~ => memory _ 4 1 _\n",
+    "echo 16 0 2 7~ => memory _ 0 0 _\n",
+    "echo 16 2 1 7~ => output _ 10 2 _\n",
+    // traps
+    "jump 1000 100 100 _ => trap jump 0 1 _\n",
+    "misaligned 1000 100 100 _ => trap misaligned 0 1 _\n",
+    "break 1000 100 100 _ => trap break 0 1 _\n",
+    "call 1000 100 100 _ => trap call 0 1 _\n",
+    "past-memory 1000 100 100 _ => trap range 4 1 _\n",
+    // code that changes
+    "ahead 1000 1 100 _ => exit 5 6 1 _\n",
+    "back 1000 1 100 _ => exit 6 13 1 _\n",
+    "byte 1000 1 100 _ => exit 51 20 1 _\n",
+    "half 1000 1 100 _ => exit 8 13 1 _\n",
+    "edge 1000 3 100 _ => exit 3 24 3 _\n",
+    "edge 15 3 100 _ => time _ 15 3 _\n",
+    "edge 1000 2 100 _ => memory _ 5 2 _\n",
+    "many 1000 61 100 _ => exit 0 368 61 _\n",
+    "many 1000 30 100 _ => memory _ 179 30 _\n",
+    "many 100 61 100 _ => time _ 100 17 _\n",
+    "turn 1000 2 100 _ => exit 8 21 2 _\n",
+    "turn 12 2 100 _ => time _ 12 2 _\n",
+    "read-code 1000 100 100 code => exit 17 25 1 _\n",
+    // descriptors
+    "unknown 1000 100 100 a => exit 4294967295 6 1 _\n",
+    "validator 1000 100 100 s/iaf => exit 42 30 2 iaf\n",
+);
+
+/// Programs of which words are placed at two addresses, a row each: where it begins, the two addresses and what is placed
+/// there, and how many pages it may use; and how it ends, what it cost and how many pages it touched. Addresses are
+/// hexadecimal.
+const PLACED: &str = concat!(
+    "10054 10054 exit 10054 none 1 => exit 0 2 1\n",
+    "10054 10058 exit-end 10054 exit-begin 1 => exit 0 2 1\n",
+    "10054 30000 none 10054 exit 1 => exit 0 2 1\n",
+    "10054 10054 exit 11000 exit 1 => memory _ 0 1\n",
+    "10054 11000 exit 10ffc exit 1 => memory _ 0 1\n",
+    "10054 10ffc exit 10054 exit 1 => memory _ 0 0\n",
+    "10ffc 10ffc exit 0 none 2 => exit 0 2 2\n",
+    "fffffff8 fffffff8 exit 0 none 1 => exit 0 2 1\n",
+    "10054 10054 exit 0 exit 2 => exit 0 2 2\n",
+    "20000 10054 exit 0 none 2 => trap illegal 0 2\n",
+    "20000 10054 exit 0 none 1 => memory _ 0 1\n",
+);
+
+/// Exits with 0.
+const EXIT: [u32; 2] = [0x05D0_0893, 0x0000_0073];
+
+/// Jumps to itself.
+const LOOP: [u32; 1] = [0x0000_006F];
+
+/// Instructions of which each is a trap.
+const ZERO: [u32; 1] = [0x0000_0000];
+
+const JUMP: [u32; 1] = [0x0020_006F];
+
+const MISALIGNED: [u32; 1] = [0x0010_2003];
+
+const BREAK: [u32; 1] = [0x0010_0073];
+
+const CALL: [u32; 1] = [0x0000_0073];
 
 /// Reads up to 64 bytes, writes them and exits with 0.
 const ECHO: [u32; 12] = [
@@ -206,211 +276,201 @@ const UNKNOWN: [u32; 6] = [
     0x0000_0073,
 ];
 
-fn check<R: Abort + AllocGlobal>(
-    rt: &R,
-    words: &[u32],
-    limits: Limits,
-    files: Files<'_>,
-    end: (Ending, u64, u32),
-    output: &[u8],
-) -> Result<(), Fail> {
-    let image = image_of(rt.alloc(), words)?;
-    assert!(rt; raw_image(image.as_slice()));
-    let mut machine = Machine::load(rt.alloc(), image.as_slice(), limits, files)?;
-    check_end(rt, &mut machine, end)?;
-    assert!(rt; machine.output() == output);
-    // A machine that has ended answers its ending again.
-    check_end(rt, &mut machine, end)?;
-    assert!(rt; machine.output() == output);
-    Ok(())
-}
-
-fn check_end<R: Abort + AllocGlobal>(
-    rt: &R,
-    machine: &mut Machine<'_>,
-    end: (Ending, u64, u32),
-) -> Result<(), Fail> {
-    assert!(rt; machine.run()? == end.0);
-    assert_eq!(rt; (machine.cost(), machine.pages()), (end.1, end.2));
-    Ok(())
-}
-
-fn reading(stdin: &[u8]) -> Files<'_> {
-    Files { stdin, extra: None }
-}
-
-#[test]
-fn meter(rt: HostRuntime) -> Result<(), Fail> {
-    let exit = [0x05D0_0893, 0x0000_0073];
-    for (words, instructions, ending, cost) in [
-        (exit.as_slice(), 2, Ending::Exit(0), 2),
-        (exit.as_slice(), 1, Ending::Time, 1),
-        (exit.as_slice(), 0, Ending::Time, 0),
-        ([0x0000_006F].as_slice(), 1, Ending::Time, 1),
-        ([0x0000_006F].as_slice(), 1000, Ending::Time, 1000),
-        ([0x0000_0000].as_slice(), 1, Ending::Trap(Trap::Illegal), 0),
-    ] {
-        let limits = Limits {
-            instructions,
-            ..AMPLE
-        };
-        check(&rt, words, limits, reading(b""), (ending, cost, 1), b"")?;
+/// The words of a program, or of a part of one.
+fn words_of(program: &str) -> &'static [u32] {
+    match program {
+        "exit" => EXIT.as_slice(),
+        "exit-begin" => &EXIT[..1],
+        "exit-end" => &EXIT[1..],
+        "none" => &EXIT[..0],
+        "loop" => LOOP.as_slice(),
+        "zero" => ZERO.as_slice(),
+        "jump" => JUMP.as_slice(),
+        "misaligned" => MISALIGNED.as_slice(),
+        "break" => BREAK.as_slice(),
+        "call" => CALL.as_slice(),
+        "past-memory" => PAST_MEMORY.as_slice(),
+        _ => long_words_of(program),
     }
-    Ok(())
 }
 
-#[test]
-fn echo(rt: HostRuntime) -> Result<(), Fail> {
-    for (instructions, pages, output, end, written) in [
-        (16, 2, 2, (Ending::Exit(0), 16, 2), b"7\n".as_slice()),
-        (15, 2, 2, (Ending::Time, 15, 2), b"7\n".as_slice()),
-        (16, 1, 2, (Ending::Memory, 4, 1), b"".as_slice()),
-        (16, 0, 2, (Ending::Memory, 0, 0), b"".as_slice()),
-        (16, 2, 1, (Ending::Output, 10, 2), b"".as_slice()),
-    ] {
-        let limits = Limits {
-            instructions,
-            pages,
-            output,
-        };
-        check(&rt, &ECHO, limits, reading(b"7\n"), end, written)?;
+/// The same of the longer ones.
+fn long_words_of(program: &str) -> &'static [u32] {
+    match program {
+        "echo" => ECHO.as_slice(),
+        "ahead" => AHEAD.as_slice(),
+        "back" => BACK.as_slice(),
+        "byte" => BYTE.as_slice(),
+        "half" => HALF.as_slice(),
+        "edge" => EDGE.as_slice(),
+        "many" => MANY.as_slice(),
+        "turn" => TURN.as_slice(),
+        "read-code" => READ_CODE.as_slice(),
+        "unknown" => UNKNOWN.as_slice(),
+        "validator" => VALIDATOR.as_slice(),
+        _ => ZERO.as_slice(),
     }
-    Ok(())
 }
 
-#[test]
-fn traps(rt: HostRuntime) -> Result<(), Fail> {
-    for (word, trap) in [
-        (0x0020_006F, Trap::Jump),
-        (0x0010_2003, Trap::Misaligned),
-        (0x0010_0073, Trap::Break),
-        (0x0000_0073, Trap::Call),
-    ] {
-        let end = (Ending::Trap(trap), 0, 1);
-        check(&rt, &[word], AMPLE, reading(b""), end, b"")?;
+/// What a program reads or writes.
+fn text_of(word: &str) -> &'static [u8] {
+    match word {
+        "7~" => b"7\n",
+        "code" => b"\x13\x07\x07\x01",
+        "a" => b"a",
+        "s/iaf" => b"s",
+        "iaf" => b"iaf",
+        _ => b"",
     }
-    let end = (Ending::Trap(Trap::Range), 4, 1);
-    check(&rt, &PAST_MEMORY, AMPLE, reading(b""), end, b"")
 }
 
-#[test]
-fn code_that_changes(rt: HostRuntime) -> Result<(), Fail> {
-    for (words, instructions, pages, ending, cost, touched) in [
-        (AHEAD.as_slice(), 1000, 1, Ending::Exit(5), 6, 1),
-        (BACK.as_slice(), 1000, 1, Ending::Exit(6), 13, 1),
-        (BYTE.as_slice(), 1000, 1, Ending::Exit(51), 20, 1),
-        (HALF.as_slice(), 1000, 1, Ending::Exit(8), 13, 1),
-        (EDGE.as_slice(), 1000, 3, Ending::Exit(3), 24, 3),
-        (EDGE.as_slice(), 15, 3, Ending::Time, 15, 3),
-        (EDGE.as_slice(), 1000, 2, Ending::Memory, 5, 2),
-        (MANY.as_slice(), 1000, 61, Ending::Exit(0), 368, 61),
-        (MANY.as_slice(), 1000, 30, Ending::Memory, 179, 30),
-        (MANY.as_slice(), 100, 61, Ending::Time, 100, 17),
-        (TURN.as_slice(), 1000, 2, Ending::Exit(8), 21, 2),
-        (TURN.as_slice(), 12, 2, Ending::Time, 12, 2),
-    ] {
-        let limits = Limits {
-            instructions,
-            pages,
-            ..AMPLE
-        };
-        check(
-            &rt,
-            words,
-            limits,
-            reading(b""),
-            (ending, cost, touched),
-            b"",
-        )?;
-    }
-    let end = (Ending::Exit(17), 25, 1);
-    check(
-        &rt,
-        &READ_CODE,
-        AMPLE,
-        reading(b"\x13\x07\x07\x01"),
-        end,
-        b"",
-    )
-}
-
-#[test]
-fn descriptors(rt: HostRuntime) -> Result<(), Fail> {
-    let end = (Ending::Exit(0xFFFF_FFFF), 6, 1);
-    check(&rt, &UNKNOWN, AMPLE, reading(b"a"), end, b"")?;
-    let files = Files {
-        stdin: b"s",
-        extra: Some(Extra {
+/// What a program can read.
+fn files_of(word: &str) -> Files<'static> {
+    let extra = match word {
+        "s/iaf" => Some(Extra {
             input: b"i",
             answer: b"a",
             flags: b"f",
         }),
+        _ => None,
     };
-    let end = (Ending::Exit(42), 30, 2);
-    check(&rt, &VALIDATOR, AMPLE, files, end, b"iaf")
+    Files {
+        stdin: text_of(word),
+        extra,
+    }
 }
 
-/// Exits with 0.
-const EXIT: [u32; 2] = [0x05D0_0893, 0x0000_0073];
-
-// Runs a program of which words are placed at two addresses.
-fn check_placed<R: Abort + AllocGlobal>(
-    rt: &R,
-    entry: u32,
-    first: (u32, &[u32]),
-    second: (u32, &[u32]),
-    pages: u32,
-    end: (Ending, u64, u32),
-) -> Result<(), Fail> {
-    let limits = Limits { pages, ..AMPLE };
-    assert!(rt; entry % 4 == 0);
-    let mut machine = Machine::blank(rt.alloc(), limits, reading(b""), entry);
-    for (at, words) in [first, second] {
-        let bytes = image_of(rt.alloc(), words)?;
-        assert!(rt; at as u64 + bytes.len() as u64 <= 1 << 32);
-        machine.place(at, bytes.as_slice())?;
+/// What a program may use.
+fn limits_of(row: &str) -> Limits {
+    Limits {
+        instructions: number(row, 1) as u64,
+        pages: number(row, 2),
+        output: number(row, 3),
     }
-    check_end(rt, &mut machine, end)
+}
+
+fn name_of(trap: Trap) -> &'static str {
+    match trap {
+        Trap::Illegal => "illegal",
+        Trap::Jump => "jump",
+        Trap::Misaligned => "misaligned",
+        Trap::Break => "break",
+        Trap::Call => "call",
+        Trap::Range => "range",
+    }
+}
+
+/// Whether a program ends so.
+fn is_ending(ending: Ending, wanted: &str) -> bool {
+    let (what, trap) = match ending {
+        Ending::Exit(code) => return word(wanted, 0) == "exit" && number(wanted, 1) == code,
+        Ending::Trap(trap) => ("trap", name_of(trap)),
+        Ending::Time => ("time", "_"),
+        Ending::Memory => ("memory", "_"),
+        Ending::Output => ("output", "_"),
+    };
+    word(wanted, 0) == what && word(wanted, 1) == trap
+}
+
+/// Whether the machine ends so, at this cost and with so many pages.
+fn ends(machine: &mut Machine<'_>, wanted: &str) -> bool {
+    let Ok(ending) = machine.run() else {
+        return false;
+    };
+    is_ending(ending, wanted)
+        && machine.cost() == number(wanted, 2) as u64
+        && machine.pages() == number(wanted, 3)
+}
+
+/// Whether it also has written this. A machine that has ended answers its ending again.
+fn ends_twice(machine: &mut Machine<'_>, wanted: &str) -> bool {
+    let output = text_of(word(wanted, 4));
+    ends(machine, wanted)
+        && machine.output() == output
+        && ends(machine, wanted)
+        && machine.output() == output
+}
+
+/// Whether the program is run as it should.
+fn is_run(alloc: Global, image: &[u8], row: &str, wanted: &str) -> bool {
+    if !raw_image(image) {
+        return false;
+    }
+    let loaded = Machine::load(alloc, image, limits_of(row), files_of(word(row, 4)));
+    let Ok(mut machine) = loaded else {
+        return false;
+    };
+    let right = ends_twice(&mut machine, wanted);
+    drop(machine);
+    right
+}
+
+/// What is wrong of a row, or nothing.
+fn wrong_of(alloc: Global, row: &str) -> &str {
+    let (row, wanted) = parts_of(row, " => ");
+    let Ok(image) = image_of(alloc, words_of(word(row, 0))) else {
+        return "no memory";
+    };
+    let right = is_run(alloc, image.as_slice(), row, wanted);
+    drop(image);
+    if right { "" } else { wanted }
+}
+
+#[test]
+fn programs_are_run(rt: HostRuntime) -> Result<(), Fail> {
+    for row in ROWS.lines() {
+        check_row(&rt, row, wrong_of(rt.alloc(), row));
+    }
+    Ok(())
+}
+
+/// The address at that place of a row.
+fn address(row: &str, at: usize) -> u32 {
+    u32::from_str_radix(word(row, at), 16).unwrap_or(1)
+}
+
+/// Places bytes at an address, from which on there is room for them.
+fn place_bytes(machine: &mut Machine<'_>, at: u32, bytes: &[u8]) -> bool {
+    if at as u64 + bytes.len() as u64 > 1 << 32 {
+        return false;
+    }
+    machine.place(at, bytes).is_ok()
+}
+
+/// Places the words of a program.
+fn place(alloc: Global, machine: &mut Machine<'_>, at: u32, words: &[u32]) -> bool {
+    let Ok(bytes) = image_of(alloc, words) else {
+        return false;
+    };
+    let placed = place_bytes(machine, at, bytes.as_slice());
+    drop(bytes);
+    placed
+}
+
+/// What is wrong of a row of what is placed, or nothing.
+fn wrong_placed(alloc: Global, row: &str) -> &str {
+    let (row, wanted) = parts_of(row, " => ");
+    let entry = address(row, 0);
+    if entry % 4 != 0 {
+        return "entry";
+    }
+    let limits = Limits {
+        instructions: 1000,
+        pages: number(row, 5),
+        output: 100,
+    };
+    let mut machine = Machine::blank(alloc, limits, files_of("_"), entry);
+    let right = place(alloc, &mut machine, address(row, 1), words_of(word(row, 2)))
+        && place(alloc, &mut machine, address(row, 3), words_of(word(row, 4)))
+        && ends(&mut machine, wanted);
+    drop(machine);
+    if right { "" } else { wanted }
 }
 
 #[test]
 fn placed_bytes_are_run(rt: HostRuntime) -> Result<(), Fail> {
-    let exit = EXIT.as_slice();
-    let none = [].as_slice();
-    let done = |pages| (Ending::Exit(0), 2, pages);
-    let over = |pages| (Ending::Memory, 0, pages);
-    for (entry, first, second, pages, end) in [
-        (0x1_0054, (0x1_0054, exit), (0x1_0054, none), 1, done(1)),
-        (
-            0x1_0054,
-            (0x1_0058, &exit[1..]),
-            (0x1_0054, &exit[..1]),
-            1,
-            done(1),
-        ),
-        (0x1_0054, (0x3_0000, none), (0x1_0054, exit), 1, done(1)),
-        (0x1_0054, (0x1_0054, exit), (0x1_1000, exit), 1, over(1)),
-        (0x1_0054, (0x1_1000, exit), (0x1_0FFC, exit), 1, over(1)),
-        (0x1_0054, (0x1_0FFC, exit), (0x1_0054, exit), 1, over(0)),
-        (0x1_0FFC, (0x1_0FFC, exit), (0, none), 2, done(2)),
-        (0xFFFF_FFF8, (0xFFFF_FFF8, exit), (0, none), 1, done(1)),
-        (0x1_0054, (0x1_0054, exit), (0, exit), 2, done(2)),
-        (
-            0x2_0000,
-            (0x1_0054, exit),
-            (0, none),
-            2,
-            (Ending::Trap(Trap::Illegal), 0, 2),
-        ),
-        (
-            0x2_0000,
-            (0x1_0054, exit),
-            (0, none),
-            1,
-            (Ending::Memory, 0, 1),
-        ),
-    ] {
-        check_placed(&rt, entry, first, second, pages, end)?;
+    for row in PLACED.lines() {
+        check_row(&rt, row, wrong_placed(rt.alloc(), row));
     }
     Ok(())
 }
