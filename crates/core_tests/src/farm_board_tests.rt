@@ -39,6 +39,76 @@ fn submission() -> Event {
     }
 }
 
+/// Makes a call, whatever is replied.
+fn tell<W: Wait, A: Admission>(rt: &W, board: &Board<Anyone, A>, pass: &mut Pass<A>, event: Event)
+    requires board { pass.old.board ≡ board.now.id }
+    requires left { 1 ≤ pass.old.left }
+    ensures board { pass.new.board ≡ pass.old.board }
+    ensures spare { pass.new.spare ≡ pass.old.spare }
+    ensures start { pass.new.start ≡ pass.old.start }
+    ensures left { pass.new.left + 1 ≡ pass.old.left }
+{
+    let reply = board.step(rt, pass, &event);
+    drop(reply);
+    drop(event);
+}
+
+/// Makes a call and keeps the turn, and tells the number of the judging that is submitted, if one is.
+fn tell_and_keep<W: Wait, A: Admission>(
+    rt: &W,
+    board: &Board<Anyone, A>,
+    pass: &mut Pass<A>,
+    event: Event,
+) -> Option<u32>
+    requires board { pass.old.board ≡ board.now.id }
+    requires left { 1 ≤ pass.old.left }
+    ensures board { pass.new.board ≡ pass.old.board }
+    ensures spare { pass.new.spare ≡ pass.old.spare }
+    ensures start { pass.new.start ≡ pass.old.start }
+    ensures left { pass.new.left + 1 ≡ pass.old.left }
+{
+    let reply = board.step_and_keep(rt, pass, &event);
+    let submitted = submitted_of(&reply);
+    drop(reply);
+    drop(event);
+    submitted
+}
+
+/// The number of the judging that is submitted, if one is.
+fn submitted_of(reply: &Reply) -> Option<u32> {
+    match reply {
+        Reply::Submitted { judging, .. } => Some(*judging),
+        _ => None,
+    }
+}
+
+/// Whether there is a judging of this number. None where the reply is of something else.
+fn look<W: Wait, A: Admission>(
+    rt: &W,
+    board: &Board<Anyone, A>,
+    pass: &mut Pass<A>,
+    judging: u32,
+) -> Option<bool>
+    requires board { pass.old.board ≡ board.now.id }
+    requires left { 1 ≤ pass.old.left }
+    ensures board { pass.new.board ≡ pass.old.board }
+{
+    let event = Event::Show { judging };
+    let reply = board.step(rt, pass, &event);
+    let seen = is_there(&reply);
+    drop(reply);
+    drop(event);
+    seen
+}
+
+fn is_there(reply: &Reply) -> Option<bool> {
+    match reply {
+        Reply::Shown(_) => Some(true),
+        Reply::NoJudging { .. } => Some(false),
+        _ => None,
+    }
+}
+
 /// Enters the problem and submits to it.
 fn submit<W: Wait, A: Admission>(rt: &W, board: &Board<Anyone, A>, pass: &mut Pass<A>)
     requires board { pass.old.board ≡ board.now.id }
@@ -47,8 +117,8 @@ fn submit<W: Wait, A: Admission>(rt: &W, board: &Board<Anyone, A>, pass: &mut Pa
     ensures spare { pass.new.spare ≡ pass.old.spare }
     ensures start { pass.new.start ≡ pass.old.start }
 {
-    board.step(rt, pass, &problem());
-    board.step(rt, pass, &submission());
+    tell(rt, board, pass, problem());
+    tell(rt, board, pass, submission());
 }
 
 /// Keeps its turn, which ends by `let_go`, and before the pass is split, joined or closed.
@@ -60,20 +130,26 @@ fn keep_turns<W: Wait, A: Admission>(rt: &W, board: &Board<Anyone, A>, pass: &mu
     ensures spare { pass.new.spare ≡ pass.old.spare }
     ensures start { pass.new.start ≡ pass.old.start }
 {
-    board.step_and_keep(rt, pass, &problem());
+    tell_and_keep(rt, board, pass, problem());
     let mut other = board.split(rt, pass, 10);
-    board.step_and_keep(rt, pass, &submission());
+    tell_and_keep(rt, board, pass, submission());
     board.let_go(pass);
-    board.step(rt, &mut other, &submission());
-    board.step_and_keep(rt, &mut other, &submission());
+    tell(rt, board, &mut other, submission());
+    tell_and_keep(rt, board, &mut other, submission());
     board.join(rt, pass, other);
-    board.step_and_keep(rt, pass, &submission());
+    tell_and_keep(rt, board, pass, submission());
 }
 
 /// By which passes the calls were made, in order.
 fn are_made_by(history: &History, passes: &[u64]) -> bool {
-    let numbers = history.as_slice().iter().map(|call| call.number);
-    numbers.eq(passes.iter().copied())
+    let mut wanted = passes.iter();
+    for call in history.as_slice() {
+        match wanted.next() {
+            Some(number) if *number == call.number => {}
+            _ => return false,
+        }
+    }
+    wanted.next().is_none()
 }
 
 /// Whether the last call is the submission of this number.
@@ -147,14 +223,13 @@ fn submit_and_wait<W: Wait, A: Admission>(
     if pass.left() == 0 {
         return (pass, false);
     }
-    board.step(rt, &mut pass, &submission());
+    tell(rt, board, &mut pass, submission());
     for turn in 0..most {
         let _ = turn;
         if pass.left() == 0 {
             break;
         }
-        let reply = board.step(rt, &mut pass, &Event::Show { judging: 2 });
-        if matches!(reply, Reply::Shown(_)) {
+        if look(rt, board, &mut pass, 2) == Some(true) {
             return (pass, true);
         }
         thread::yield_now();
@@ -177,14 +252,11 @@ fn submit_and_look<W: Wait, A: Admission>(
         if pass.left() < 2 {
             break;
         }
-        let reply = board.step_and_keep(rt, &mut pass, &submission());
-        let Reply::Submitted { judging, .. } = reply else {
+        let Some(judging) = tell_and_keep(rt, board, &mut pass, submission()) else {
             board.let_go(&mut pass);
             return (pass, false);
         };
-        let judging = judging.saturating_add(1);
-        let shown = board.step(rt, &mut pass, &Event::Show { judging });
-        if !matches!(shown, Reply::NoJudging { .. }) {
+        if look(rt, board, &mut pass, judging.saturating_add(1)) != Some(false) {
             return (pass, false);
         }
     }
@@ -255,7 +327,7 @@ fn two_see<R: Threads + Wait + Sync, A: Admission + Send + Sync>(
     if pass.spare() < 2 || pass.left() < 10_000_000 {
         return false;
     }
-    board.step(rt, pass, &problem());
+    tell(rt, board, pass, problem());
     let one = board.split(rt, pass, 2_000_000);
     let two = board.split(rt, pass, 2_000_000);
     let (one_saw, two_saw) = if look {
@@ -364,26 +436,23 @@ fn enter<W: Wait, C: Cases + Drop, A: Admission>(
     ensures spare { pass.new.spare ≡ pass.old.spare }
     ensures left { pass.new.left + 3 ≡ pass.old.left }
 {
-    let problem = name(b"A");
-    board.step(
-        rt,
-        pass,
-        &Event::Problem {
-            who: Name::jury(),
-            name: problem,
-            tests: 3,
-        },
-    );
-    board.step(
-        rt,
-        pass,
-        &Event::Submit {
-            problem,
-            class: Class::Normal,
-            broken: false,
-        },
-    );
-    board.step(rt, pass, &Event::Host { name: name(b"h1") });
+    let problem = Event::Problem {
+        who: Name::jury(),
+        name: name(b"A"),
+        tests: 3,
+    };
+    let submission = Event::Submit {
+        problem: name(b"A"),
+        class: Class::Normal,
+        broken: false,
+    };
+    let host = Event::Host { name: name(b"h1") };
+    drop(board.step(rt, pass, &problem));
+    drop(problem);
+    drop(board.step(rt, pass, &submission));
+    drop(submission);
+    drop(board.step(rt, pass, &host));
+    drop(host);
 }
 
 /// Has the host judge the submission, and tells how it ends, and whether a run error is shown then.
@@ -402,8 +471,12 @@ fn judge_on<W: Wait, C: Cases + Drop, A: Admission>(
     let mut bench = LocalBench::new(rt, board, share, name(b"h1"));
     let end = host_loop(runner, &mut bench, &AlwaysOn, 1, 1 << 32);
     board.join(rt, pass, bench.end());
-    let shown = board.step(rt, pass, &Event::Show { judging: 1 });
-    (end, is_run_error(&shown))
+    let event = Event::Show { judging: 1 };
+    let shown = board.step(rt, pass, &event);
+    let run_error = is_run_error(&shown);
+    drop(shown);
+    drop(event);
+    (end, run_error)
 }
 
 /// Whether the judging ended with a run error.
@@ -453,7 +526,9 @@ fn judge_three_tests<W: Wait, C: Cases + Drop, A: Admission>(
 /// After a run error on the first test no other test can matter, so a host runs one of three.
 #[test]
 fn one_of_three_tests_is_run(rt: HostRuntime) -> Result<(), Fail> {
-    let flags = Flags::read(b"").map_err(|_| "no flags")?;
+    let Ok(flags) = Flags::read(b"") else {
+        return Err(Fail::from("no flags"));
+    };
     if !image_ok(FAIL) || wide_token(&flags, b"").is_some() {
         return Err(Fail::from("no case"));
     }

@@ -7,8 +7,9 @@ use std::test::Fail;
 const WRONG_ANSWER: Answer = Answer::Final(Verdict::Tests(Kind::WrongAnswer));
 
 /// Has the farm take an event, whatever it replies.
-fn take(farm: &mut Farm, event: &Event) {
-    let _ = farm.step(event);
+fn take(farm: &mut Farm, event: Event) {
+    drop(farm.step(&event));
+    drop(event);
 }
 
 /// A result of the first test of the judging.
@@ -18,7 +19,7 @@ fn enter(farm: &mut Farm, judging: u32, kind: Kind) {
         test: 1,
         kind,
     };
-    take(farm, &entry);
+    take(farm, entry);
 }
 
 /// A result of the first test of each of these judgings.
@@ -35,18 +36,18 @@ fn add_problem(farm: &mut Farm, name: Name) {
         name,
         tests: 1,
     };
-    take(farm, &problem);
+    take(farm, problem);
 }
 
 /// So many submissions to the problem, which are all correct.
 fn submit_all(farm: &mut Farm, problem: Name, submissions: u32) {
-    let submit = Event::Submit {
-        problem,
-        class: Class::Normal,
-        broken: false,
-    };
     for judging in 1..=submissions {
-        take(farm, &submit);
+        let submit = Event::Submit {
+            problem,
+            class: Class::Normal,
+            broken: false,
+        };
+        take(farm, submit);
         enter(farm, judging, Kind::Correct);
     }
 }
@@ -57,7 +58,7 @@ fn rejudge(alloc: Global, farm: &mut Farm, last: u32) -> Result<(), NoMemory> {
         who: Name::jury(),
         list: numbers_to(alloc, last)?,
     };
-    take(farm, &rejudge);
+    take(farm, rejudge);
     Ok(())
 }
 
@@ -82,7 +83,9 @@ fn closed(reply: &Reply) -> Option<(How, u32)> {
 /// Closes a rejudging.
 fn close(farm: &mut Farm, event: &Event) -> Option<(How, u32)> {
     let reply = farm.step(event);
-    closed(&reply)
+    let closed = closed(&reply);
+    drop(reply);
+    closed
 }
 
 /// How many submissions the public sees with this answer.
@@ -112,10 +115,11 @@ fn rejudge_and_close(alloc: Global, farm: &mut Farm, event: &Event) -> Result<Cl
 
 /// What comes of it in a farm of its own. No other function here owns a farm: each way out of one that does has to be
 /// proved to drop it, and so all that it holds.
-fn closed_by(alloc: Global, event: &Event) -> Result<Closed, NoMemory> {
+fn closed_by(alloc: Global, event: Event) -> Result<Closed, NoMemory> {
     let mut farm = Farm::new(alloc, Settings::standard(alloc));
-    let closed = rejudge_and_close(alloc, &mut farm, event);
+    let closed = rejudge_and_close(alloc, &mut farm, &event);
     drop(farm);
+    drop(event);
     closed
 }
 
@@ -124,7 +128,7 @@ fn ten_thousand_judgings_are_applied_at_once(rt: HostRuntime) -> Result<(), Fail
     let who = Name::jury();
     let apply = Event::Apply { who, rejudging: 1 };
     assert_eq!(rt;
-        closed_by(rt.alloc(), &apply)?,
+        closed_by(rt.alloc(), apply)?,
         (Some((How::Applied, 10_000)), 10_000)
     );
     Ok(())
@@ -135,7 +139,7 @@ fn ten_thousand_judgings_are_cancelled_at_once(rt: HostRuntime) -> Result<(), Fa
     let who = Name::jury();
     let cancel = Event::Cancel { who, rejudging: 1 };
     assert_eq!(rt;
-        closed_by(rt.alloc(), &cancel)?,
+        closed_by(rt.alloc(), cancel)?,
         (Some((How::Cancelled, 10_000)), 0)
     );
     Ok(())
