@@ -20,7 +20,7 @@ const LIMITS: Limits = Limits {
 };
 
 /// What a host does.
-#[derive(Clone, Copy, Debug, PartialEq, Eq)]
+#[derive(Clone, Copy, PartialEq, Eq)]
 pub enum Step {
     /// It claims a task.
     Claim,
