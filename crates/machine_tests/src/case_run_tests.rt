@@ -1,10 +1,10 @@
 ghost use Rattle.std.specs.Prelude.{◌≡◌, true};
 ghost use Rattle.case_run.specs.Images.{is_image};
 
-use crate::rows::{bytes_of, image_of};
+use crate::rows::{bytes_of, check_row, image_of, parts_of};
 use case_run::{Case, Check, image_ok, run_case};
 use default_validator::{Flags, wide_token};
-use farm_kinds::{Kind, Limits, raw_image};
+use farm_kinds::{Kind, Limits, NoMemory, raw_image};
 use std::alloc::{AllocError, Global};
 use std::test::Fail;
 
@@ -196,7 +196,7 @@ fn number(field: Option<&str>) -> u32 {
 }
 
 /// The result of a row's test. None where it cannot be run.
-fn result_of(alloc: Global, row: &Row<'_>) -> Result<Option<Kind>, Fail> {
+fn result_of(alloc: Global, row: &Row<'_>) -> Result<Option<Kind>, NoMemory> {
     if !image_ok(row.image.as_slice()) {
         return Ok(None);
     }
@@ -206,7 +206,7 @@ fn result_of(alloc: Global, row: &Row<'_>) -> Result<Option<Kind>, Fail> {
     }
 }
 
-fn result_by_default(alloc: Global, row: &Row<'_>) -> Result<Option<Kind>, Fail>
+fn result_by_default(alloc: Global, row: &Row<'_>) -> Result<Option<Kind>, NoMemory>
     requires { is_image row.now.image.items ≡ true }
 {
     let Ok(flags) = Flags::read(flags_of(row.check)) else {
@@ -225,7 +225,11 @@ fn result_by_default(alloc: Global, row: &Row<'_>) -> Result<Option<Kind>, Fail>
     Ok(Some(run_case(alloc, &case)?))
 }
 
-fn result_by_program(alloc: Global, row: &Row<'_>, validator: &str) -> Result<Option<Kind>, Fail>
+fn result_by_program(
+    alloc: Global,
+    row: &Row<'_>,
+    validator: &str,
+) -> Result<Option<Kind>, NoMemory>
     requires { is_image row.now.image.items ≡ true }
 {
     let validator = image_of(alloc, words_of(validator))?;
@@ -252,15 +256,28 @@ fn name_of(kind: Option<Kind>) -> &'static str {
     }
 }
 
+/// What is wrong of a row, or nothing.
+fn wrong_of(alloc: Global, line: &str) -> &str {
+    let (fields, expected) = parts_of(line, " => ");
+    let Ok(row) = row_of(alloc, fields) else {
+        return "no memory";
+    };
+    let result = result_of(alloc, &row);
+    drop(row);
+    let Ok(kind) = result else {
+        return "no memory";
+    };
+    if name_of(kind) == expected {
+        ""
+    } else {
+        expected
+    }
+}
+
 #[test]
 fn results_of_tests(rt: HostRuntime) -> Result<(), Fail> {
-    let alloc = rt.alloc();
     for line in ROWS.lines() {
-        if let Some((fields, expected)) = line.split_once(" => ") {
-            let row = row_of(alloc, fields)?;
-            let kind = result_of(alloc, &row)?;
-            assert_eq!(rt; name_of(kind), expected, "{fields}");
-        }
+        check_row(&rt, line, wrong_of(rt.alloc(), line));
     }
     Ok(())
 }

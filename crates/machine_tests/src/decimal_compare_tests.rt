@@ -1,9 +1,9 @@
 ghost use Rattle.std.specs.Prelude.{◌<◌, ◌^◌, unsigned_abs};
 
+use crate::rows::{check_row, parts_of};
 use decimal_compare::{Part, Token, Tolerance, read_amount, read_decimal, within};
 use std::alloc::{AllocError, Global};
 use std::process::Abort;
-use std::test::Fail;
 
 const UNIT: i128 = 1_000_000_000_000;
 
@@ -84,30 +84,38 @@ fn token_text(alloc: Global, word: &str) -> Result<String, AllocError> {
     format!(in alloc; "{token:?}")
 }
 
-fn check_words<R: Abort + AllocGlobal>(rt: &R, rows: &str) -> Result<(), Fail> {
+/// What is wrong of a row of words, or nothing.
+fn wrong_word(alloc: Global, row: &str) -> &str {
+    let (word, wanted) = parts_of(row, " => ");
+    let Ok(token) = token_text(alloc, word) else {
+        return "no memory";
+    };
+    let right = token.as_str() == wanted;
+    drop(token);
+    if right { "" } else { wanted }
+}
+
+fn check_words<R: Abort + AllocGlobal>(rt: &R, rows: &str) {
     for row in rows.lines() {
-        let (word, want) = row.split_once(" => ").unwrap_or((row, ""));
-        let token = token_text(rt.alloc(), word)?;
-        assert_eq!(rt; token.as_str(), want, "at {word:?}");
+        check_row(rt, row, wrong_word(rt.alloc(), row));
     }
-    Ok(())
 }
 
 #[test]
-fn reads_decimals(rt: HostRuntime) -> Result<(), Fail> {
-    check_words(&rt, DECIMALS)
+fn reads_decimals(rt: HostRuntime) {
+    check_words(&rt, DECIMALS);
 }
 
 #[test]
-fn reads_hostile_words(rt: HostRuntime) -> Result<(), Fail> {
+fn reads_hostile_words(rt: HostRuntime) {
     let tokens = (read_decimal(b"1\xff"), read_decimal(b"\xb11"));
     assert_eq!(rt; tokens, (Token::NotDecimal, Token::NotDecimal));
-    check_words(&rt, HOSTILE_WORDS)
+    check_words(&rt, HOSTILE_WORDS);
 }
 
 #[test]
-fn moves_the_point_through_long_words(rt: HostRuntime) -> Result<(), Fail> {
-    check_words(&rt, LONG_WORDS)
+fn moves_the_point_through_long_words(rt: HostRuntime) {
+    check_words(&rt, LONG_WORDS);
 }
 
 /// The part of a tolerance, a word, and the amount that is read of it, in units of 10^-12.
@@ -149,14 +157,22 @@ fn amount_text(alloc: Global, fields: &str) -> Result<String, AllocError> {
     format!(in alloc; "{amount:?}")
 }
 
+/// What is wrong of a row of amounts, or nothing.
+fn wrong_amount(alloc: Global, row: &str) -> &str {
+    let (fields, wanted) = parts_of(row, " => ");
+    let Ok(amount) = amount_text(alloc, fields) else {
+        return "no memory";
+    };
+    let right = amount.as_str() == wanted;
+    drop(amount);
+    if right { "" } else { wanted }
+}
+
 #[test]
-fn reads_amounts(rt: HostRuntime) -> Result<(), Fail> {
+fn reads_amounts(rt: HostRuntime) {
     for row in AMOUNTS.lines() {
-        let (fields, want) = row.split_once(" => ").unwrap_or((row, ""));
-        let amount = amount_text(rt.alloc(), fields)?;
-        assert_eq!(rt; amount.as_str(), want, "at {fields:?}");
+        check_row(&rt, row, wrong_amount(rt.alloc(), row));
     }
-    Ok(())
 }
 
 const MILLION: Option<i128> = Some(1_000_000);

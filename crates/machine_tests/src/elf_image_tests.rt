@@ -1,6 +1,6 @@
+use crate::rows::{check_row, parts_of};
 use elf_image::{ElfFault, Segment, read_elf, worked_faults, worked_image};
 use std::alloc::{AllocError, Global};
-use std::test::Fail;
 
 /// An executable with two segments: the first has two instructions, the second has zeros alone.
 const TWO: [u8; 124] = [
@@ -74,31 +74,51 @@ fn computes_what_a_file_says() {
     elf_image::bytes_stand_at_their_addresses();
 }
 
+/// Whether this is read of a file.
+fn is_told(alloc: Global, file: &[u8], wanted: &str) -> bool {
+    let Ok(told) = told(alloc, file) else {
+        return false;
+    };
+    let right = told.as_str() == wanted;
+    drop(told);
+    right
+}
+
+/// What is wrong of a row, or nothing.
+fn wrong_of(alloc: Global, row: &str) -> &str {
+    let (changes, wanted) = parts_of(row, " => ");
+    let Ok(file) = changed(alloc, changes) else {
+        return "no memory";
+    };
+    let right = is_told(alloc, file.as_slice(), wanted);
+    drop(file);
+    if right { "" } else { wanted }
+}
+
 #[test]
-fn tells_each_fault_and_no_near_miss(rt: HostRuntime) -> Result<(), Fail> {
-    let alloc = rt.alloc();
+fn tells_each_fault_and_no_near_miss(rt: HostRuntime) {
     for row in ROWS.lines() {
-        let (changes, want) = row.split_once(" => ").unwrap_or((row, ""));
-        let file = changed(alloc, changes)?;
-        let told = told(alloc, file.as_slice())?;
-        assert_eq!(rt; told.as_str(), want, "at {changes:?}");
+        check_row(&rt, row, wrong_of(rt.alloc(), row));
     }
-    Ok(())
 }
 
 /// The file with these changes.
 fn changed(alloc: Global, changes: &str) -> Result<Vec<u8>, AllocError> {
     let mut file = TWO.to_vec(alloc)?;
+    change_all(&mut file, changes);
+    Ok(file)
+}
+
+fn change_all(file: &mut Vec<u8>, changes: &str) {
     for change in changes.split('|') {
         if let Some((place, value)) = change.split_once('=') {
             let value = value.parse::<u8>().unwrap_or(0);
             match place.parse::<usize>() {
-                Ok(at) => put(&mut file, at, value),
+                Ok(at) => put(file, at, value),
                 Err(_) => file.truncate(value as usize),
             }
         }
     }
-    Ok(file)
 }
 
 fn put(file: &mut Vec<u8>, at: usize, value: u8) {
