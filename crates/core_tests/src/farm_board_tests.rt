@@ -263,38 +263,38 @@ fn submit_and_look<W: Wait, A: Admission>(
     (pass, true)
 }
 
-// Two threads, each with a pass of its own, submit and wait for one another.
-fn submit_in_two_threads<R: Threads + Wait + Sync, A: Admission + Send + Sync>(
+// Submits and waits for another submission, or looks each time whether one came behind it.
+fn play<W: Wait, A: Admission>(
+    rt: &W,
+    board: &Board<Anyone, A>,
+    pass: Pass<A>,
+    look: bool,
+) -> (Pass<A>, bool)
+    requires { pass.board ≡ board.now.id }
+    ensures { result.0.board ≡ board.now.id }
+{
+    if look {
+        return submit_and_look(rt, board, pass, 2000);
+    }
+    submit_and_wait(rt, board, pass, 1_000_000)
+}
+
+// Two threads, each with a pass of its own, do so.
+fn play_in_two_threads<R: Threads + Wait + Sync, A: Admission + Send + Sync>(
     rt: &R,
     board: &Board<Anyone, A>,
     one: Pass<A>,
     two: Pass<A>,
+    look: bool,
 ) -> (bool, bool)
     requires { (one.board ≡ board.now.id) × (two.board ≡ board.now.id) }
 {
     let ((_, one_saw), (_, two_saw)) = thread::join(
         rt,
-        || submit_and_wait(rt, board, one, 1_000_000),
-        || submit_and_wait(rt, board, two, 1_000_000),
+        || play(rt, board, one, look),
+        || play(rt, board, two, look),
     );
     (one_saw, two_saw)
-}
-
-// Two threads, each with a pass of its own, submit in turn and look.
-fn look_in_two_threads<R: Threads + Wait + Sync, A: Admission + Send + Sync>(
-    rt: &R,
-    board: &Board<Anyone, A>,
-    one: Pass<A>,
-    two: Pass<A>,
-) -> (bool, bool)
-    requires { (one.board ≡ board.now.id) × (two.board ≡ board.now.id) }
-{
-    let ((_, one_alone), (_, two_alone)) = thread::join(
-        rt,
-        || submit_and_look(rt, board, one, 2000),
-        || submit_and_look(rt, board, two, 2000),
-    );
-    (one_alone, two_alone)
 }
 
 /// Whether seats run out when a pass is split off, and come back when it is joined. There are two.
@@ -330,11 +330,7 @@ fn two_see<R: Threads + Wait + Sync, A: Admission + Send + Sync>(
     tell(rt, board, pass, problem());
     let one = board.split(rt, pass, 2_000_000);
     let two = board.split(rt, pass, 2_000_000);
-    let (one_saw, two_saw) = if look {
-        look_in_two_threads(rt, board, one, two)
-    } else {
-        submit_in_two_threads(rt, board, one, two)
-    };
+    let (one_saw, two_saw) = play_in_two_threads(rt, board, one, two, look);
     one_saw && two_saw
 }
 
