@@ -1,8 +1,7 @@
-use crate::rows::parts_of;
+use crate::readers::{Reader, check_rows};
 use command_line::read_command;
 use farm_kinds::NoMemory;
 use std::alloc::{AllocError, Global};
-use std::test::Fail;
 
 /// Words behind `farm`, with a space between two of them, and what is read of them.
 const ROWS: &str = concat!(
@@ -75,26 +74,25 @@ const ROWS: &str = concat!(
 /// The name of the program, and the words of the line between single spaces.
 fn words(alloc: Global, line: &str) -> Result<Vec<String>, AllocError> {
     let mut words = Vec::new(alloc);
-    words.push(String::from_str(alloc, "farm")?)?;
+    push_word(alloc, &mut words, "farm")?;
     for word in line.split(' ') {
-        words.push(String::from_str(alloc, word)?)?;
+        push_word(alloc, &mut words, word)?;
     }
     Ok(words)
 }
 
+fn push_word(alloc: Global, words: &mut Vec<String>, word: &str) -> Result<(), AllocError> {
+    Ok(words.push(String::from_str(alloc, word)?)?)
+}
+
 /// What is read of the words of a line.
-fn said(alloc: Global, line: &str) -> Result<String, NoMemory> {
+pub(crate) fn command_told(alloc: Global, line: &str) -> Result<Vec<u8>, NoMemory> {
     let words = words(alloc, line)?;
     let command = read_command(alloc, words.as_slice())?;
-    Ok(format!(in alloc; "{command:?}")?)
+    Ok(format!(in alloc; "{command:?}")?.into_bytes())
 }
 
 #[test]
-fn rows(rt: HostRuntime) -> Result<(), Fail> {
-    for row in ROWS.lines() {
-        let (line, want) = parts_of(row);
-        let said = said(rt.alloc(), line)?;
-        assert_eq!(rt; said.as_str(), want, "{line:?}");
-    }
-    Ok(())
+fn rows(rt: HostRuntime) {
+    check_rows(&rt, ROWS, Reader::Command);
 }

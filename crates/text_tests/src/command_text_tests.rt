@@ -1,17 +1,17 @@
 use crate::names::name;
-use crate::rows::parts_of;
+use crate::readers::{Reader, check_rows};
+use crate::rows::check_written;
 use crate::written::read_and_written;
 use command_text::{
     push_bad_line, push_reply, push_too_long, read_line, write_event, write_event_words,
     write_reply, write_table,
 };
 use farm_kinds::{
-    Answer, Answers, Class, Event, Few, How, Kind, LineFault, MatrixRow, MatrixRows, NoMemory,
-    Reply, TableRow, TableRows, Task, Text, Verdict,
+    Answer, Answers, Event, Few, How, Kind, LineFault, MatrixRow, MatrixRows, NoMemory, Reply,
+    TableRow, TableRows, Task, Text, Verdict,
 };
-use std::alloc::Global;
+use std::alloc::{AllocError, Global};
 use std::process::Abort;
-use std::test::Fail;
 
 /// Lines that are written as they are read.
 const LINES: &str = concat!(
@@ -52,13 +52,14 @@ const LINES: &str = concat!(
     "@ann ask 1\n",
 );
 
+/// What the line is read as, written again.
+pub(crate) fn line_told(alloc: Global, line: &str) -> Result<Vec<u8>, NoMemory> {
+    Ok(read_and_written(alloc, line.as_bytes())?.into_vec())
+}
+
 #[test]
-fn each_line_is_read_and_written_again(rt: HostRuntime) -> Result<(), Fail> {
-    for line in LINES.lines() {
-        let text = read_and_written(rt.alloc(), line.as_bytes())?;
-        assert!(rt; text.as_slice() == line.as_bytes(), "{line}");
-    }
-    Ok(())
+fn each_line_is_read_and_written_again(rt: HostRuntime) {
+    check_rows(&rt, LINES, Reader::Line);
 }
 
 /// Lines, and how they are written again.
@@ -70,166 +71,141 @@ const SHORTER_LINES: &str = concat!(
 );
 
 #[test]
-fn spaces_a_normal_class_and_the_jury_are_left_out(rt: HostRuntime) -> Result<(), Fail> {
-    for row in SHORTER_LINES.lines() {
-        let (line, want) = parts_of(row);
-        let text = read_and_written(rt.alloc(), line.as_bytes())?;
-        assert!(rt; text.as_slice() == want.as_bytes(), "{line}");
+fn spaces_a_normal_class_and_the_jury_are_left_out(rt: HostRuntime) {
+    check_rows(&rt, SHORTER_LINES, Reader::Line);
+}
+
+/// Lines, and which event each is, if it is one.
+const EVENTS: &str = concat!(
+    "tick 60 => tick 60\n",
+    "submit A low broken => submit Low true\n",
+    "record 3 4 timelimit => record 3 4 TimeLimit\n",
+    "rejudge => rejudge []\n",
+    "rejudge 5 => rejudge [5]\n",
+    "@ann rejudge 3,1,3 => rejudge [3, 1, 3]\n",
+    " => no event\n",
+    "    => no event\n",
+    "# problem A 2 => no event\n",
+    " # => no event\n",
+);
+
+/// An event, with some of its fields.
+fn fields_told(alloc: Global, event: &Event) -> Result<String, AllocError> {
+    match event {
+        Event::Tick { moment } => format!(in alloc; "tick {moment}"),
+        Event::Submit { class, broken, .. } => format!(in alloc; "submit {class:?} {broken}"),
+        Event::Entry {
+            judging,
+            test,
+            kind,
+        } => format!(in alloc; "record {judging} {test} {kind:?}"),
+        Event::Rejudge { list, .. } => format!(in alloc; "rejudge {:?}", list.as_slice()),
+        _ => String::from_str(alloc, "another event"),
     }
-    Ok(())
+}
+
+/// Which event a line is, if it is one.
+pub(crate) fn event_told(alloc: Global, line: &str) -> Result<Vec<u8>, NoMemory> {
+    match read_line(alloc, line.as_bytes()) {
+        Ok(Some(event)) => Ok(fields_told(alloc, &event)?.into_bytes()),
+        Ok(None) => Ok(b"no event".to_vec(alloc)?),
+        Err(LineFault::BadLine) => Ok(b"bad line".to_vec(alloc)?),
+        Err(LineFault::NoMemory) => Err(NoMemory),
+    }
 }
 
 #[test]
 fn a_line_says_which_event_it_is(rt: HostRuntime) {
-    assert!(rt;
-        matches!(
-            read_line(rt.alloc(), b"tick 60"),
-            Ok(Some(Event::Tick { moment: 60 }))
-        )
-    );
-    assert!(rt;
-        matches!(
-            read_line(rt.alloc(), b"submit A low broken"),
-            Ok(Some(Event::Submit {
-                class: Class::Low,
-                broken: true,
-                ..
-            }))
-        )
-    );
-    assert!(rt;
-        matches!(
-            read_line(rt.alloc(), b"record 3 4 timelimit"),
-            Ok(Some(Event::Entry {
-                judging: 3,
-                test: 4,
-                kind: Kind::TimeLimit
-            }))
-        )
-    );
-}
-
-#[test]
-fn no_line_gives_no_event(rt: HostRuntime) {
-    for line in [b"".as_slice(), b"   ", b"# problem A 2", b" #"] {
-        assert!(rt; matches!(read_line(rt.alloc(), line), Ok(None)));
-    }
+    check_rows(&rt, EVENTS, Reader::Event);
 }
 
 /// Lines that are none of the grammar's.
 const BAD_LINES: &str = concat!(
-    "problem A\n",
-    "problem A 02\n",
-    "replace A 4294967296\n",
-    "replace A.B 2\n",
-    "host\n",
-    "host h1 h2\n",
-    "submit\n",
-    "submit A high low\n",
-    "submit A broken low\n",
-    "submit A low broken broken\n",
-    "claim\n",
-    "fetch h1\n",
-    "fetch h1 0\n",
-    "fetch h1 17\n",
-    "fetch h1 02\n",
-    "fetch h1 1 1\n",
-    "@ann fetch h1 1\n",
-    "owner\n",
-    "result h1 1 2\n",
-    "result h1 1 2 good\n",
-    "record 1 2\n",
-    "record 1 -2 correct\n",
-    "renew h1 1\n",
-    "tick 1000000000000000000\n",
-    "tick\n",
-    "down h1 h1\n",
-    "show x\n",
-    "show 1 #\n",
-    "Show 1\n",
-    "@jury show 1\n",
-    "@\n",
-    "@ verify 1\n",
-    "@ann\n",
-    "@a.b verify 1\n",
-    "@ann claim h1\n",
-    "@ann submit A\n",
-    "@ann board\n",
-    "@ann @ann verify 1\n",
-    "board 1\n",
-    "audit 1\n",
-    "matrix\n",
-    "matrix 1 2\n",
-    "apply\n",
-    "verify -1\n",
-    "ask\n",
-    "ask 1 2\n",
-    "rejudge 1 2\n",
-    "rejudge ,\n",
-    "rejudge 1,\n",
-    "rejudge ,1\n",
-    "rejudge 1,,2\n",
-    "rejudge 1,02\n",
-    "rejudge 1,x\n",
-    "rejudge 1;2\n",
-    "rejudge 4294967296\n",
+    "problem A => bad line\n",
+    "problem A 02 => bad line\n",
+    "replace A 4294967296 => bad line\n",
+    "replace A.B 2 => bad line\n",
+    "host => bad line\n",
+    "host h1 h2 => bad line\n",
+    "submit => bad line\n",
+    "submit A high low => bad line\n",
+    "submit A broken low => bad line\n",
+    "submit A low broken broken => bad line\n",
+    "claim => bad line\n",
+    "fetch h1 => bad line\n",
+    "fetch h1 0 => bad line\n",
+    "fetch h1 17 => bad line\n",
+    "fetch h1 02 => bad line\n",
+    "fetch h1 1 1 => bad line\n",
+    "@ann fetch h1 1 => bad line\n",
+    "owner => bad line\n",
+    "result h1 1 2 => bad line\n",
+    "result h1 1 2 good => bad line\n",
+    "record 1 2 => bad line\n",
+    "record 1 -2 correct => bad line\n",
+    "renew h1 1 => bad line\n",
+    "tick 1000000000000000000 => bad line\n",
+    "tick => bad line\n",
+    "down h1 h1 => bad line\n",
+    "show x => bad line\n",
+    "show 1 # => bad line\n",
+    "Show 1 => bad line\n",
+    "@jury show 1 => bad line\n",
+    "@ => bad line\n",
+    "@ verify 1 => bad line\n",
+    "@ann => bad line\n",
+    "@a.b verify 1 => bad line\n",
+    "@ann claim h1 => bad line\n",
+    "@ann submit A => bad line\n",
+    "@ann board => bad line\n",
+    "@ann @ann verify 1 => bad line\n",
+    "board 1 => bad line\n",
+    "audit 1 => bad line\n",
+    "matrix => bad line\n",
+    "matrix 1 2 => bad line\n",
+    "apply => bad line\n",
+    "verify -1 => bad line\n",
+    "ask => bad line\n",
+    "ask 1 2 => bad line\n",
+    "rejudge 1 2 => bad line\n",
+    "rejudge , => bad line\n",
+    "rejudge 1, => bad line\n",
+    "rejudge ,1 => bad line\n",
+    "rejudge 1,,2 => bad line\n",
+    "rejudge 1,02 => bad line\n",
+    "rejudge 1,x => bad line\n",
+    "rejudge 1;2 => bad line\n",
+    "rejudge 4294967296 => bad line\n",
 );
 
 #[test]
 fn other_lines_are_bad(rt: HostRuntime) {
-    for line in BAD_LINES.lines() {
-        assert!(rt;
-            matches!(
-                read_line(rt.alloc(), line.as_bytes()),
-                Err(LineFault::BadLine)
-            ),
-            "{line}"
-        );
-    }
+    check_rows(&rt, BAD_LINES, Reader::Event);
 }
 
 #[test]
-fn a_rejudging_has_its_list_in_order(rt: HostRuntime) -> Result<(), Fail> {
-    for (line, want) in [
-        (b"rejudge".as_slice(), [].as_slice()),
-        (b"rejudge 5", &[5]),
-        (b"@ann rejudge 3,1,3", &[3, 1, 3]),
-    ] {
-        match read_line(rt.alloc(), line) {
-            Ok(Some(Event::Rejudge { list, .. })) => assert_eq!(rt; list.as_slice(), want),
-            _ => assert!(rt; false),
-        }
-    }
-    Ok(())
-}
-
-#[test]
-fn the_words_of_an_event_leave_out_who_acts(rt: HostRuntime) -> Result<(), Fail> {
+fn the_words_of_an_event_leave_out_who_acts(rt: HostRuntime) {
     let event = Event::Verify {
         who: name(b"ann"),
         judging: 7,
     };
-    let words = write_event_words(rt.alloc(), &event)?;
-    assert!(rt; words.as_slice() == b"verify 7".as_slice());
-    Ok(())
+    check_written(&rt, write_event_words(rt.alloc(), &event), "verify 7");
+}
+
+/// Checks that this line is written where this name adds a problem.
+fn check_problem<R: Abort + AllocGlobal>(rt: &R, who: &[u8], want: &str) {
+    let event = Event::Problem {
+        who: name(who),
+        name: name(b"A"),
+        tests: 2,
+    };
+    check_written(rt, write_event(rt.alloc(), &event), want);
 }
 
 #[test]
-fn who_acts_is_written_where_it_is_not_the_jury(rt: HostRuntime) -> Result<(), Fail> {
-    let cases = [
-        (name(b"jury"), b"problem A 2".as_slice()),
-        (name(b"ann"), b"@ann problem A 2"),
-    ];
-    for (who, want) in cases {
-        let event = Event::Problem {
-            who,
-            name: name(b"A"),
-            tests: 2,
-        };
-        let text = write_event(rt.alloc(), &event)?;
-        assert!(rt; text.as_slice() == want);
-    }
-    Ok(())
+fn who_acts_is_written_where_it_is_not_the_jury(rt: HostRuntime) {
+    check_problem(&rt, b"jury", "problem A 2");
+    check_problem(&rt, b"ann", "@ann problem A 2");
 }
 
 /// The lines that are written for a reply.
@@ -239,10 +215,7 @@ fn text_of(alloc: Global, reply: Reply) -> Result<Text, NoMemory> {
 
 /// Checks that these are the lines that are written for a reply.
 fn check_reply<R: Abort + AllocGlobal>(rt: &R, reply: Reply, want: &str) {
-    match text_of(rt.alloc(), reply) {
-        Ok(text) => assert_eq!(rt; text.as_slice(), want.as_bytes(), "{want}"),
-        Err(NoMemory) => panic!(rt; "no memory for {want}"),
-    }
+    check_written(rt, text_of(rt.alloc(), reply), want);
 }
 
 #[test]
@@ -377,30 +350,38 @@ fn each_refusal_has_its_words(rt: HostRuntime) {
     check_reply(&rt, Reply::NoMemory, "");
 }
 
-#[test]
-fn replies_follow_one_another_as_lines(rt: HostRuntime) -> Result<(), Fail> {
-    let mut out = Vec::new(rt.alloc());
-    push_reply(&mut out, &Reply::Counted)?;
-    push_bad_line(&mut out)?;
-    push_too_long(&mut out, 4_097)?;
-    assert!(rt; out.as_slice() == b"counted\nbad-line\ntoo-long 4097\n".as_slice());
-    Ok(())
+/// A board of three submissions.
+fn board(alloc: Global) -> Result<Reply, NoMemory> {
+    let mut rows = Answers::new(alloc);
+    rows.push(Answer::Final(Verdict::Tests(Kind::Correct)))?;
+    rows.push(Answer::Pending)?;
+    rows.push(Answer::Final(Verdict::CompilerError))?;
+    Ok(Reply::Board { rows })
 }
 
+/// Appends replies as lines.
+fn push_lines(out: &mut Vec<u8>, board: &Reply) -> Result<(), NoMemory> {
+    push_reply(out, &Reply::Counted)?;
+    push_bad_line(out)?;
+    push_too_long(out, 4_097)?;
+    push_reply(out, board)
+}
+
+/// The lines of some replies, the last of which is a board.
+fn lines(alloc: Global) -> Result<Text, NoMemory> {
+    let mut out = Vec::new(alloc);
+    push_lines(&mut out, &board(alloc)?)?;
+    Ok(Text::from_vec(out))
+}
+
+/// A board has a line for each submission.
 #[test]
-fn a_board_has_a_line_for_each_submission(rt: HostRuntime) -> Result<(), Fail> {
-    let mut rows = Answers::new(rt.alloc());
-    for answer in [
-        Answer::Final(Verdict::Tests(Kind::Correct)),
-        Answer::Pending,
-        Answer::Final(Verdict::CompilerError),
-    ] {
-        rows.push(answer)?;
-    }
-    let mut out = Vec::new(rt.alloc());
-    push_reply(&mut out, &Reply::Board { rows })?;
-    assert!(rt; out.as_slice() == b"1 correct\n2 pending\n3 compiler-error\nboard 3\n".as_slice());
-    Ok(())
+fn replies_follow_one_another_as_lines(rt: HostRuntime) {
+    check_written(
+        &rt,
+        lines(rt.alloc()),
+        "counted\nbad-line\ntoo-long 4097\n1 correct\n2 pending\n3 compiler-error\nboard 3\n",
+    );
 }
 
 #[test]
@@ -409,9 +390,9 @@ fn an_empty_board_has_its_last_line_alone(rt: HostRuntime) {
     check_reply(&rt, Reply::Board { rows }, "board 0");
 }
 
-#[test]
-fn a_matrix_has_the_old_answer_before_the_new_one(rt: HostRuntime) -> Result<(), Fail> {
-    let mut rows = MatrixRows::new(rt.alloc());
+/// The lines of what a rejudging of three submissions has changed.
+fn matrix_text(alloc: Global) -> Result<Text, NoMemory> {
+    let mut rows = MatrixRows::new(alloc);
     rows.push(MatrixRow {
         old: Answer::Final(Verdict::Tests(Kind::WrongAnswer)),
         new: Answer::Final(Verdict::Tests(Kind::Correct)),
@@ -422,31 +403,40 @@ fn a_matrix_has_the_old_answer_before_the_new_one(rt: HostRuntime) -> Result<(),
         new: Answer::Pending,
         count: 1,
     })?;
-    check_reply(
-        &rt,
-        Reply::Matrix { rows, members: 3 },
-        "wrong-answer correct 2\ncorrect pending 1\nmatrix 3",
-    );
-    Ok(())
+    text_of(alloc, Reply::Matrix { rows, members: 3 })
 }
 
 #[test]
-fn a_table_has_a_line_for_each_row(rt: HostRuntime) -> Result<(), Fail> {
-    let mut rows = TableRows::new(rt.alloc());
-    for (number, team, verdict) in [
-        (1, name(b"alpha"), Verdict::Tests(Kind::Correct)),
-        (4, name(b"delta"), Verdict::CompilerError),
-    ] {
-        rows.push(TableRow {
-            number,
-            team,
-            problem: name(b"echo"),
-            verdict,
-        })?;
-    }
-    let text = write_table(rt.alloc(), &rows)?;
-    assert!(rt;
-        text.as_slice() == b"1 alpha echo correct\n4 delta echo compiler-error\n".as_slice()
-    );
-    Ok(())
+fn a_matrix_has_the_old_answer_before_the_new_one(rt: HostRuntime) {
+    let want = "wrong-answer correct 2\ncorrect pending 1\nmatrix 3";
+    check_written(&rt, matrix_text(rt.alloc()), want);
+}
+
+/// Appends a row of a submission to the problem `echo`.
+fn push_row(
+    rows: &mut TableRows,
+    number: u32,
+    team: &[u8],
+    verdict: Verdict,
+) -> Result<(), NoMemory> {
+    rows.push(TableRow {
+        number,
+        team: name(team),
+        problem: name(b"echo"),
+        verdict,
+    })
+}
+
+/// The lines of a table of two submissions.
+fn table_text(alloc: Global) -> Result<Text, NoMemory> {
+    let mut rows = TableRows::new(alloc);
+    push_row(&mut rows, 1, b"alpha", Verdict::Tests(Kind::Correct))?;
+    push_row(&mut rows, 4, b"delta", Verdict::CompilerError)?;
+    write_table(alloc, &rows)
+}
+
+#[test]
+fn a_table_has_a_line_for_each_row(rt: HostRuntime) {
+    let want = "1 alpha echo correct\n4 delta echo compiler-error\n";
+    check_written(&rt, table_text(rt.alloc()), want);
 }

@@ -1,11 +1,10 @@
-use crate::rows::{bytes_of, parts_of, text_of};
+use crate::readers::{Reader, check_rows};
 use farm_kinds::{Kind, NamedMode, NoMemory, Rule};
 use farm_settings::{
     Setting, Settings, SettingsErr, SettingsFault, read_settings, worked_faults, worked_texts,
     worked_values,
 };
 use std::alloc::{AllocError, Global};
-use std::test::Fail;
 
 #[test]
 fn computes_settings() {
@@ -23,10 +22,21 @@ fn fault_text(alloc: Global, text: &[u8]) -> Result<Vec<u8>, AllocError> {
         Err(SettingsErr::Bad(SettingsFault::UnknownKey { key })) => (b"unknown ".as_slice(), key),
         Err(SettingsErr::Bad(SettingsFault::BadValue { key })) => (b"bad ".as_slice(), key),
     };
-    text_of(alloc, &[(word, 1), (key.as_slice(), 1)])
+    joined(alloc, word, key.as_slice())
 }
 
-/// Texts, as `bytes_of` reads them, and their faults.
+/// The same for the rows.
+pub(crate) fn fault_told(alloc: Global, text: &[u8]) -> Result<Vec<u8>, NoMemory> {
+    Ok(fault_text(alloc, text)?)
+}
+
+fn joined(alloc: Global, word: &[u8], key: &[u8]) -> Result<Vec<u8>, AllocError> {
+    let mut text = word.to_vec(alloc)?;
+    text.extend_from_slice(key)?;
+    Ok(text)
+}
+
+/// Texts and their faults.
 const FAULTS: &str = concat!(
     " => not json\n",
     "  => not json\n",
@@ -85,44 +95,14 @@ const FAULTS: &str = concat!(
     "{\"results_prio\":{\"fine\":1},\"lease\":0} => bad lease\n",
     "{\"results_prio\":{\"z\":1,\"correct\":-1},\"z\":0} => bad correct\n",
     "{\"lease\":0,\"instructions_per_second\":0,\"a\":1} => unknown a\n",
+    "{\"deep\":«[*126»«]*126»} => unknown deep\n",
+    "{\"deep\":«[*127»«]*127»} => not json\n",
 );
 
-/// The fault of the text that a part of a row stands for.
-fn fault_of(alloc: Global, part: &str) -> Result<Vec<u8>, AllocError> {
-    let text = bytes_of(alloc, part)?;
-    fault_text(alloc, text.as_slice())
-}
-
+/// The last two have an array of 127 and of 128 levels, the object counted.
 #[test]
-fn answers_the_first_fault(rt: HostRuntime) -> Result<(), Fail> {
-    for row in FAULTS.lines() {
-        let (text, want) = parts_of(row);
-        let fault = fault_of(rt.alloc(), text)?;
-        assert_eq!(rt; fault.as_slice(), want.as_bytes(), "{text}");
-    }
-    Ok(())
-}
-
-/// An object with an array of so many levels, itself counted.
-fn nested(alloc: Global, levels: usize) -> Result<Vec<u8>, AllocError> {
-    let inner = levels.saturating_sub(1);
-    text_of(
-        alloc,
-        &[(b"{\"deep\":", 1), (b"[", inner), (b"]", inner), (b"}", 1)],
-    )
-}
-
-#[test]
-fn nests_to_127(rt: HostRuntime) -> Result<(), Fail> {
-    for (levels, want) in [(127, "unknown deep"), (128, "not json")] {
-        let text = nested(rt.alloc(), levels)?;
-        assert_eq!(rt;
-            fault_text(rt.alloc(), text.as_slice())?.as_slice(),
-            want.as_bytes(),
-            "{levels}"
-        );
-    }
-    Ok(())
+fn answers_the_first_fault(rt: HostRuntime) {
+    check_rows(&rt, FAULTS, Reader::SettingsFault);
 }
 
 /// The settings of a text that has no fault.
@@ -143,84 +123,94 @@ fn settings_text(alloc: Global, settings: &Settings) -> Result<String, AllocErro
 
 fn push_modes(alloc: Global, text: &mut String, modes: &[NamedMode]) -> Result<(), AllocError> {
     for mode in modes {
-        let name = str::from_utf8(mode.name.as_bytes()).unwrap_or("");
-        let part = format!(in alloc; ", {name} {:?}", mode.mode)?;
-        text.push_str(part.as_str())?;
+        push_mode(alloc, text, mode)?;
     }
     Ok(())
+}
+
+fn push_mode(alloc: Global, text: &mut String, mode: &NamedMode) -> Result<(), AllocError> {
+    let name = str::from_utf8(mode.name.as_bytes()).unwrap_or("");
+    let part = format!(in alloc; ", {name} {:?}", mode.mode)?;
+    text.push_str(part.as_str())
 }
 
 fn push_rule(alloc: Global, text: &mut String, rule: Rule) -> Result<(), AllocError> {
     for kind in Kind::ALL {
-        let part = format!(in alloc; ", {} {}", rule.prio(kind), rule.remap(kind).name())?;
-        text.push_str(part.as_str())?;
+        push_kind(alloc, text, rule, kind)?;
     }
     Ok(())
+}
+
+fn push_kind(alloc: Global, text: &mut String, rule: Rule, kind: Kind) -> Result<(), AllocError> {
+    let part = format!(in alloc; ", {} {}", rule.prio(kind), rule.remap(kind).name())?;
+    text.push_str(part.as_str())
 }
 
 /// What the settings of a text say.
-fn said(alloc: Global, text: &[u8]) -> Result<String, NoMemory> {
+pub(crate) fn settings_told(alloc: Global, text: &[u8]) -> Result<Vec<u8>, NoMemory> {
     let settings = settings(alloc, text)?;
-    Ok(settings_text(alloc, &settings)?)
+    Ok(settings_text(alloc, &settings)?.into_bytes())
 }
 
 /// What a copy of them says.
-fn said_of_copy(alloc: Global, text: &[u8]) -> Result<String, NoMemory> {
-    let copy = settings(alloc, text)?.copy()?;
-    Ok(settings_text(alloc, &copy)?)
+pub(crate) fn copy_told(alloc: Global, text: &[u8]) -> Result<Vec<u8>, NoMemory> {
+    let copy = copy_of(alloc, text)?;
+    Ok(settings_text(alloc, &copy)?.into_bytes())
+}
+
+/// A copy of the settings of a text.
+fn copy_of(alloc: Global, text: &[u8]) -> Result<Settings, NoMemory> {
+    settings(alloc, text)?.copy()
 }
 
 #[test]
-fn says_nothing(rt: HostRuntime) -> Result<(), Fail> {
-    let said = said(rt.alloc(), b"{}")?;
-    assert_eq!(rt;
-        said.as_str(),
-        "Lazy 60 false 10000000, 1 correct, 30 wrong-answer, 99 run-error, 99 timelimit, 10 no-output, 99 output-limit, 99 memory-limit, 99 judging-error"
+fn says_nothing(rt: HostRuntime) {
+    check_rows(
+        &rt,
+        "{} => Lazy 60 false 10000000, 1 correct, 30 wrong-answer, 99 run-error, 99 timelimit, 10 no-output, 99 output-limit, 99 memory-limit, 99 judging-error",
+        Reader::Settings,
     );
-    Ok(())
+}
+
+/// A text that sets all, with what it says.
+const ALL: &str = concat!(
+    "{\"verification_required\": true, \"results_remap\": {\"no-output\": \"wrong-answer\"},~",
+    "        \"results_prio\": {\"timelimit\": 100, \"correct\": 0}, \"lease\": 5,~",
+    "        \"problem_modes\": {\"B\": \"full\", \"A\": \"on-demand\"},~",
+    "        \"lazy_eval_results\": false, \"instructions_per_second\": 2000}",
+    " => Full 5 true 2000, A OnDemand, B Full, 0 correct, 30 wrong-answer, 99 run-error, 100 timelimit, 10 wrong-answer, 99 output-limit, 99 memory-limit, 99 judging-error\n",
+);
+
+#[test]
+fn says_all(rt: HostRuntime) {
+    check_rows(&rt, ALL, Reader::SettingsCopy);
+}
+
+/// Whether the key of a setting stands before the other one's, and is read as this setting.
+fn stands_before(first: Setting, second: Setting) -> bool {
+    let key = first.key();
+    key < second.key() && Setting::read(key.as_bytes()) == Some(first)
 }
 
 #[test]
-fn says_all(rt: HostRuntime) -> Result<(), Fail> {
-    let text =
-        b"{\"verification_required\": true, \"results_remap\": {\"no-output\": \"wrong-answer\"},
-        \"results_prio\": {\"timelimit\": 100, \"correct\": 0}, \"lease\": 5,
-        \"problem_modes\": {\"B\": \"full\", \"A\": \"on-demand\"},
-        \"lazy_eval_results\": false, \"instructions_per_second\": 2000}";
-    let said = said_of_copy(rt.alloc(), text)?;
-    assert_eq!(rt;
-        said.as_str(),
-        "Full 5 true 2000, A OnDemand, B Full, 0 correct, 30 wrong-answer, 99 run-error, 100 timelimit, 10 wrong-answer, 99 output-limit, 99 memory-limit, 99 judging-error"
-    );
-    Ok(())
-}
-
-#[test]
-fn keys_stand_in_their_order(rt: HostRuntime) -> Result<(), Fail> {
+fn keys_stand_in_their_order(rt: HostRuntime) {
     for pair in Setting::ALL.windows(2) {
-        assert!(rt; pair[0].key() < pair[1].key());
-        assert_eq!(rt; Setting::read(pair[0].key().as_bytes()), Some(pair[0]));
+        assert!(rt; stands_before(pair[0], pair[1]), "{}", pair[0].key());
     }
-    Ok(())
 }
 
-/// The lease that a text sets.
-fn lease(alloc: Global, text: &[u8]) -> Result<u64, NoMemory> {
-    let settings = settings(alloc, text)?;
-    Ok(settings.lease())
+/// How long a text is, and the lease that it sets.
+pub(crate) fn lease_told(alloc: Global, text: &[u8]) -> Result<Vec<u8>, NoMemory> {
+    let lease = settings(alloc, text)?.lease();
+    Ok(format!(in alloc; "{} bytes, lease {lease}", text.len())?.into_bytes())
 }
 
 /// A text of 200 KiB: entries of one key, of which the last counts, and white space.
 #[test]
-fn settings_of_200_kib(rt: HostRuntime) -> Result<(), Fail> {
-    let parts: [(&[u8], usize); 4] = [
-        (b"{", 1),
-        (b"\"lease\":5,", 10_000),
-        (b" ", 104_789),
-        (b"\"lease\":7}", 1),
-    ];
-    let text = text_of(rt.alloc(), &parts)?;
-    assert_eq!(rt; text.len(), 200 * 1024);
-    assert_eq!(rt; lease(rt.alloc(), text.as_slice())?, 7);
-    Ok(())
+fn settings_of_200_kib(rt: HostRuntime) {
+    check_rows(
+        &rt,
+        "{«\"lease\":5,*10000»« *104789»\"lease\":7} => 204800 bytes, lease 7",
+        Reader::Lease,
+    );
 }

@@ -11,6 +11,8 @@ pub mod names;
 #[cfg(test)]
 mod problem_settings_tests;
 #[cfg(test)]
+mod readers;
+#[cfg(test)]
 mod rows;
 #[cfg(test)]
 mod wire_json_tests;

@@ -1,12 +1,10 @@
-use crate::rows::{bytes_of, parts_of, text_of};
+use crate::readers::{Reader, check_rows};
 use farm_kinds::{Limits, NoMemory};
 use problem_settings::{
     IniFault, Validation, Yaml, YamlFault, YamlWhy, limits, read_ini, read_yaml, worked_ini,
     worked_settings, worked_yaml_faults,
 };
 use std::alloc::{AllocError, Global};
-use std::process::Abort;
-use std::test::Fail;
 
 #[test]
 fn computes_what_files_say() {
@@ -51,23 +49,26 @@ fn push_between_bars(shown: &mut Vec<u8>, name: &[u8], flags: &[u8]) -> Result<(
     Ok(())
 }
 
-/// What a text says, or the line and the word of its fault.
-fn shown(alloc: Global, text: &[u8]) -> Result<Vec<u8>, AllocError> {
-    if text.len() > 16_777_216 {
-        return b"too long".to_vec(alloc);
-    }
-    match read_yaml(alloc, text) {
-        Ok(yaml) => shown_yaml(alloc, &yaml),
-        Err(YamlFault::NoMemory) => b"no memory".to_vec(alloc),
-        Err(YamlFault::Bad { line, why }) => {
-            let why = word(why);
-            let fault = format!(in alloc; "{line} {why}")?;
-            fault.as_bytes().to_vec(alloc)
-        }
-    }
+/// The line and the word of a fault.
+fn fault_told(alloc: Global, line: u32, why: YamlWhy) -> Result<Vec<u8>, AllocError> {
+    let why = word(why);
+    Ok(format!(in alloc; "{line} {why}")?.into_bytes())
 }
 
-/// Texts of `problem.yaml` and what is shown of them, both as `bytes_of` reads them: lines.
+/// What a text says, or the line and the word of its fault.
+pub(crate) fn yaml_told(alloc: Global, text: &[u8]) -> Result<Vec<u8>, NoMemory> {
+    if text.len() > 16_777_216 {
+        return Ok(b"too long".to_vec(alloc)?);
+    }
+    let told = match read_yaml(alloc, text) {
+        Ok(yaml) => shown_yaml(alloc, &yaml),
+        Err(YamlFault::NoMemory) => b"no memory".to_vec(alloc),
+        Err(YamlFault::Bad { line, why }) => fault_told(alloc, line, why),
+    };
+    Ok(told?)
+}
+
+/// Texts of `problem.yaml` and what is told of them: lines.
 const LINES: &str = concat!(
     " => default 64 8 |||\n",
     "\u{feff}---\r~name: a\r~ => default 64 8 |a||\n",
@@ -207,168 +208,132 @@ const SIZES: &str = concat!(
     "limits: | => 1 form\n",
 );
 
-/// What the text that a part of a row stands for says.
-fn shown_of(alloc: Global, part: &str) -> Result<Vec<u8>, AllocError> {
-    let text = bytes_of(alloc, part)?;
-    shown(alloc, text.as_slice())
-}
-
 #[test]
-fn reads_lines_values_and_sizes(rt: HostRuntime) -> Result<(), Fail> {
-    for rows in [LINES, VALUES, VALIDATIONS, SIZES] {
-        for row in rows.lines() {
-            let (text, want) = parts_of(row);
-            let shown = shown_of(rt.alloc(), text)?;
-            let want = bytes_of(rt.alloc(), want)?;
-            assert_eq!(rt; shown.as_slice(), want.as_slice(), "{row}");
-        }
-    }
-    Ok(())
+fn reads_lines_values_and_sizes(rt: HostRuntime) {
+    check_rows(&rt, LINES, Reader::Yaml);
+    check_rows(&rt, VALUES, Reader::Yaml);
+    check_rows(&rt, VALIDATIONS, Reader::Yaml);
+    check_rows(&rt, SIZES, Reader::Yaml);
 }
 
-const LIMITS: [(&[u8], Result<u32, u32>); 34] = [
-    (b"", Ok(1000)),
-    (b"# no = limit\n\n[a]\nname = b\n", Ok(1000)),
-    (b"timelimit=0.001", Ok(1)),
-    (b"timelimit=1000", Ok(1_000_000)),
-    (b"timelimit=1000.000", Ok(1_000_000)),
-    (b"timelimit=1000.001", Err(1)),
-    (b"timelimit=1001", Err(1)),
-    (b"timelimit=4294968", Err(1)),
-    (b"timelimit=18446744073709551617", Err(1)),
-    (b"timelimit=0", Err(1)),
-    (b"timelimit=0.000", Err(1)),
-    (b"timelimit=0.0001", Err(1)),
-    (b"timelimit=0.1000", Err(1)),
-    (b"timelimit=.5", Err(1)),
-    (b"timelimit=1.", Err(1)),
-    (b"timelimit=", Err(1)),
-    (b"timelimit=-1", Err(1)),
-    (b"timelimit=1e0", Err(1)),
-    (b"timelimit=1.2.3", Err(1)),
-    (b"timelimit=007.5", Ok(7500)),
-    (b"timelimit=0.05", Ok(50)),
-    (b"  timelimit  =  1.5  \r\n", Ok(1500)),
-    (b"\xef\xbb\xbftimelimit = \"1.5\"", Ok(1500)),
-    (b"timelimit = '2'", Ok(2000)),
-    (b"timelimit = '2\"", Err(1)),
-    (b"timelimit = ''2''", Err(1)),
-    (b"timelimit = ' 2'", Err(1)),
-    (b"timelimit = '", Err(1)),
-    (b"timelimit = 2 # a", Err(1)),
-    (b"timelimit=2\ntimelimit=3\n", Ok(3000)),
-    (b"a\ntimelimit=2\ntimelimit=x\ntimelimit=3", Err(3)),
-    (
-        b"timelimit\ntimelimits=x\nTimelimit=x\n#timelimit=x",
-        Ok(1000),
-    ),
-    (b"timelimit=2=3", Err(1)),
-    (b"timelimit=2\r\r", Err(1)),
-];
-
-#[test]
-fn reads_time_limits(rt: HostRuntime) -> Result<(), Fail> {
-    for (i, (text, want)) in LIMITS.iter().enumerate() {
-        let want = want.map_err(|line| IniFault::BadLimit { line });
-        if text.len() <= 16_777_216 {
-            assert_eq!(rt; read_ini(text), want, "text {i}");
-        }
-    }
-    Ok(())
-}
-
-#[test]
-fn gives_limits(rt: HostRuntime) -> Result<(), Fail> {
-    let yaml = read_yaml(rt.alloc(), b"limits: {memory: 300, output: 100}").map_err(|_| NoMemory)?;
-    for (ms, ips, instructions) in [
-        (1, 1000, 1),
-        (1, 999, 0),
-        (1500, 10_000_000, 15_000_000),
-        (1_000_000, 100_000_000, 100_000_000_000),
-        (u32::MAX, u32::MAX, 18_446_744_065_119_617),
-    ] {
-        let want = Limits {
-            instructions,
-            pages: 65_536,
-            output: 67_108_864,
-        };
-        assert_eq!(rt; limits(&yaml, ms, ips), want);
-    }
-    Ok(())
-}
-
-#[test]
-fn keeps_the_name_and_the_flags(rt: HostRuntime) -> Result<(), Fail> {
-    let text = b"name: 'a''b'\nvalidator_flags: \"c\\\"d\"";
-    let yaml = read_yaml(rt.alloc(), text).map_err(|fault| {
-        if fault == YamlFault::NoMemory {
-            "no memory"
-        } else {
-            "a fault"
-        }
-    });
-    match yaml {
-        Err(why) => panic!(rt; "{why}"),
-        Ok(yaml) => {
-            assert!(rt; yaml.name.as_slice() == b"a'b".as_slice());
-            assert!(rt; yaml.flags.as_slice() == b"c\"d".as_slice());
-        }
-    }
-    Ok(())
-}
-
-/// How often a text is repeated, the text, as `bytes_of` reads it, and what is shown of the whole.
-const LARGE: &str = concat!(
-    "16777216 - => 1 no-colon\n",
-    "100000   => default 64 8 |||\n",
-    "100000 \t => 1 tab\n",
-    "100000 : => default 64 8 |||\n",
-    "100000 ~ => default 64 8 |||\n",
-    "100000 - a~ => 1 no-colon\n",
-    "1000000 a: b~ => default 64 8 |||\n",
-    "100000  a: b~ => 1 indent\n",
-    "100000 a:~ - b~- c~ => default 64 8 |||\n",
-    "100000 name: 'a~ => 1 open\n",
-    "100000 name: a~ => 2 repeated\n",
-    "100000 limits:~ a: b~  c~ => 4 repeated\n",
-    "100000 limits: {a: b,  => 1 form\n",
-    "100000 validation: \"custom\\n => 1 form\n",
+/// Texts of `domjudge-problem.ini`, and the milliseconds that they set or the line of the fault.
+const LIMITS: &str = concat!(
+    " => 1000\n",
+    "# no = limit~~[a]~name = b~ => 1000\n",
+    "timelimit=0.001 => 1\n",
+    "timelimit=1000 => 1000000\n",
+    "timelimit=1000.000 => 1000000\n",
+    "timelimit=1000.001 => line 1\n",
+    "timelimit=1001 => line 1\n",
+    "timelimit=4294968 => line 1\n",
+    "timelimit=18446744073709551617 => line 1\n",
+    "timelimit=0 => line 1\n",
+    "timelimit=0.000 => line 1\n",
+    "timelimit=0.0001 => line 1\n",
+    "timelimit=0.1000 => line 1\n",
+    "timelimit=.5 => line 1\n",
+    "timelimit=1. => line 1\n",
+    "timelimit= => line 1\n",
+    "timelimit=-1 => line 1\n",
+    "timelimit=1e0 => line 1\n",
+    "timelimit=1.2.3 => line 1\n",
+    "timelimit=007.5 => 7500\n",
+    "timelimit=0.05 => 50\n",
+    "  timelimit  =  1.5  \r~ => 1500\n",
+    "\u{feff}timelimit = \"1.5\" => 1500\n",
+    "timelimit = '2' => 2000\n",
+    "timelimit = '2\" => line 1\n",
+    "timelimit = ''2'' => line 1\n",
+    "timelimit = ' 2' => line 1\n",
+    "timelimit = ' => line 1\n",
+    "timelimit = 2 # a => line 1\n",
+    "timelimit=2~timelimit=3~ => 3000\n",
+    "a~timelimit=2~timelimit=x~timelimit=3 => line 3\n",
+    "timelimit~timelimits=x~Timelimit=x~#timelimit=x => 1000\n",
+    "timelimit=2=3 => line 1\n",
+    "timelimit=2\r\r => line 1\n",
 );
 
-/// So many copies of the text that a part of a row stands for.
-fn copies_of(alloc: Global, times: usize, part: &str) -> Result<Vec<u8>, AllocError> {
-    let text = bytes_of(alloc, part)?;
-    text_of(alloc, &[(text.as_slice(), times)])
-}
-
-/// What the copies of a row say.
-fn shown_of_copies(alloc: Global, copies: &str) -> Result<Vec<u8>, AllocError> {
-    let (times, text) = copies.split_once(' ').unwrap_or((copies, ""));
-    let whole = copies_of(alloc, times.parse::<usize>().unwrap_or(0), text)?;
-    shown(alloc, whole.as_slice())
-}
-
-/// What a text says that has a name of so many times 8 bytes.
-fn shown_of_name(alloc: Global, times: usize) -> Result<Vec<u8>, AllocError> {
-    let text = text_of(alloc, &[(b"name: ", 1), (b"abcdefgh", times)])?;
-    shown(alloc, text.as_slice())
+/// The milliseconds that a text sets, or the line of its fault.
+pub(crate) fn ini_told(alloc: Global, text: &[u8]) -> Result<Vec<u8>, NoMemory> {
+    if text.len() > 16_777_216 {
+        return Ok(b"too long".to_vec(alloc)?);
+    }
+    let (word, number) = match read_ini(text) {
+        Ok(ms) => ("", ms),
+        Err(IniFault::BadLimit { line }) => ("line ", line),
+    };
+    Ok(format!(in alloc; "{word}{number}")?.into_bytes())
 }
 
 #[test]
-fn reads_or_refuses_large_texts(rt: HostRuntime) -> Result<(), Fail> {
-    for row in LARGE.lines() {
-        let (copies, want) = parts_of(row);
-        let shown = shown_of_copies(rt.alloc(), copies)?;
-        assert_eq!(rt; shown.as_slice(), want.as_bytes(), "{row}");
-    }
-    keeps_a_long_name(&rt, 1_000_000)
+fn reads_time_limits(rt: HostRuntime) {
+    check_rows(&rt, LIMITS, Reader::Ini);
 }
 
-/// Checks that such a name is read as it stands.
-fn keeps_a_long_name<R: Abort + AllocGlobal>(rt: &R, times: usize) -> Result<(), Fail> {
-    let shown = shown_of_name(rt.alloc(), times)?;
-    let parts: [(&[u8], usize); 3] = [(b"default 64 8 |", 1), (b"abcdefgh", times), (b"||", 1)];
-    let want = text_of(rt.alloc(), &parts)?;
-    assert!(rt; shown.as_slice() == want.as_slice());
-    Ok(())
+/// Milliseconds and the instructions of a second, and the instructions, pages and bytes of output of a run.
+const RUNS: &str = concat!(
+    "1 1000 => 1 65536 67108864\n",
+    "1 999 => 0 65536 67108864\n",
+    "1500 10000000 => 15000000 65536 67108864\n",
+    "1000000 100000000 => 100000000000 65536 67108864\n",
+    "4294967295 4294967295 => 18446744065119617 65536 67108864\n",
+);
+
+/// The limits where a file limits memory and output to more than there may be.
+fn limits_of(alloc: Global, ms: u32, ips: u32) -> Result<Limits, NoMemory> {
+    match read_yaml(alloc, b"limits: {memory: 300, output: 100}") {
+        Ok(yaml) => Ok(limits(&yaml, ms, ips)),
+        Err(_) => Err(NoMemory),
+    }
+}
+
+/// The limits of a run, of so many milliseconds and with so many instructions of a second.
+pub(crate) fn limits_told(alloc: Global, numbers: &str) -> Result<Vec<u8>, NoMemory> {
+    let (ms, ips) = numbers.split_once(' ').unwrap_or((numbers, ""));
+    let (ms, ips) = (
+        ms.parse::<u32>().unwrap_or(0),
+        ips.parse::<u32>().unwrap_or(0),
+    );
+    let limits = limits_of(alloc, ms, ips)?;
+    let (instructions, pages, output) = (limits.instructions, limits.pages, limits.output);
+    Ok(format!(in alloc; "{instructions} {pages} {output}")?.into_bytes())
+}
+
+#[test]
+fn gives_limits(rt: HostRuntime) {
+    check_rows(&rt, RUNS, Reader::Limits);
+}
+
+#[test]
+fn keeps_the_name_and_the_flags(rt: HostRuntime) {
+    check_rows(
+        &rt,
+        "name: 'a''b'~validator_flags: \"c\\\"d\" => default 64 8 |a'b|c\"d|",
+        Reader::Yaml,
+    );
+}
+
+/// Large texts of `problem.yaml`, and what is told of them.
+const LARGE: &str = concat!(
+    "«-*16777216» => 1 no-colon\n",
+    "« *100000» => default 64 8 |||\n",
+    "«\t*100000» => 1 tab\n",
+    "«:*100000» => default 64 8 |||\n",
+    "«~*100000» => default 64 8 |||\n",
+    "«- a~*100000» => 1 no-colon\n",
+    "«a: b~*1000000» => default 64 8 |||\n",
+    "« a: b~*100000» => 1 indent\n",
+    "«a:~ - b~- c~*100000» => default 64 8 |||\n",
+    "«name: 'a~*100000» => 1 open\n",
+    "«name: a~*100000» => 2 repeated\n",
+    "«limits:~ a: b~  c~*100000» => 4 repeated\n",
+    "«limits: {a: b, *100000» => 1 form\n",
+    "«validation: \"custom\\n*100000» => 1 form\n",
+    "name: «abcdefgh*1000000» => default 64 8 |«abcdefgh*1000000»||\n",
+);
+
+#[test]
+fn reads_or_refuses_large_texts(rt: HostRuntime) {
+    check_rows(&rt, LARGE, Reader::Yaml);
 }

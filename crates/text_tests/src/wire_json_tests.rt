@@ -1,12 +1,12 @@
 use crate::names::name;
-use crate::rows::{bytes_of, parts_of, text_of};
+use crate::readers::{Reader, check_rows};
+use crate::rows::{bytes_of, check_written};
 use farm_kinds::{
     Answer, Answers, Few, How, Kind, MatrixRow, MatrixRows, Name, NoMemory, Reply, Task, Text,
     Verdict,
 };
 use std::alloc::{AllocError, Global};
 use std::process::Abort;
-use std::test::Fail;
 use wire_json::{
     Body, BodyFault, Route, fault_json, read_body, worked_bodies, worked_faults, worked_replies,
     worked_rows, write_json,
@@ -20,18 +20,43 @@ fn computes_rows() {
     worked_rows();
 }
 
-/// A name as text, which it always is.
-fn name_text(name: &Name) -> &str {
-    str::from_utf8(name.as_bytes()).unwrap_or("")
+/// Appends a blank and a word.
+fn push_word(text: &mut Vec<u8>, word: &[u8]) -> Result<(), AllocError> {
+    text.extend_from_slice(b" ")?;
+    text.extend_from_slice(word)
 }
 
-/// A word and what a body says, in text.
-fn body_text(alloc: Global, body: &Body) -> Result<String, AllocError> {
+/// Appends the name of a host, and a task.
+fn push_task(
+    alloc: Global,
+    text: &mut Vec<u8>,
+    hostname: &Name,
+    judging: u32,
+    test: u32,
+) -> Result<(), AllocError> {
+    push_word(text, hostname.as_bytes())?;
+    push_word(text, judging.to_string(alloc)?.as_bytes())?;
+    push_word(text, test.to_string(alloc)?.as_bytes())
+}
+
+/// Appends how many tasks a host asks for.
+fn push_max(alloc: Global, text: &mut Vec<u8>, max: Option<u8>) -> Result<(), AllocError> {
+    push_word(text, format!(in alloc; "{max:?}")?.as_bytes())
+}
+
+/// Appends the numbers of submissions.
+fn push_list(alloc: Global, text: &mut Vec<u8>, list: &[u32]) -> Result<(), AllocError> {
+    push_word(text, format!(in alloc; "{list:?}")?.as_bytes())
+}
+
+/// Appends what stands in a body.
+fn push_fields(alloc: Global, text: &mut Vec<u8>, body: &Body) -> Result<(), AllocError> {
     match body {
-        Body::Empty => String::from_str(alloc, "empty"),
-        Body::Host { hostname } => format!(in alloc; "host {}", name_text(hostname)),
+        Body::Empty => Ok(()),
+        Body::Host { hostname } => push_word(text, hostname.as_bytes()),
         Body::Fetch { hostname, max } => {
-            format!(in alloc; "fetch {} {max:?}", name_text(hostname))
+            push_word(text, hostname.as_bytes())?;
+            push_max(alloc, text, *max)
         }
         Body::Run {
             hostname,
@@ -39,150 +64,130 @@ fn body_text(alloc: Global, body: &Body) -> Result<String, AllocError> {
             test,
             kind,
         } => {
-            format!(in alloc;
-                "run {} {judging} {test} {}",
-                name_text(hostname),
-                kind.name()
-            )
+            push_task(alloc, text, hostname, *judging, *test)?;
+            push_word(text, kind.name().as_bytes())
         }
         Body::Held {
             hostname,
             judging,
             test,
-        } => format!(in alloc; "held {} {judging} {test}", name_text(hostname)),
-        Body::Actor { who } => format!(in alloc; "actor {}", name_text(who)),
+        } => push_task(alloc, text, hostname, *judging, *test),
+        Body::Actor { who } => push_word(text, who.as_bytes()),
         Body::Rejudge { submissions, who } => {
-            format!(in alloc; "rejudge {:?} {}", submissions.as_slice(), name_text(who))
+            push_list(alloc, text, submissions.as_slice())?;
+            push_word(text, who.as_bytes())
         }
     }
 }
 
+/// The word of a body.
+fn word_of(body: &Body) -> &'static [u8] {
+    match body {
+        Body::Empty => b"empty",
+        Body::Host { .. } => b"host",
+        Body::Fetch { .. } => b"fetch",
+        Body::Run { .. } => b"run",
+        Body::Held { .. } => b"held",
+        Body::Actor { .. } => b"actor",
+        Body::Rejudge { .. } => b"rejudge",
+    }
+}
+
+/// A word and what a body says, in text.
+fn body_text(alloc: Global, body: &Body) -> Result<Vec<u8>, AllocError> {
+    let mut text = word_of(body).to_vec(alloc)?;
+    push_fields(alloc, &mut text, body)?;
+    Ok(text)
+}
+
 /// What a body says, in text, or what it is answered.
-fn said(alloc: Global, route: Route, bytes: &[u8]) -> Result<Vec<u8>, Fail> {
+fn said(alloc: Global, route: Route, bytes: &[u8]) -> Result<Vec<u8>, NoMemory> {
     match read_body(alloc, route, bytes) {
-        Ok(body) => Ok(body_text(alloc, &body)?.into_bytes()),
-        Err(BodyFault::NoMemory) => Err(Fail::from(NoMemory)),
+        Ok(body) => Ok(body_text(alloc, &body)?),
+        Err(BodyFault::NoMemory) => Err(NoMemory),
         Err(fault) => Ok(fault_json(alloc, &fault)?.into_vec()),
     }
 }
 
-/// For each route, bodies as `bytes_of` reads them, and what they say or are answered.
-const BODIES: [(Route, &str); 15] = [
-    (
-        Route::Hosts,
-        concat!(
-            "{\"hostname\":\"h1\"} => host h1\n",
-            "  => {\"reply\":\"bad-body\",\"why\":\"not-json\"}\n",
-            "[\"hostname\"] => {\"reply\":\"bad-body\",\"why\":\"not-json\"}\n",
-            "{\"hostname\":\"h1\" => {\"reply\":\"bad-body\",\"why\":\"not-json\"}\n",
-            "{\"hostname\":\"h1\"}{} => {\"reply\":\"bad-body\",\"why\":\"not-json\"}\n",
-            "{\"hostname\":\"h1\",\"x\":\"^\"} => {\"reply\":\"bad-body\",\"why\":\"not-json\"}\n",
-            "{\"hostname\":\"h1\",\"x\":1e999} => {\"reply\":\"bad-body\",\"why\":\"not-json\"}\n",
-            " => {\"reply\":\"bad-body\",\"why\":\"missing hostname\"}\n",
-            "{\"hostname\":null} => {\"reply\":\"bad-body\",\"why\":\"bad hostname\"}\n",
-            "{\"hostname\":\"h.1\"} => {\"reply\":\"bad-body\",\"why\":\"bad hostname\"}\n",
-        ),
-    ),
-    (Route::Down, " {\"x\":[{}],\"hostname\":\"h1\"}~ => host h1"),
-    (
-        Route::FetchWork,
-        concat!(
-            "{\"hostname\":\"h1\"} => fetch h1 None\n",
-            "{\"hostname\":\"h1\",\"max\":16} => fetch h1 Some(16)\n",
-            "{\"max\":0} => {\"reply\":\"bad-body\",\"why\":\"missing hostname\"}\n",
-            "{\"hostname\":\"h1\",\"max\":0} => {\"reply\":\"bad-body\",\"why\":\"bad max\"}\n",
-            "{\"hostname\":\"h1\",\"max\":17} => {\"reply\":\"bad-body\",\"why\":\"bad max\"}\n",
-            "{\"hostname\":\"h1\",\"max\":null} => {\"reply\":\"bad-body\",\"why\":\"bad max\"}\n",
-        ),
-    ),
-    (
-        Route::AddRun,
-        concat!(
-            "{\"hostname\":\"h1\",\"judging\":1,\"test\":1,\"result\":\"correct\"} => run h1 1 1 correct\n",
-            "{\"hostname\":\"h1\",\"judging\":1,\"test\":1,\"result\":\"Correct\"} => {\"reply\":\"bad-body\",\"why\":\"bad result\"}\n",
-        ),
-    ),
-    (
-        Route::Renew,
-        concat!(
-            "{\"hostname\":\"h1\",\"judging\":4294967295,\"test\":0} => held h1 4294967295 0\n",
-            "{\"hostname\":\"h1\",\"judging\":60.0} => {\"reply\":\"bad-body\",\"why\":\"bad judging\"}\n",
-            "{\"hostname\":\"h1\",\"judging\":6e1} => {\"reply\":\"bad-body\",\"why\":\"bad judging\"}\n",
-            "{\"hostname\":\"h1\",\"judging\":4294967296} => {\"reply\":\"bad-body\",\"why\":\"bad judging\"}\n",
-            "{\"hostname\":\"h1\",\"judging\":1,\"Test\":1} => {\"reply\":\"bad-body\",\"why\":\"missing test\"}\n",
-        ),
-    ),
-    (
-        Route::Verify(1),
-        concat!(
-            " => actor jury\n",
-            "{\"who\":null} => {\"reply\":\"bad-body\",\"why\":\"bad who\"}\n",
-        ),
-    ),
-    (Route::Ask(1), "{} => actor jury"),
-    (Route::Apply(1), "{\"who\":\"eve\"} => actor eve"),
-    (Route::Cancel(1), "{\"who\":\"a\",\"who\":\"b\"} => actor b"),
-    (
-        Route::Rejudgings,
-        concat!(
-            "{\"submissions\":[]} => rejudge [] jury\n",
-            "{\"submissions\":[2,1],\"who\":\"eve\"} => rejudge [2, 1] eve\n",
-            "{\"who\":null,\"submissions\":[1,\"2\"]} => {\"reply\":\"bad-body\",\"why\":\"bad submissions\"}\n",
-            "{\"submissions\":1} => {\"reply\":\"bad-body\",\"why\":\"bad submissions\"}\n",
-        ),
-    ),
-    (Route::Judgement(1), "{ => empty"),
-    (Route::Submission(1), "^ => empty"),
-    (Route::Board, " => empty"),
-    (Route::Audit, "[] => empty"),
-    (Route::Rejudging(1), "{} => empty"),
-];
-
-/// What the body that a part of a row stands for says, in text, or what it is answered.
-fn said_of(alloc: Global, route: Route, part: &str) -> Result<Vec<u8>, Fail> {
-    let bytes = bytes_of(alloc, part)?;
-    said(alloc, route, bytes.as_slice())
+/// The route of a word.
+fn route_of(word: &str) -> Option<Route> {
+    Some(match word {
+        "hosts" => Route::Hosts,
+        "down" => Route::Down,
+        "fetch-work" => Route::FetchWork,
+        "add-run" => Route::AddRun,
+        "renew" => Route::Renew,
+        "verify" => Route::Verify(1),
+        "ask" => Route::Ask(1),
+        "apply" => Route::Apply(1),
+        "cancel" => Route::Cancel(1),
+        "rejudgings" => Route::Rejudgings,
+        "judgement" => Route::Judgement(1),
+        "submission" => Route::Submission(1),
+        "board" => Route::Board,
+        "audit" => Route::Audit,
+        "rejudging" => Route::Rejudging(1),
+        _ => return None,
+    })
 }
+
+/// What the body behind the word of a route and a bar says, in text, or what it is answered.
+pub(crate) fn body_told(alloc: Global, part: &str) -> Result<Vec<u8>, NoMemory> {
+    let (word, body) = part.split_once('|').unwrap_or((part, ""));
+    let Some(route) = route_of(word) else {
+        return Ok(b"no route".to_vec(alloc)?);
+    };
+    said(alloc, route, bytes_of(alloc, body)?.as_slice())
+}
+
+/// Bodies, each behind the word of its route and a bar, and what they say or are answered. In the last two an array
+/// stands beside the name, of 127 and of 128 levels, the object counted.
+const BODIES: &str = concat!(
+    "hosts|{\"hostname\":\"h1\"} => host h1\n",
+    "hosts|  => {\"reply\":\"bad-body\",\"why\":\"not-json\"}\n",
+    "hosts|[\"hostname\"] => {\"reply\":\"bad-body\",\"why\":\"not-json\"}\n",
+    "hosts|{\"hostname\":\"h1\" => {\"reply\":\"bad-body\",\"why\":\"not-json\"}\n",
+    "hosts|{\"hostname\":\"h1\"}{} => {\"reply\":\"bad-body\",\"why\":\"not-json\"}\n",
+    "hosts|{\"hostname\":\"h1\",\"x\":\"^\"} => {\"reply\":\"bad-body\",\"why\":\"not-json\"}\n",
+    "hosts|{\"hostname\":\"h1\",\"x\":1e999} => {\"reply\":\"bad-body\",\"why\":\"not-json\"}\n",
+    "hosts| => {\"reply\":\"bad-body\",\"why\":\"missing hostname\"}\n",
+    "hosts|{\"hostname\":null} => {\"reply\":\"bad-body\",\"why\":\"bad hostname\"}\n",
+    "hosts|{\"hostname\":\"h.1\"} => {\"reply\":\"bad-body\",\"why\":\"bad hostname\"}\n",
+    "down| {\"x\":[{}],\"hostname\":\"h1\"}~ => host h1\n",
+    "fetch-work|{\"hostname\":\"h1\"} => fetch h1 None\n",
+    "fetch-work|{\"hostname\":\"h1\",\"max\":16} => fetch h1 Some(16)\n",
+    "fetch-work|{\"max\":0} => {\"reply\":\"bad-body\",\"why\":\"missing hostname\"}\n",
+    "fetch-work|{\"hostname\":\"h1\",\"max\":0} => {\"reply\":\"bad-body\",\"why\":\"bad max\"}\n",
+    "fetch-work|{\"hostname\":\"h1\",\"max\":17} => {\"reply\":\"bad-body\",\"why\":\"bad max\"}\n",
+    "fetch-work|{\"hostname\":\"h1\",\"max\":null} => {\"reply\":\"bad-body\",\"why\":\"bad max\"}\n",
+    "add-run|{\"hostname\":\"h1\",\"judging\":1,\"test\":1,\"result\":\"correct\"} => run h1 1 1 correct\n",
+    "add-run|{\"hostname\":\"h1\",\"judging\":1,\"test\":1,\"result\":\"Correct\"} => {\"reply\":\"bad-body\",\"why\":\"bad result\"}\n",
+    "renew|{\"hostname\":\"h1\",\"judging\":4294967295,\"test\":0} => held h1 4294967295 0\n",
+    "renew|{\"hostname\":\"h1\",\"judging\":60.0} => {\"reply\":\"bad-body\",\"why\":\"bad judging\"}\n",
+    "renew|{\"hostname\":\"h1\",\"judging\":6e1} => {\"reply\":\"bad-body\",\"why\":\"bad judging\"}\n",
+    "renew|{\"hostname\":\"h1\",\"judging\":4294967296} => {\"reply\":\"bad-body\",\"why\":\"bad judging\"}\n",
+    "renew|{\"hostname\":\"h1\",\"judging\":1,\"Test\":1} => {\"reply\":\"bad-body\",\"why\":\"missing test\"}\n",
+    "verify| => actor jury\n",
+    "verify|{\"who\":null} => {\"reply\":\"bad-body\",\"why\":\"bad who\"}\n",
+    "ask|{} => actor jury\n",
+    "apply|{\"who\":\"eve\"} => actor eve\n",
+    "cancel|{\"who\":\"a\",\"who\":\"b\"} => actor b\n",
+    "rejudgings|{\"submissions\":[]} => rejudge [] jury\n",
+    "rejudgings|{\"submissions\":[2,1],\"who\":\"eve\"} => rejudge [2, 1] eve\n",
+    "rejudgings|{\"who\":null,\"submissions\":[1,\"2\"]} => {\"reply\":\"bad-body\",\"why\":\"bad submissions\"}\n",
+    "rejudgings|{\"submissions\":1} => {\"reply\":\"bad-body\",\"why\":\"bad submissions\"}\n",
+    "judgement|{ => empty\n",
+    "submission|^ => empty\n",
+    "board| => empty\n",
+    "audit|[] => empty\n",
+    "rejudging|{} => empty\n",
+    "hosts|{\"hostname\":\"h1\",\"deep\":«[*126»«]*126»} => host h1\n",
+    "hosts|{\"hostname\":\"h1\",\"deep\":«[*127»«]*127»} => {\"reply\":\"bad-body\",\"why\":\"not-json\"}\n",
+);
 
 #[test]
-fn reads_bodies(rt: HostRuntime) -> Result<(), Fail> {
-    for (route, rows) in BODIES.iter() {
-        for row in rows.lines() {
-            let (body, want) = parts_of(row);
-            let said = said_of(rt.alloc(), *route, body)?;
-            assert_eq!(rt; said.as_slice(), want.as_bytes(), "{route:?} {body}");
-        }
-    }
-    Ok(())
-}
-
-/// An object in which an array of so many levels, the object counted, stands beside the name.
-fn nested(alloc: Global, levels: usize) -> Result<Vec<u8>, AllocError> {
-    let inner = levels.saturating_sub(1);
-    text_of(
-        alloc,
-        &[
-            (b"{\"hostname\":\"h1\",\"deep\":", 1),
-            (b"[", inner),
-            (b"]", inner),
-            (b"}", 1),
-        ],
-    )
-}
-
-#[test]
-fn nests_to_127(rt: HostRuntime) -> Result<(), Fail> {
-    for (levels, want) in [
-        (127, "host h1"),
-        (128, "{\"reply\":\"bad-body\",\"why\":\"not-json\"}"),
-    ] {
-        let text = nested(rt.alloc(), levels)?;
-        assert_eq!(rt;
-            said(rt.alloc(), Route::Hosts, text.as_slice())?.as_slice(),
-            want.as_bytes()
-        );
-    }
-    Ok(())
+fn reads_bodies(rt: HostRuntime) {
+    check_rows(&rt, BODIES, Reader::Body);
 }
 
 /// The text of a reply.
@@ -195,35 +200,32 @@ fn json(alloc: Global, reply: Reply) -> Result<Text, NoMemory> {
 
 /// Checks that this text is written for a reply.
 fn check_reply<R: Abort + AllocGlobal>(rt: &R, reply: Reply, want: &str) {
-    match json(rt.alloc(), reply) {
-        Ok(text) => assert_eq!(rt; text.as_slice(), want.as_bytes(), "{want}"),
-        Err(NoMemory) => panic!(rt; "no memory for {want}"),
-    }
+    check_written(rt, json(rt.alloc(), reply), want);
 }
 
 const RIGHT: Answer = Answer::Final(Verdict::Tests(Kind::Correct));
 
-/// A board of two submissions.
-fn board(alloc: Global) -> Result<Reply, NoMemory> {
+/// The text of a board of two submissions.
+fn board_json(alloc: Global) -> Result<Text, NoMemory> {
     let mut rows = Answers::new(alloc);
     rows.push(RIGHT)?;
     rows.push(Answer::Pending)?;
-    Ok(Reply::Board { rows })
+    json(alloc, Reply::Board { rows })
 }
 
-/// What a rejudging of two submissions has changed.
-fn matrix(alloc: Global) -> Result<Reply, NoMemory> {
+/// The text of what a rejudging of two submissions has changed.
+fn matrix_json(alloc: Global) -> Result<Text, NoMemory> {
     let mut rows = MatrixRows::new(alloc);
     rows.push(MatrixRow {
         old: Answer::Final(Verdict::Tests(Kind::WrongAnswer)),
         new: RIGHT,
         count: 2,
     })?;
-    Ok(Reply::Matrix { rows, members: 2 })
+    json(alloc, Reply::Matrix { rows, members: 2 })
 }
 
 #[test]
-fn writes_replies(rt: HostRuntime) -> Result<(), Fail> {
+fn writes_replies(rt: HostRuntime) {
     check_reply(
         &rt,
         Reply::Host { name: name(b"h1") },
@@ -291,15 +293,14 @@ fn writes_replies(rt: HostRuntime) -> Result<(), Fail> {
         },
         "{\"count\":1,\"head\":\"0a0a0a0a0a0a0a0a0a0a0a0a0a0a0a0a0a0a0a0a0a0a0a0a0a0a0a0a0a0a0a0a\",\"reply\":\"audit\"}",
     );
-    check_reply(
+    check_written(
         &rt,
-        board(rt.alloc())?,
+        board_json(rt.alloc()),
         "{\"reply\":\"board\",\"rows\":[{\"submission\":1,\"verdict\":\"correct\"},{\"submission\":2,\"verdict\":\"pending\"}]}",
     );
-    check_reply(
+    check_written(
         &rt,
-        matrix(rt.alloc())?,
+        matrix_json(rt.alloc()),
         "{\"members\":2,\"reply\":\"matrix\",\"rows\":[{\"count\":2,\"new\":\"correct\",\"old\":\"wrong-answer\"}]}",
     );
-    Ok(())
 }
