@@ -46,7 +46,7 @@ impl Contents {
         requires { 1 ≤ seats }
         ensures { IfOk result (λ contents. contents ≡ opening_board farm seats journal) }
     {
-        let farm = Box::new(alloc, farm).map_err(|_| NoMemory)?;
+        let farm = boxed(alloc, farm)?;
         let mut out = Vec::with_capacity(alloc, usize::from(seats))?;
         out.push_reserved(0);
         let journal = if journal {
@@ -95,6 +95,16 @@ impl Contents {
     {
         let Contents { farm, journal, .. } = self;
         (Box::into_inner(farm), journal)
+    }
+}
+
+/// The value on the heap.
+fn boxed<T: Drop>(alloc: Global, value: T) -> Result<Box<T>, NoMemory>
+    ensures { IfOk result (λ b. b.value ≡ value) }
+{
+    match Box::new(alloc, value) {
+        Ok(b) => Ok(b),
+        Err(_) => Err(NoMemory),
     }
 }
 
