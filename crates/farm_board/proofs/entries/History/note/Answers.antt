@@ -1,4 +1,4 @@
-use Rattle.std.proofs.Common.{◌≡◌, ◌≢◌, ◌∙◌, ℕ, List, [], ◌∷◌, ◌++◌, true, false, refl, sym, subst, IsTrue}
+use Rattle.std.proofs.Common.{rules, ◌≡◌, ◌≢◌, ◌∙◌, ℕ, List, [], ◌∷◌, ◌++◌, true, false, refl, sym, subst, IsTrue}
 use Rattle.farm_kinds.specs.declared.events.Event.{Event}
 use Rattle.farm_model.specs.State.{State}
 use Rattle.farm_model.specs.Farm.{Stepped}
@@ -43,6 +43,9 @@ pushed_is old had kept new number event event' reply reply' pushed same view sam
 
 no_such : ¬ (true ≡ false)
 no_such e = cc
+
+pub push_reserved-requires : goal.push_reserved-requires
+push_reserved-requires c = search rules
 
 pub returns-in_default-copy_reply : goal.returns-in_default-copy_reply
 returns-in_default-copy_reply c =

@@ -1,3 +1,4 @@
+use Rattle.std.proofs.Common.{rules}
 use Rattle.farm_kinds.specs.declared.events.Event.TheVariants as event
 use Rattle.farm_board.specs.Passes.{call_of}
 use Rattle.farm_board.specs.Trusts.{is_value_of}
@@ -20,3 +21,6 @@ invariant_of-self-in_default-clause-own g c =
     own_more (λ task kind. is_value_of (g.C.Cases.case_at self.board.now.trust.cases task) kind) self.host self.pass c.step-reply.new.pass
     (entry.Call (call_of number (event.Claim self.host) c.step-reply.result)) c.step-reply.ensures.call.grows.mine self.own
     (claim_is_own (λ task kind. is_value_of (g.C.Cases.case_at self.board.now.trust.cases task) kind) self.host number c.step-reply.result)
+
+pub returns-clause-turn : goal.returns-clause-turn
+returns-clause-turn g c = search rules
