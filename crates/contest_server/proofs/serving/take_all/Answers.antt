@@ -1,3 +1,4 @@
+use Rattle.std.proofs.lemmas.Grind.{common_steps}
 use Rattle.std.proofs.Common.{[], refl, sym, subst, arith, append-nil}
 use Rattle.contest_server.specs.Visits.{watch}
 use Rattle.contest_server.specs.Lanes.{starts_of}
@@ -16,3 +17,6 @@ loop-init g c =
       lanes = c.requires.lanes;
       later = omega arith;
     }
+
+pub loop-preserved : goal.loop-preserved
+loop-preserved g c = grind (arith, common_steps)
