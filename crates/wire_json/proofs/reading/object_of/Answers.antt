@@ -1,8 +1,11 @@
-use Rattle.std.proofs.Common.{◌∙◌, sym}
+use Rattle.std.proofs.Common.{rules, ◌∙◌, sym}
 use Rattle.std.proofs.lemmas.Bool.{false≢true}
 use Rattle.serde_json.specs.View.{view}
 use Rattle.wire_json.proofs.Texts.{object_read, text_refused}
 use Rattle.wire_json.proofs.reading.object_of.Goals as goal
+
+pub returns-then-is_empty-clause-not_json : goal.returns-then-is_empty-clause-not_json
+returns-then-is_empty-clause-not_json c = search rules
 
 pub returns-then-is_object-clause-ok : goal.returns-then-is_object-clause-ok
 returns-then-is_object-clause-ok c =
