@@ -56,7 +56,7 @@ where
     let Ok((board, pass)) = open_board::<R, Brand>(rt, alloc, roster, lanes) else {
         return ServeEnd::NoMemory;
     };
-    serve_board(
+    let end = serve_board(
         rt,
         alloc,
         &paths,
@@ -67,7 +67,9 @@ where
         pass,
         lanes,
         connections,
-    )
+    );
+    drop(board);
+    end
 }
 
 /// A board with a seat for each lane, and its opening pass, by which the contest has entered.
