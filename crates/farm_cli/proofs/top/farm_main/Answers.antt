@@ -1,4 +1,4 @@
-use Rattle.std.proofs.Common.{◌≡◌, Some, map, ap, refl, sym, ◌∙◌, string_bytes}
+use Rattle.std.proofs.Common.{rules, ◌≡◌, Some, map, ap, refl, sym, ◌∙◌, string_bytes}
 use Rattle.std.specs.Option.{option_map}
 use Rattle.command_line.specs.CommandLine.{command_value, size_value}
 use Rattle.contest_server.specs.Visits.{watch}
@@ -43,3 +43,12 @@ pub returns-in-Serve-clause-complete : goal.returns-in-Serve-clause-complete
 returns-in-Serve-clause-complete g c =
     serve_complete (g.T.Tree.files c.args.tree.now) c.in-Serve.folder.now c.in-Serve.port c.in-Serve.lanes.count c.in-Serve.connections.count _ (g.S.Source.left c.args.input.now) _ _ _ _ c.serve.result
     (sym (ap (λ o. option_map command_value o) (c.in-Some.is ∙ ap Some c.in-Serve.is)) ∙ c.in-Ok.ensures) c.serve.ensures.complete
+
+pub returns-in-Serve-clause-ends : goal.returns-in-Serve-clause-ends
+returns-in-Serve-clause-ends c = search rules
+
+pub returns-in_default-clause-usage : goal.returns-in_default-clause-usage
+returns-in_default-clause-usage c = search rules
+
+pub returns-in_default-clause-silent : goal.returns-in_default-clause-silent
+returns-in_default-clause-silent c = search rules

@@ -1,4 +1,4 @@
-use Rattle.std.proofs.Common.{Err, ap, ◌∙◌, refl}
+use Rattle.std.proofs.Common.{rules, Err, ap, ◌∙◌, refl}
 use Rattle.farm_cli.specs.Scripted.{Streams}
 use Rattle.farm_cli.proofs.Ends.{refused_ends}
 use Rattle.farm_cli.proofs.top.script.Goals as goal
@@ -10,3 +10,15 @@ returns-in-Err-Bad-clause-ends g c =
     let new : Streams = record { left = g.S.Source.left c.args.input.now; held = g.K.Sink.held c.refuse.new.out } in
     let found = c.read_config.ensures.bad c.in-Err-Bad.bad (c.in-Err-Bad.is ∙ ap Err c.in-Err-Bad.field-0-is) in
     refused_ends files c.args.config c.in-Some.path old new _ _ c.refuse.result c.in-Some.is refl (c.refuse.ensures.ends files found)
+
+pub returns-in_default-clause-ends : goal.returns-in_default-clause-ends
+returns-in_default-clause-ends c = search rules
+
+pub returns-in_default-clause-tree : goal.returns-in_default-clause-tree
+returns-in_default-clause-tree c = search rules
+
+pub returns-in_default-clause-tree_fault : goal.returns-in_default-clause-tree_fault
+returns-in_default-clause-tree_fault c = search rules
+
+pub returns-in-Ok-clause-ends : goal.returns-in-Ok-clause-ends
+returns-in-Ok-clause-ends c = search rules

@@ -1,4 +1,4 @@
-use Rattle.std.proofs.Common.{◌≡◌, ◌+◌, ◌-◌, ◌*◌, ◌/◌, ◌%◌, ◌^◌, ◌<◌, ◌≤◌, true, false, refl, ap, sym, subst, ◌∙◌, arith, inl, inr}
+use Rattle.std.proofs.Common.{rules, ◌≡◌, ◌+◌, ◌-◌, ◌*◌, ◌/◌, ◌%◌, ◌^◌, ◌<◌, ◌≤◌, true, false, refl, ap, sym, subst, ◌∙◌, arith, inl, inr}
 use Rattle.std.proofs.lemmas.Bool.{cases_eq}
 use Rattle.rv_word.specs.declared.instr.Instr.{Instr}
 use Rattle.rv_machine.specs.declared.processor.Flow.TheVariants as flow
@@ -180,3 +180,6 @@ loop-left-preserved c =
             rw (w.next-is, to) (within_way s l.processor c.operate.new.self pc w.in-Within.to spent c.args.limit is.has_limit (omega arith) (l.invariant.on_way s is) done)
       ]);
     }
+
+pub returns-then-word-eq1024-clause-pauses : goal.returns-then-word-eq1024-clause-pauses
+returns-then-word-eq1024-clause-pauses c = search rules

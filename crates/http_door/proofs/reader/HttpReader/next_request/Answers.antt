@@ -1,4 +1,4 @@
-use Rattle.std.proofs.Common.{refl}
+use Rattle.std.proofs.Common.{rules, refl}
 use Rattle.http_door.proofs.Giving.{falls_in, reads_ended, reads_end}
 use Rattle.http_door.proofs.Holding.{held_reader}
 use Rattle.http_door.proofs.reader.HttpReader.next_request.Goals as goal
@@ -19,3 +19,6 @@ pub returns-in-Request-clause-falls : goal.returns-in-Request-clause-falls
 returns-in-Request-clause-falls g c =
     let r = rw c.drop_front.ensures at c.in-Request.ensures.reads in
     λ _. rw (← c.self.view_is) (falls_in _ _ _ _ _ _ r c.in-Request.ensures.few)
+
+pub returns-in-Ended-clause-ends : goal.returns-in-Ended-clause-ends
+returns-in-Ended-clause-ends c = search rules

@@ -1,4 +1,4 @@
-use Rattle.std.proofs.Common.{arith}
+use Rattle.std.proofs.Common.{rules, arith}
 use Rattle.rv_memory.specs.Paged as memory
 use Rattle.rv_machine.proofs.Outputs.{output_fits}
 use Rattle.rv_machine.proofs.machine.Machine.write_output.Goals as goal
@@ -9,3 +9,6 @@ invariant_of-self-in-Ok-touch c = (
   output_fits (memory.touch_range c.self.inside.processor.memory c.args.at c.args.n) c.args.at c.args.n c.self.inside.limits.output c.self.inside.output.items c.copy_out.new.out.items c.in-Ok.ensures.ok (omega arith),
   c.touch.ensures.code c.self.inside.code c.self.invariant.2,
 )
+
+pub returns-then-len-n-clause-gives : goal.returns-then-len-n-clause-gives
+returns-then-len-n-clause-gives c = search rules
