@@ -2,7 +2,7 @@
 ghost use Rattle.std.specs.Prelude.{◌≡◌, IfOk, false, true};
 ghost use Rattle.clap.specs.Words.{app_of, rule_of, with_rule, with_subcommand};
 ghost use Rattle.clap.specs.declared.builder.command.Command.TheViews.{out-Command as fields_of};
-ghost use Rattle.command_line.specs.Commands.{option, flag, operand, judge, script, make, serve, bare, with_contests, farm};
+ghost use Rattle.command_line.specs.Commands.{option, flag, operand, judge, script, make, serve, bare, farm};
 
 use clap::{Arg, ArgAction, Command};
 use std::alloc::{AllocError, Global};
@@ -11,10 +11,10 @@ use std::alloc::{AllocError, Global};
 pub(crate) fn farm_command<'a>(alloc: Global) -> Result<Command<'a>, AllocError>
     ensures { IfOk result (λ command. app_of command ≡ farm) }
 {
-    let with_judge = with_judge(alloc, bare_command(alloc))?;
-    let with_serve = with_serve(alloc, with_judge)?;
-    let with_script = with_script(alloc, with_serve)?;
-    with_make(alloc, with_script)
+    let program = with_judge(alloc, bare_command(alloc))?;
+    let program = with_serve(alloc, program)?;
+    let program = with_script(alloc, program)?;
+    with_make(alloc, program)
 }
 
 /// The program with the command `judge`.
@@ -117,7 +117,7 @@ fn with_option<'a>(
     command.arg(option(alloc, name, true))
 }
 
-/// The command with one more word.
+/// The command with one more operand, which has to be there.
 fn with_operand<'a>(
     alloc: Global,
     command: Command<'a>,

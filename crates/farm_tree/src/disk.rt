@@ -1,4 +1,4 @@
-ghost use Rattle.std.specs.Prelude.{◌≡◌, ◌≢◌, ◌≤◌, ℕ, length, take, None, IfOk, IfSome, All};
+ghost use Rattle.std.specs.Prelude.{◌≡◌, ◌≢◌, ◌≤◌, ◌<◌, ℕ, length, take, None, IfOk, IfSome, All};
 ghost use Rattle.std.specs.Str.{IsUtf8};
 ghost use Rattle.std.specs.IoError.{error_kind};
 ghost use Rattle.farm_tree.specs.declared.entries.Entry.{Entry};
@@ -161,6 +161,7 @@ fn refusal(about: &Metadata) -> Option<TreeErr>
 pub fn read_whole<F: Read + Drop>(file: F, len: u64, alloc: Global) -> Result<Text, TreeErr>
     ensures short { IfOk result (λ bytes. length bytes ≤ file_limit) }
     ensures whole { IfOk result (λ bytes. IfSome (F.remaining file) (λ left. bytes ≡ left)) }
+    ensures large { (len : ℕ) → result ≡ Err (TreeErr.TooLarge len) → IfSome (F.remaining file) (λ left. file_limit < length left) }
 {
     let limit = FILE_LIMIT as u64 + 1;
     let bytes = read_front(file, len, limit, alloc)?;
@@ -179,7 +180,8 @@ fn read_front<F: Read + Drop>(
     limit: u64,
     alloc: Global,
 ) -> Result<Vec<u8>, TreeErr>
-    ensures { IfOk result (λ bytes. IfSome (F.remaining file) (λ left. bytes.items ≡ take limit left)) }
+    ensures front { IfOk result (λ bytes. IfSome (F.remaining file) (λ left. bytes.items ≡ take limit left)) }
+    ensures not_large { (len : ℕ) → result ≢ Err (TreeErr.TooLarge len) }
 {
     let room = told.saturating_add(1).min(limit);
     let mut bytes = Vec::with_capacity(alloc, room as usize).map_err(|_| TreeErr::NoMemory)?;
