@@ -1,9 +1,10 @@
 -- The connections of a door, and what each call does to them.
-use Rattle.std.specs.Prelude.{◌≡◌, ℕ, ◌+◌, ◌≤◌, List, [], ◌∷◌, ◌++◌, Option, None, Some, Result, Err, IfSome, ⊤}
+use Rattle.std.specs.Prelude.{◌≡◌, ℕ, ◌+◌, ◌≤◌, List, [], ◌∷◌, ◌++◌, Option, None, Some, Result, Ok, Err, IfSome, IsSome, ⊤}
 use Rattle.farm_io.specs.Streams.{Rose}
 use Rattle.farm_io.specs.declared.door.Accepted.{Accepted}
 use Rattle.farm_io.specs.declared.door.Accepted.TheVariants as came
 use Rattle.farm_io.specs.declared.door.DoorErr.{DoorErr}
+use Rattle.farm_io.specs.declared.door.Listening.{Listening}
 
 pub record DoorState (N : Type 0) : Type 0 where
   -- the connections that are still to come, where the door tells them
@@ -13,6 +14,27 @@ pub record DoorState (N : Type 0) : Type 0 where
   -- how many were accepted, and how many given back
   pub accepted : ℕ
   pub returned : ℕ
+  -- where it listens, and how long it waits for those who say nothing, if it listens
+  pub listens : Option Listening
+
+-- it listens somewhere
+abbrev pub DoesListen : {N : Type 0} → DoorState N → Type 0
+DoesListen d = IsSome d.listens
+
+-- the same door, which listens there
+abbrev pub listening_at : {N : Type 0} → DoorState N → Listening → DoorState N
+listening_at d at = record {
+  coming = d.coming;
+  back = d.back;
+  accepted = d.accepted;
+  returned = d.returned;
+  listens = Some at;
+}
+
+-- it listens as it was asked to, and nothing else changed; or nothing did
+abbrev pub Listens : {N : Type 0} → DoorState N → DoorState N → Listening → Result (Unit {0}) DoorErr → Type 0
+Listens old new at (Ok u) = new ≡ listening_at old at
+Listens old new at (Err why) = new ≡ old
 
 -- the first one of those to come, where they are told
 abbrev pub IsFirstOf : {N : Type 0} → Option (List N) → Option (List N) → N → Type 0
@@ -30,6 +52,7 @@ pub record LetsIn {N : Type 0} (old new : DoorState N) (conn : N) : Type 0 where
   pub back : new.back ≡ old.back
   pub accepted : new.accepted ≡ old.accepted + 1
   pub returned : new.returned ≡ old.returned
+  pub listens : new.listens ≡ old.listens
 
 -- the connection was given back, as the last so far
 pub record TakesBack {N : Type 0} (old new : DoorState N) (conn : N) : Type 0 where
@@ -37,6 +60,7 @@ pub record TakesBack {N : Type 0} (old new : DoorState N) (conn : N) : Type 0 wh
   pub back : new.back ≡ with_last old.back conn
   pub accepted : new.accepted ≡ old.accepted
   pub returned : new.returned ≡ old.returned + 1
+  pub listens : new.listens ≡ old.listens
 
 -- no connection is left to come, where they are told
 abbrev pub IsEmpty : {N : Type 0} → Option (List N) → Type 0

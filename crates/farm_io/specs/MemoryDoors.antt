@@ -1,9 +1,10 @@
 -- What doors over memory stand for.
-use Rattle.std.specs.Prelude.{◌≡◌, ℕ, ◌+◌, List, [], ◌∷◌, length, Some}
+use Rattle.std.specs.Prelude.{◌≡◌, ℕ, ◌+◌, List, [], ◌∷◌, length, Option, Some}
 use Rattle.farm_io.specs.Doors.{DoorState, IsFresh}
 use Rattle.farm_io.specs.MemoryValue.{SourceValue, SinkValue, RoomValue}
 use Rattle.farm_io.specs.declared.connections.Connection.{Connection}
 use Rattle.farm_io.specs.declared.door.Accepted.{Accepted}
+use Rattle.farm_io.specs.declared.door.Listening.{Listening}
 use Rattle.farm_io.specs.declared.door.Accepted.TheVariants as came
 
 -- a door that fails at listed calls
@@ -13,6 +14,8 @@ pub record DoorValue : Type 0 where
   pub back : List (Connection SourceValue SinkValue)
   -- how many were accepted
   pub accepted : ℕ
+  -- where it listens, if it does
+  pub listens : Option Listening
   -- the numbers of the calls that fail
   pub failing : List ℕ
   -- how often it was called, and how often it failed
@@ -26,17 +29,24 @@ pub record ReliableDoorValue : Type 0 where
   pub back : List (Connection (List ℕ) RoomValue)
   -- how many were accepted
   pub accepted : ℕ
+  -- where it listens, if it does
+  pub listens : Option Listening
 
 -- all of them are told
-abbrev pub told : {N : Type 0} → List N → List N → ℕ → DoorState N
-told coming back accepted =
-    record { coming = Some coming; back = Some back; accepted = accepted; returned = length back }
+abbrev pub told : {N : Type 0} → List N → List N → ℕ → Option Listening → DoorState N
+told coming back accepted listens = record {
+  coming = Some coming;
+  back = Some back;
+  accepted = accepted;
+  returned = length back;
+  listens = listens;
+}
 
 abbrev pub door_state : DoorValue → DoorState (Connection SourceValue SinkValue)
-door_state d = told d.coming d.back d.accepted
+door_state d = told d.coming d.back d.accepted d.listens
 
 abbrev pub reliable_state : ReliableDoorValue → DoorState (Connection (List ℕ) RoomValue)
-reliable_state d = told d.coming d.back d.accepted
+reliable_state d = told d.coming d.back d.accepted d.listens
 
 -- nothing was done on the connection
 abbrev pub IsNew : Connection SourceValue SinkValue → Type 0

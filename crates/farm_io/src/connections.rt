@@ -2,6 +2,7 @@ ghost use Rattle.std.specs.Prelude.{◌≡◌};
 ghost use Rattle.farm_io.specs.Beside.{side};
 
 use crate::memory::{MemorySink, MemorySource, ReliableSink, ReliableSource};
+use crate::peer::Peer;
 use crate::streams::{PutEnd, Sink, Source, Taken};
 
 /// A source and a sink as the two sides of a connection.
@@ -49,4 +50,14 @@ impl<S: Source, K: Sink> Sink for Connection<S, K> {
     fn put(&mut self, piece: &[u8]) -> PutEnd {
         self.sink.put(piece)
     }
+}
+
+impl<S: Source, K: Sink> Peer for Connection<S, K> {
+    /// Nobody asks it.
+    fn is_asked_to_close(&self) -> bool {
+        false
+    }
+
+    /// There is nobody at its other end.
+    fn finish(&mut self, _lingers: bool) {}
 }

@@ -1,13 +1,13 @@
-ghost use Rattle.std.specs.Prelude.{◌≡◌, ◌+◌, ◌<◌, ◌≤◌, ◌↔◌, [], length, true, false, All, Contains, IfOk, IsTrue, IsErr, IsOk, refl};
+ghost use Rattle.std.specs.Prelude.{◌≡◌, ◌+◌, ◌<◌, ◌≤◌, ◌↔◌, [], None, length, true, false, All, Contains, IfOk, IsTrue, IsErr, IsOk, refl};
 ghost use Rattle.std.specs.VecDeque.{deque_len};
 ghost use Rattle.farm_io.specs.Beside.{side};
 ghost use Rattle.farm_io.specs.Streams.{Rose};
 ghost use Rattle.farm_io.specs.MemoryValue.{raised};
-ghost use Rattle.farm_io.specs.Doors.{Accepts, TakesBack, IfConn, IsFailed, HasCauseAccepted, HasCauseListening};
+ghost use Rattle.farm_io.specs.Doors.{Accepts, TakesBack, IfConn, IsFailed, HasCauseAccepted, HasCauseListening, DoesListen, Listens};
 ghost use Rattle.farm_io.specs.MemoryDoors.{door_state, IsNew, TakesFirst};
 
 use crate::connections::MemoryConn;
-use crate::door::{Accepted, Door, DoorErr};
+use crate::door::{Accepted, Door, DoorErr, Listening};
 use std::alloc::{AllocError, Global};
 use std::collections::VecDeque;
 use std::marker::Model;
@@ -19,6 +19,7 @@ pub struct MemoryDoor {
     coming: VecDeque<MemoryConn>,
     back: Vec<MemoryConn>,
     accepted: u64,
+    listens: Option<Listening>,
     failing: Vec<u64>,
     calls: u64,
     faults: u64,
@@ -33,7 +34,7 @@ impl Model for MemoryDoor {
     ghost use Rattle.std.specs.VecDeque.{deque_len};
     ghost use Rattle.farm_io.specs.MemoryDoors.{IsNew};
 
-    ghost view = { λ d. record { coming = d.coming.items; back = d.back.items; accepted = d.accepted; failing = d.failing.items; calls = d.calls; faults = d.faults } };
+    ghost view = { λ d. record { coming = d.coming.items; back = d.back.items; accepted = d.accepted; listens = d.listens; failing = d.failing.items; calls = d.calls; faults = d.faults } };
 
     ghost invariant = { λ d. (d.accepted + deque_len d.coming ≤ vec_capacity d.back) × All IsNew d.coming.items };
 }
@@ -46,13 +47,14 @@ impl MemoryDoor {
         failing: Vec<u64>,
     ) -> Result<MemoryDoor, AllocError>
         requires { All IsNew coming.items }
-        ensures { IfOk result (λ d. d ≡ record { coming = coming.items; back = []; accepted = 0; failing = failing.items; calls = 0; faults = 0 }) }
+        ensures { IfOk result (λ d. d ≡ record { coming = coming.items; back = []; accepted = 0; listens = None; failing = failing.items; calls = 0; faults = 0 }) }
     {
         let back = Vec::with_capacity(alloc, coming.len())?;
         Ok(MemoryDoor {
             coming: VecDeque::from_vec(coming),
             back,
             accepted: 0,
+            listens: None,
             failing,
             calls: 0,
             faults: 0,
@@ -105,8 +107,8 @@ impl Door for MemoryDoor {
 
     ghost faults = { λ d. d.faults };
 
-    fn listen(&mut self, _port: u16) -> Result<(), DoorErr>
-        ensures kept { door_state self.new ≡ door_state self.old }
+    fn listen(&mut self, at: Listening) -> Result<(), DoorErr>
+        ensures listens { Listens (door_state self.old) (door_state self.new) at result }
         ensures cause { HasCauseListening self.old.faults self.new.faults result }
         ensures listed { IsErr result ↔ Contains self.old.failing self.old.calls }
         ensures calls { self.new.calls ≡ raised self.old.calls }
@@ -115,10 +117,16 @@ impl Door for MemoryDoor {
         if is_to_fail(&mut self.calls, &mut self.faults, &self.failing) {
             return Err(DoorErr::Failed);
         }
+        self.listens = Some(at);
         Ok(())
     }
 
+    fn await_next(&mut self)
+        ensures kept { self.new ≡ self.old }
+    {}
+
     fn accept(&mut self) -> Accepted<MemoryConn>
+        requires { DoesListen (door_state self.old) }
         ensures accepts { Accepts (door_state self.old) (door_state self.new) result }
         ensures fresh { IfConn result IsNew }
         ensures cause { HasCauseAccepted self.old.faults self.new.faults result }
@@ -132,6 +140,10 @@ impl Door for MemoryDoor {
         let most = self.back.capacity();
         next_of(&mut self.coming, &mut self.accepted, most)
     }
+
+    fn ask_to_close(&mut self, _before: u64)
+        ensures kept { self.new ≡ self.old }
+    {}
 
     fn give_back(&mut self, conn: MemoryConn)
         requires { length self.old.back < self.old.accepted }
