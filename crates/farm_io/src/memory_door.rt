@@ -70,7 +70,7 @@ impl MemoryDoor {
 }
 
 /// Counts a call, and says whether it is to fail.
-fn is_to_fail(calls: &mut u64, faults: &mut u64, failing: &[u64]) -> bool
+pub fn is_to_fail(calls: &mut u64, faults: &mut u64, failing: &[u64]) -> bool
     ensures listed { IsTrue result ↔ Contains failing.now calls.old }
     ensures calls { calls.new ≡ raised calls.old }
     ensures later { faults.old ≤ faults.new }
