@@ -9,7 +9,6 @@ use Rattle.std.specs.contracts.boxed.Box as boxed
 use Rattle.std.specs.contracts.impls.GlobalAllocator.TheImpl as allocator
 use Rattle.std.specs.contracts.option.Option as option
 use Rattle.std.specs.contracts.snapshot.Snapshot as snapshot
-use Rattle.http_server.proofs.log.Log.TheSendSync as log
 use Rattle.atomic_table.proofs.shared.Seat.TheSendSync as seat
 use Rattle.atomic_table.proofs.shared.Shared.TheSendSync as shared
 use Rattle.atomic_table.proofs.send_lease.SendLease.TheSendSync as lease
@@ -21,6 +20,7 @@ use Rattle.farm_kinds.specs.contracts.events.Event as event
 use Rattle.farm_kinds.specs.contracts.events.Reply as reply
 use Rattle.lease_tree.proofs.node.Tree.TheLaws.TheKnot as knot
 use Rattle.lease_tree.specs.contracts.tree.LeaseTree as tree
+use Rattle.lease_book.proofs.held.Held.TheSendSync as held
 use Rattle.lease_book.specs.contracts.book.LeaseBook as book
 use Rattle.judging_core.specs.contracts.judge.Judge as judge
 use Rattle.farm_core.specs.contracts.names.Names as names
@@ -44,7 +44,7 @@ tree_send : IsSend tree.the_row
 tree_send = search (sendable, crosses, knot.crosses) depth 60 fits 100000
 
 book_send : IsSend book.the_row
-book_send = search (sendable, crosses, tree_send, log.the_send) depth 60 fits 100000
+book_send = search (sendable, crosses, tree_send, held.the_send) depth 60 fits 100000
 
 judge_send : IsSend judge.the_row
 judge_send = search (sendable, crosses, book_send) depth 60 fits 100000

@@ -1,6 +1,5 @@
 -- A book before a change and after it.
-use Rattle.std.proofs.Common.{◌≡◌, ◌<◌, ◌-◌, ◌+◌, ◌^◌, List, [], ◌∷◌, ◌++◌, Some, None, sym, ap, ◌∙◌, arith, length, count_by, Bool, not, filter, find}
-use Rattle.std.proofs.lemmas.List.Sums.{fold_push}
+use Rattle.std.proofs.Common.{◌≡◌, ◌<◌, ◌-◌, ◌+◌, ◌^◌, List, Some, None, sym, ap, ◌∙◌, arith, length, count_by, Bool, not, filter, find}
 use Rattle.farm_kinds.specs.declared.outcomes.Task.{Task}
 use Rattle.farm_model.specs.declared.records.Lease.{Lease}
 use Rattle.farm_model.specs.Leases.{lease_on, without_task}
@@ -9,28 +8,24 @@ use Rattle.lease_tree.specs.declared.keys.Order.TheVariants as order
 use Rattle.lease_tree.specs.Keys.{key_of, has_key}
 use Rattle.lease_tree.specs.TreeValue.{OrderedLeases}
 use Rattle.lease_book.specs.Book.{Book, room, IsSinglyLeased}
-use Rattle.lease_book.specs.BookLayout.{IsIndex, IsBookLayout, leases_after, leases_held, book_value}
-use Rattle.lease_book.specs.declared.change.Change.{Change}
+use Rattle.lease_book.specs.BookLayout.{IsIndex, IsBookLayout, book_value}
 use Rattle.lease_book.specs.declared.book.LeaseBook.TheInside.{Inside}
 use Rattle.lease_book.proofs.Counts.{found_passes, none_counts, counts_none, none_left, length_kept, filter_idle}
 use Rattle.lease_book.proofs.Singly.{on, task_is}
 use Rattle.lease_book.proofs.Index.{length_same, free_same}
 
-pub held_after : (old new : List (Change × Unit {0})) (last : Change) → new ≡ old ++ (last, tt) ∷ [] → leases_held new ≡ leases_after (leases_held old) last
-held_after old new last is = ap leases_held is ∙ fold_push (λ (leases : List Lease) (entry : Change × Unit {0}). leases_after leases entry.0) [] old (last, tt)
-
 -- where the book holds no lease on the task, none stands in its way in any of its trees
-pub free_there : (a : Inside) (book : Book) (x : Lease) (by : Order) (tree : OrderedLeases) → book_value a ≡ book → lease_on book.leases x.task ≡ None → IsIndex by (leases_held a.history.items) a.spare tree → find (has_key tree.order (key_of tree.order x)) tree.leases ≡ None
-free_there a book x by tree is none h = free_same by (leases_held a.history.items) a.spare x tree h (ap (λ (b : Book). lease_on b.leases x.task) is ∙ none)
+pub free_there : (a : Inside) (book : Book) (x : Lease) (by : Order) (tree : OrderedLeases) → book_value a ≡ book → lease_on book.leases x.task ≡ None → IsIndex by a.held.leases a.spare tree → find (has_key tree.order (key_of tree.order x)) tree.leases ≡ None
+free_there a book x by tree is none h = free_same by a.held.leases a.spare x tree h (ap (λ (b : Book). lease_on b.leases x.task) is ∙ none)
 
-pub few_there : (a : Inside) (book : Book) (by : Order) (tree : OrderedLeases) → book_value a ≡ book → length book.leases < 2 ^ 32 - 1 → IsIndex by (leases_held a.history.items) a.spare tree → length tree.leases < 2 ^ 32 - 1
+pub few_there : (a : Inside) (book : Book) (by : Order) (tree : OrderedLeases) → book_value a ≡ book → length book.leases < 2 ^ 32 - 1 → IsIndex by a.held.leases a.spare tree → length tree.leases < 2 ^ 32 - 1
 few_there a book by tree is few h =
-    let same = length_same (leases_held a.history.items) tree.leases h.same in
+    let same = length_same a.held.leases tree.leases h.same in
     let len = ap (λ (b : Book). length b.leases) is in
     omega (arith, same, len, few)
 
 -- a book whose leases are these
-pub layout : (a : Inside) (xs : List Lease) → leases_held a.history.items ≡ xs → IsSinglyLeased xs → length xs < 2 ^ 32 → IsIndex order.Judging xs a.spare a.by_judging → IsIndex order.Host xs a.spare a.by_host → IsIndex order.End xs a.spare a.by_end → length xs + a.spare < 2 ^ 33 → IsBookLayout a
+pub layout : (a : Inside) (xs : List Lease) → a.held.leases ≡ xs → IsSinglyLeased xs → length xs < 2 ^ 32 → IsIndex order.Judging xs a.spare a.by_judging → IsIndex order.Host xs a.spare a.by_host → IsIndex order.End xs a.spare a.by_end → length xs + a.spare < 2 ^ 33 → IsBookLayout a
 layout a xs is single few judgings hosts ends room = record {
   single = rw is single;
   few = rw is few;

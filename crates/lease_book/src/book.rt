@@ -7,9 +7,9 @@ ghost use Rattle.lease_book.specs.Changes.{EndsOne};
 ghost use Rattle.lease_book.specs.Walks.{FirstOf, IsNext, is_left, stands_after};
 
 use crate::change::Change;
+use crate::held::Held;
 use farm_kinds::{NoMemory, Task};
 use farm_model::Lease;
-use http_server::Log;
 use lease_tree::{Key, LeaseTree, Order};
 use std::alloc::Global;
 use std::marker::Model;
@@ -27,8 +27,8 @@ pub struct LeaseBook {
     by_end: LeaseTree,
     /// How many more leases each of the trees has room for.
     spare: usize,
-    /// What was granted, renewed and ended so far, which takes no bytes: contracts see the leases in its order.
-    history: Log<Change, ()>,
+    /// The leases as contracts see them, which takes no bytes.
+    held: Held,
 }
 
 impl Model for LeaseBook {
@@ -53,7 +53,7 @@ impl LeaseBook {
             by_host: LeaseTree::new(alloc, Order::Host),
             by_end: LeaseTree::new(alloc, Order::End),
             spare: 0,
-            history: Log::new(),
+            held: Held::new(),
         }
     }
 
@@ -115,7 +115,7 @@ impl LeaseBook {
         self.by_host.insert(lease);
         self.by_end.insert(lease);
         self.spare -= 1;
-        self.history = self.history.and(&Change::Granted(lease), &());
+        self.held = self.held.after(&Change::Granted(lease));
     }
 
     /// The lease that is held on the task.
@@ -143,12 +143,12 @@ impl LeaseBook {
         ensures room { room self.new ≡ room self.old }
     {
         // Contracts see the lease renewed where it stands; in the trees it goes, and comes again.
-        let history = self.history.and(&Change::Renewed(task, until), &());
+        let held = self.held.after(&Change::Renewed(task, until));
         let Some(lease) = self.take(task) else {
             return false;
         };
         self.grant(lease.host, task, until);
-        self.history = history;
+        self.held = held;
         true
     }
 
@@ -255,7 +255,7 @@ impl LeaseBook {
         self.by_host.remove(Order::Host.key(lease));
         self.by_end.remove(Order::End.key(lease));
         self.spare += 1;
-        self.history = self.history.and(&Change::Ended(task), &());
+        self.held = self.held.after(&Change::Ended(task));
         Some(lease)
     }
 

@@ -3,6 +3,7 @@
 
 mod book;
 mod change;
+mod held;
 
 pub use book::LeaseBook;
 pub use farm_model::Lease;

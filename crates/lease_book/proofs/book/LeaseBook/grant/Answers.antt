@@ -5,12 +5,11 @@ use Rattle.farm_model.specs.declared.records.Lease.{Lease}
 use Rattle.farm_model.specs.Leases.{lease_on}
 use Rattle.lease_tree.specs.declared.keys.Order.TheVariants as order
 use Rattle.lease_book.specs.Book.{Book, IsSinglyLeased}
-use Rattle.lease_book.specs.BookLayout.{leases_held, book_value, IsBookLayout}
+use Rattle.lease_book.specs.BookLayout.{book_value, IsBookLayout}
 use Rattle.lease_book.specs.declared.book.LeaseBook.TheInside.{Inside}
-use Rattle.lease_book.specs.declared.change.Change.TheVariants as change
 use Rattle.lease_book.proofs.Index.{index_added}
 use Rattle.lease_book.proofs.Singly.{granted}
-use Rattle.lease_book.proofs.Changed.{held_after, free_there, few_there, layout}
+use Rattle.lease_book.proofs.Changed.{free_there, few_there, layout}
 use Rattle.lease_book.proofs.book.LeaseBook.grant.Goals as goal
 
 abbrev lease_of : ℕ → Task → ℕ → Lease
@@ -41,10 +40,10 @@ insert-requires-3-clause-few c = few_there c.self.inside c.args.self.now order.E
 pub invariant_of-self : goal.invariant_of-self
 invariant_of-self c =
     let lease : Lease = record { host = c.args.host; task = c.args.task; until = c.args.until } in
-    let old = leases_held c.self.inside.history.items in
+    let old = c.self.inside.held.leases in
     let n = c.self.inside.spare in
     let less : n - 1 + 1 ≡ n = omega (arith, spare_there c.self.inside c.args.self.now c.self.view_is c.self.invariant c.requires.spare) in
-    let is : leases_held c.and-self-inside.result.items ≡ old ++ lease ∷ [] = held_after c.self.inside.history.items c.and-self-inside.result.items (change.Granted lease) c.and-self-inside.ensures in
+    let is : c.after-self-inside.result.leases ≡ old ++ lease ∷ [] = c.after-self-inside.ensures in
     let unheld : lease_on old c.args.task ≡ None = ap (λ (b : Book). lease_on b.leases c.args.task) c.self.view_is ∙ c.requires.unheld in
     let a = c.insert.ensures in
     let b = c.insert-2.ensures in

@@ -2,10 +2,9 @@ use Rattle.std.proofs.Common.{◌≡◌, ◌∙◌, Some, None, sym, ap, subst, 
 use Rattle.farm_model.specs.Leases.{lease_on, with_lease, without_task, renewed}
 use Rattle.lease_tree.specs.declared.keys.Order.TheVariants as order
 use Rattle.lease_book.specs.Book.{Book}
-use Rattle.lease_book.specs.BookLayout.{leases_held, AreSame}
-use Rattle.lease_book.specs.declared.change.Change.TheVariants as change
+use Rattle.lease_book.specs.BookLayout.{AreSame}
 use Rattle.lease_book.proofs.Index.{length_same}
-use Rattle.lease_book.proofs.Changed.{held_after, layout}
+use Rattle.lease_book.proofs.Changed.{layout}
 use Rattle.lease_book.proofs.Renewed.{none_renewed, renewed_same, single_same, index_same}
 use Rattle.lease_book.proofs.book.LeaseBook.renew.Goals as goal
 
@@ -17,8 +16,8 @@ returns-in_default-clause-leases c =
 
 pub invariant_of-self : goal.invariant_of-self
 invariant_of-self c =
-    let old = leases_held c.self.inside.history.items in
-    let moved = leases_held c.self-2.inside.history.items in
+    let old = c.self.inside.held.leases in
+    let moved = c.self-2.inside.held.leases in
     let task = c.args.task in
     let until = c.args.until in
     let there = c.self-2.invariant in
@@ -28,7 +27,7 @@ invariant_of-self c =
     = ap (λ (b : Book). b.leases) c.self-2.view_is ∙ c.grant.ensures.leases ∙ ap (λ ys. with_lease ys c.in-Some.lease.host task until) (c.take.ensures.leases ∙ ap (λ ys. without_task ys task) (sym was)) in
     let same : AreSame (renewed old task until) moved = subst (AreSame (renewed old task until)) (sym is) (renewed_same old task c.in-Some.lease until c.self.invariant.single some) in
     let len = length_same (renewed old task until) moved same in
-    layout _ (renewed old task until) (held_after c.self.inside.history.items c.and-history.result.items (change.Renewed task until) c.and-history.ensures)
+    layout _ (renewed old task until) c.after-held.ensures
     (single_same (renewed old task until) moved same there.single) (omega (arith, len, there.few))
     (index_same order.Judging (renewed old task until) moved c.self-2.inside.spare c.self-2.inside.by_judging same there.judgings)
     (index_same order.Host (renewed old task until) moved c.self-2.inside.spare c.self-2.inside.by_host same there.hosts)
