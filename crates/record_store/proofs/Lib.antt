@@ -1,0 +1,7 @@
+pub mod Moments
+pub mod Images
+pub mod Fronts
+pub mod Steps
+pub mod Appends
+pub mod Opens
+pub mod Written

@@ -1,0 +1,5 @@
+pub mod Model
+pub mod Held
+pub mod MemoryValue
+pub mod MemoryLayout
+pub mod Reading

@@ -1,0 +1,157 @@
+//! A file of the system as a disk.
+ghost use Rattle.std.specs.Prelude.{◌≡◌, ◌≤◌, false, [], min, ◌+◌, ◌-◌, ◌^◌, IsErr, IsOk, Some, string_bytes, IfOk};
+ghost use Rattle.std.specs.Option.{option_map};
+ghost use Rattle.record_store.specs.Model.{HasCause, Rose};
+ghost use Rattle.record_store.specs.MemoryValue.{quiet_time};
+
+use crate::disk::{Disk, DiskErr};
+use std::alloc::{AllocError, Global};
+use std::fs::{File, Files, OpenFile, OpenOptions};
+use std::io;
+use std::os::unix::fs::FileExt;
+
+/// A file of the system. It tells nothing.
+///
+/// Each failed call raises the count, which stands still at the end of its type. A sync that failed is not tried again:
+/// each later write and sync fails, since the system may have dropped what was written.
+#[derive(Drop)]
+pub struct FileDisk<R> {
+    alloc: Global,
+    files: R,
+    file: Option<File>,
+    path: Option<String>,
+    lost: bool,
+    /// How often it has failed.
+    pub faults: u64,
+}
+
+impl<R> FileDisk<R> {
+    /// A disk on which no file is open.
+    pub fn new(alloc: Global, files: R) -> FileDisk<R>
+        ensures { result.faults ≡ 0 }
+    {
+        FileDisk {
+            alloc,
+            files,
+            file: None,
+            path: None,
+            lost: false,
+            faults: 0,
+        }
+    }
+}
+
+impl<R: Files<File = File> + Drop> Disk for FileDisk<R> {
+    ghost tells = { λ _. false };
+
+    ghost time = { λ _. quiet_time [] };
+
+    ghost opened = { λ d. option_map string_bytes d.path };
+
+    ghost faults = { λ d. d.faults };
+
+    fn open(&mut self, path: &str) -> Result<(), DiskErr> {
+        if let (Ok(copied), Ok(file)) = (
+            String::from_str(self.alloc, path),
+            open_file(&self.files, path),
+        ) {
+            self.file = Some(file);
+            self.path = Some(copied);
+            return Ok(());
+        }
+        Err(count(&mut self.faults))
+    }
+
+    fn len(&mut self) -> Result<u64, DiskErr> {
+        match length_of(&self.file) {
+            Ok(len) => Ok(len),
+            Err(_) => Err(count(&mut self.faults)),
+        }
+    }
+
+    fn read_at(&mut self, at: u64, room: &mut [u8]) -> Result<(), DiskErr> {
+        match read(&self.file, at, room) {
+            Ok(()) => Ok(()),
+            Err(_) => Err(count(&mut self.faults)),
+        }
+    }
+
+    fn write_at(&mut self, at: u64, bytes: &[u8]) -> Result<(), DiskErr> {
+        match write(&self.file, self.lost, at, bytes) {
+            Ok(()) => Ok(()),
+            Err(_) => Err(count(&mut self.faults)),
+        }
+    }
+
+    fn sync(&mut self) -> Result<(), DiskErr> {
+        match sync(&self.file, self.lost) {
+            Ok(()) => Ok(()),
+            Err(_) => {
+                self.lost = true;
+                Err(count(&mut self.faults))
+            }
+        }
+    }
+}
+
+/// Counts a failure.
+fn count(faults: &mut u64) -> DiskErr
+    ensures rose { Rose faults.old faults.new }
+    ensures later { faults.old ≤ faults.new }
+{
+    *faults = faults.saturating_add(1);
+    DiskErr::Failed
+}
+
+/// The file at the path, which is made where it is missing. Of an empty one, which may be new, the folder is synced:
+/// the name of a new file is on the disk only then.
+fn open_file<R: Files<File = File>>(files: &R, path: &str) -> io::Result<File> {
+    let file = OpenOptions::new()
+        .read(true)
+        .write(true)
+        .create(true)
+        .open(files, path)?;
+    if file.metadata()?.len() == 0 {
+        let folder = OpenOptions::new().read(true).open(files, folder_of(path))?;
+        folder.sync_all()?;
+    }
+    Ok(file)
+}
+
+/// The folder of a path: what stands before its last `/`.
+fn folder_of(path: &str) -> &str {
+    match path.rsplit_once('/') {
+        Some(("", _)) => "/",
+        Some((folder, _)) => folder,
+        None => ".",
+    }
+}
+
+fn opened(file: &Option<File>) -> io::Result<&File> {
+    match file {
+        Some(file) => Ok(file),
+        None => Err(io::ErrorKind::NotFound.into()),
+    }
+}
+
+fn length_of(file: &Option<File>) -> io::Result<u64> {
+    Ok(opened(file)?.metadata()?.len())
+}
+
+fn read(file: &Option<File>, at: u64, room: &mut [u8]) -> io::Result<()> {
+    opened(file)?.read_exact_at(room, at)
+}
+
+fn write(file: &Option<File>, lost: bool, at: u64, bytes: &[u8]) -> io::Result<()> {
+    if lost {
+        return Err(io::ErrorKind::Other.into());
+    }
+    opened(file)?.write_all_at(bytes, at)
+}
+
+fn sync(file: &Option<File>, lost: bool) -> io::Result<()> {
+    if lost {
+        return Err(io::ErrorKind::Other.into());
+    }
+    opened(file)?.sync_all()
+}
