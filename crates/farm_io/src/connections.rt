@@ -1,4 +1,4 @@
-ghost use Rattle.std.specs.Prelude.{◌≡◌};
+ghost use Rattle.std.specs.Prelude.{◌≡◌, false};
 ghost use Rattle.farm_io.specs.Beside.{side};
 
 use crate::memory::{MemorySink, MemorySource, ReliableSink, ReliableSource};
@@ -53,6 +53,8 @@ impl<S: Source, K: Sink> Sink for Connection<S, K> {
 }
 
 impl<S: Source, K: Sink> Peer for Connection<S, K> {
+    ghost asks = { false };
+
     /// Nobody asks it.
     fn is_asked_to_close(&self) -> bool {
         false

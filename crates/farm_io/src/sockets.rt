@@ -1,4 +1,4 @@
-ghost use Rattle.std.specs.Prelude.{◌≡◌, ◌≤◌, None, IfSome, length};
+ghost use Rattle.std.specs.Prelude.{◌≡◌, ◌≤◌, None, true, IfSome, length};
 ghost use Rattle.farm_io.specs.Beside.{side};
 
 use crate::adapters::write_whole;
@@ -180,6 +180,8 @@ impl<R: rt::Clock> Sink for TcpConn<R> {
 }
 
 impl<R: rt::Clock> Peer for TcpConn<R> {
+    ghost asks = { true };
+
     fn is_asked_to_close(&self) -> bool {
         match &self.talk {
             Some(talk) => talk.is_asked(),
