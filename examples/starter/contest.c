@@ -1,7 +1,9 @@
 #include "contest.h"
 
 // The loops of memcpy and memset below are not to become calls of themselves.
+#ifndef __clang__
 #pragma GCC optimize("no-tree-loop-distribute-patterns")
+#endif
 
 static long call(long number, long a, long b, long c) {
     register long a0 __asm__("a0") = a, a1 __asm__("a1") = b, a2 __asm__("a2") = c, a7 __asm__("a7") = number;
@@ -148,4 +150,49 @@ int memcmp(const void *a, const void *b, size_t length) {
     const unsigned char *p = a, *q = b;
     for (; length && *p == *q; length--) p++, q++;
     return length ? *p - *q : 0;
+}
+
+// Divisions of 64 bits, which the machine has no instruction for. Where libgcc is linked, these are taken in place of its
+// own.
+static uint64_t divided(uint64_t number, uint64_t by, uint64_t *rest) {
+    if (!(number >> 32) && !(by >> 32)) {
+        *rest = (uint32_t)number % (uint32_t)by;
+        return (uint32_t)number / (uint32_t)by;
+    }
+    uint64_t quotient = 0, left = 0;
+    for (int k = 63; k >= 0; k--) {
+        uint32_t carry = (uint32_t)(left >> 63);
+        left = left << 1 | (number >> k & 1);
+        quotient <<= 1;
+        if (carry || left >= by) {
+            left -= by;
+            quotient |= 1;
+        }
+    }
+    *rest = left;
+    return quotient;
+}
+
+uint64_t __udivdi3(uint64_t number, uint64_t by) {
+    uint64_t rest;
+    return divided(number, by, &rest);
+}
+
+uint64_t __umoddi3(uint64_t number, uint64_t by) {
+    uint64_t rest;
+    divided(number, by, &rest);
+    return rest;
+}
+
+static uint64_t size_of(int64_t number) { return number < 0 ? -(uint64_t)number : (uint64_t)number; }
+
+int64_t __divdi3(int64_t number, int64_t by) {
+    uint64_t rest, quotient = divided(size_of(number), size_of(by), &rest);
+    return (int64_t)((number < 0) == (by < 0) ? quotient : -quotient);
+}
+
+int64_t __moddi3(int64_t number, int64_t by) {
+    uint64_t rest;
+    divided(size_of(number), size_of(by), &rest);
+    return (int64_t)(number < 0 ? -rest : rest);
 }
