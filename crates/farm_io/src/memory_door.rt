@@ -1,4 +1,4 @@
-ghost use Rattle.std.specs.Prelude.{◌≡◌, ◌+◌, ◌<◌, ◌≤◌, ◌↔◌, [], None, length, true, false, All, Contains, IfOk, IsTrue, IsErr, IsOk, refl};
+ghost use Rattle.std.specs.Prelude.{◌≡◌, ◌+◌, ◌<◌, ◌≤◌, ◌↔◌, [], None, Some, length, true, false, All, Contains, IfOk, IsTrue, IsErr, IsOk, refl};
 ghost use Rattle.std.specs.VecDeque.{deque_len};
 ghost use Rattle.farm_io.specs.Beside.{side};
 ghost use Rattle.farm_io.specs.Streams.{Rose};
@@ -109,6 +109,7 @@ impl Door for MemoryDoor {
 
     fn listen(&mut self, at: Listening) -> Result<(), DoorErr>
         ensures listens { Listens (door_state self.old) (door_state self.new) at result }
+        ensures told { IfOk result (λ _. self.new.listens ≡ Some at) }
         ensures cause { HasCauseListening self.old.faults self.new.faults result }
         ensures listed { IsErr result ↔ Contains self.old.failing self.old.calls }
         ensures calls { self.new.calls ≡ raised self.old.calls }

@@ -1,4 +1,4 @@
-ghost use Rattle.std.specs.Prelude.{◌≡◌, ◌+◌, ◌<◌, ◌≤◌, [], None, length, All, IfOk, IsOk, refl};
+ghost use Rattle.std.specs.Prelude.{◌≡◌, ◌+◌, ◌<◌, ◌≤◌, [], None, Some, length, All, IfOk, IsOk, refl};
 ghost use Rattle.farm_io.specs.Beside.{side};
 ghost use Rattle.farm_io.specs.Doors.{Accepts, TakesBack, IfConn, IsFailed, HasCauseAccepted, HasCauseListening, DoesListen, listening_at};
 ghost use Rattle.farm_io.specs.MemoryDoors.{reliable_state, IsReliableNew};
@@ -66,6 +66,7 @@ impl Door for ReliableDoor {
     fn listen(&mut self, at: Listening) -> Result<(), DoorErr>
         ensures ok { IsOk result }
         ensures listens { reliable_state self.new ≡ listening_at (reliable_state self.old) at }
+        ensures told { self.new.listens ≡ Some at }
     {
         self.listens = Some(at);
         Ok(())

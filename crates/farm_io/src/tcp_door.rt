@@ -2,6 +2,7 @@ ghost use Rattle.std.specs.Prelude.{◌≡◌, ◌≤◌, None, IfSome, refl};
 ghost use Rattle.farm_io.specs.Beside.{side};
 
 use crate::door::{Accepted, Door, DoorErr, Listening};
+use crate::peer::Peer;
 use crate::sockets::TcpConn;
 use crate::talk::Talk;
 use std::alloc::Global;
@@ -188,6 +189,14 @@ impl<R: Net<Listener = TcpListener, Stream = TcpStream> + rt::Clock + Copy> TcpD
         }
     }
 
+    /// Closes the streams of connections that have ended.
+    fn forget_ended(&mut self)
+        ensures counts { (self.new.accepted ≡ self.old.accepted) × (self.new.returned ≡ self.old.returned) × (self.new.faults ≡ self.old.faults) }
+        ensures listens { self.new.listens ≡ self.old.listens }
+    {
+        self.open.retain(|open| !open.talk.has_ended());
+    }
+
     /// The stream as a connection, which can be asked to close where there is memory for that.
     fn connect(&mut self, stream: TcpStream) -> Option<TcpConn<R>>
         ensures counts { (self.new.accepted ≡ self.old.accepted) × (self.new.returned ≡ self.old.returned) × (self.new.faults ≡ self.old.faults) }
@@ -198,7 +207,7 @@ impl<R: Net<Listener = TcpListener, Stream = TcpStream> + rt::Clock + Copy> TcpD
         let _ = stream.set_nodelay(true);
         let patience = Duration::from_secs(u64::from(self.listens?.patience.max(1)));
         let talk = Arc::new(self.alloc, Talk::new(stream)).ok()?;
-        self.open.retain(|open| !open.talk.has_ended());
+        self.forget_ended();
         if let Ok(theirs) = Arc::try_clone(&talk) {
             let before = self.accepted;
             let _ = self.open.push(Open {
@@ -263,9 +272,12 @@ impl<R: Net<Listener = TcpListener, Stream = TcpStream> + rt::Clock + Copy + Sen
         }
     }
 
-    /// Takes back a connection that was served, whose stream is closed.
+    /// Takes back a connection that was served, and ends it in both directions where it has not ended.
     fn give_back(&mut self, conn: TcpConn<R>) {
+        let mut conn = conn;
+        conn.finish(false);
         drop(conn);
+        self.forget_ended();
         self.returned += 1;
     }
 
