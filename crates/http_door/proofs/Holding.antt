@@ -1,9 +1,12 @@
 -- A whole request that stands in a window already.
-use Rattle.std.proofs.Common.{ℕ, ◌≡◌, ◌+◌, ◌≤◌, List, ◌∷◌, ◌++◌, Option, Some, None, Result, Ok, Err, IsOk, IfSome, refl, sym, ap, ◌∙◌, subst, arith, length, drop}
-use Rattle.std.proofs.lemmas.List.{length-append, length-drop}
+use Rattle.std.proofs.Common.{ℕ, ◌≡◌, ◌+◌, ◌-◌, ◌≤◌, ◌<◌, ◌⊎◌, inl, inr, List, [], ◌∷◌, ◌++◌, Option, Some, None, Result, Ok, Err, IsOk, IfSome, refl, sym, ap, ◌∙◌, subst, arith, length, take, drop, append_assoc}
+use Rattle.std.specs.Prelude.{flat_map}
+use Rattle.std.proofs.lemmas.Bool.{cases_lt}
+use Rattle.std.proofs.lemmas.List.{length-append, length-drop, take_all, take-append-le, drop-append-le}
+use Rattle.std.proofs.Math.Seq.{take-append-add}
 use Rattle.std.proofs.lemmas.List.Elements.{Contains-append_left, Contains-append_right}
 use Rattle.httparse.specs.Ascii.{space}
-use Rattle.httparse.specs.Grammar.{LineEnd, crlf, lf, print_end, print_blank, print_version, print_section, RequestHead, print_request}
+use Rattle.httparse.specs.Grammar.{LineEnd, crlf, lf, print_end, print_blank, print_version, print_field, print_section, RequestHead, print_request}
 use Rattle.farm_io.specs.Lines.{HasFeed, line_feed}
 use Rattle.http_door.specs.declared.heads.Seen.{Seen}
 use Rattle.http_door.specs.declared.fields.Framing.{Framing}
@@ -11,7 +14,7 @@ use Rattle.http_door.specs.declared.fields.Framing.TheVariants as framing
 use Rattle.http_door.specs.declared.ending.Ending.{Ending}
 use Rattle.http_door.specs.declared.ending.Ending.TheVariants as end
 use Rattle.http_door.specs.Heads.{framing_of}
-use Rattle.http_door.specs.Requests.{HoldsRequest, EndsAs, IsRefusal, IsOfBytes}
+use Rattle.http_door.specs.Requests.{IsHead, HoldsHead, HoldsRequest, EndsAs, IsRefusal, IsOfBytes}
 use Rattle.http_door.specs.Finding.{HasShown, IsLooked, IsSized}
 use Rattle.http_door.specs.ReaderValue.{ReaderValue, IsReadable}
 use Rattle.http_door.proofs.Cutting.{head_unique, sized_same, request_apart}
@@ -28,10 +31,51 @@ head_feed h =
     Contains-append_left (front ++ print_end h.line_end) (print_section h.fields h.last) line_feed
     (Contains-append_right front (print_end h.line_end) line_feed (line_end_feed h.line_end))
 
--- a whole request has a line feed
-request_feed : (bytes : List ℕ) → HoldsRequest bytes → HasFeed bytes
-request_feed bytes (r, rest, x) =
-    subst HasFeed (sym x.is_head.reads.1) (Contains-append_left (print_request x.head) (r.body ++ rest) line_feed (head_feed x.head))
+-- no whole head stands in bytes that were looked at, since it has a line feed
+pub lacks_looked : (bytes : List ℕ) → (HasFeed bytes → IsLooked bytes None) → ¬ HoldsHead bytes
+lacks_looked bytes fed (h, rest, x) =
+    (fed (subst HasFeed (sym x.reads.1) (Contains-append_left (print_request h) rest line_feed (head_feed h)))).none h rest x.reads
+
+last_feed : (front : List ℕ) (e : LineEnd) → (before : List ℕ) × (front ++ print_end e ≡ before ++ line_feed ∷ [])
+last_feed front crlf = (front ++ 13 ∷ [], sym (append_assoc front (13 ∷ []) (line_feed ∷ [])))
+last_feed front lf = (front, refl)
+
+-- a head ends in a line feed
+head_last : (h : RequestHead) → (before : List ℕ) × (print_request h ≡ before ++ line_feed ∷ [])
+unfolding print_request
+head_last h =
+    let front : List ℕ = print_blank h.blank ++ h.method ++ space ∷ h.target ++ space ∷ print_version h.minor ++ print_end h.line_end in
+    let fields : List ℕ = flat_map print_field h.fields in
+    let last = last_feed (front ++ fields) h.last in
+    (last.0, sym (append_assoc front fields (print_end h.last)) ∙ last.1)
+
+feed_behind : (n : ℕ) (before rest : List ℕ) → n ≤ length before → HasFeed (drop n (before ++ line_feed ∷ rest))
+feed_behind n before rest le =
+    subst HasFeed (sym (drop-append-le n before (line_feed ∷ rest) le)) (Contains-append_right (drop n before) (line_feed ∷ rest) line_feed (0, omega arith, refl))
+
+-- a head that is no longer than the bytes held stood there before more came
+head_before : (old front new : List ℕ) (h : RequestHead) (rest : List ℕ) → new ≡ old ++ front → IsHead new h rest → length (print_request h) ≤ length old → HoldsHead old
+head_before old front new h rest e x le =
+    let P = print_request h in
+    let d = length old - length P in
+    let sum : length P + d ≡ length old = omega arith in
+    let cut : take (length old) new ≡ old = ap (take (length old)) e ∙ take-append-le (length old) old front (omega arith) ∙ take_all (length old) old (omega arith) in
+    let head : take (length old) new ≡ P ++ take d rest = ap (take (length old)) x.reads.1 ∙ subst (λ (z : ℕ). take z (P ++ rest) ≡ P ++ take d rest) sum (take-append-add P rest d) in
+    (h, take d rest, record { reads = (x.reads.0, sym cut ∙ head); short = x.short; few = x.few })
+
+lacks_at : (old front new : List ℕ) (h : RequestHead) (rest : List ℕ) → new ≡ old ++ front → ¬ HoldsHead old → (HasFeed (drop (length old) new) → IsLooked new None) → IsHead new h rest
+    → (length old < length (print_request h)) ⊎ (length (print_request h) ≤ length old) → ⊥
+lacks_at old front new h rest e none fed x (inl longer) =
+    let last = head_last h in
+    let all : new ≡ last.0 ++ line_feed ∷ rest = x.reads.1 ∙ ap (λ z. z ++ rest) last.1 ∙ append_assoc last.0 (line_feed ∷ []) rest in
+    let le : length old ≤ length last.0 = omega (arith, longer, ap length last.1, length-append last.0 (line_feed ∷ [])) in
+    (fed (subst (λ (z : List ℕ). HasFeed (drop (length old) z)) (sym all) (feed_behind (length old) last.0 rest le))).none h rest x.reads
+lacks_at old front new h rest e none fed x (inr shorter) = none (head_before old front new h rest e x shorter)
+
+-- nor in more bytes, where those that came were looked at
+pub lacks_more : (old front new : List ℕ) → new ≡ old ++ front → ¬ HoldsHead old → (HasFeed (drop (length old) new) → IsLooked new None) → ¬ HoldsHead new
+lacks_more old front new e none fed (h, rest, x) =
+    lacks_at old front new h rest e none fed x (cases_lt (length old) (length (print_request h)))
 
 refusal_bytes : (e : Ending) → IsRefusal e → IsOfBytes e
 refusal_bytes end.End h = absurd h
@@ -54,7 +98,7 @@ held_found bytes (Ok s) h q = refl
 held_found bytes (Err e) h q = absurd (held_refused bytes e h.0 h.1 q)
 
 pub held_looked : (bytes : List ℕ) → (HasFeed bytes → IsLooked bytes None) → HoldsRequest bytes → ⊥
-held_looked bytes h q = (h (request_feed bytes q)).none q.2.head (q.0.body ++ q.1) q.2.is_head.reads
+held_looked bytes h (r, rest, x) = lacks_looked bytes h (x.head, r.body ++ rest, x.is_head)
 
 -- its head says a length that fits
 pub held_sized : (bytes : List ℕ) (s : Seen) (e : Ending) → HasShown bytes s → IsSized s.framing (Err e) → HoldsRequest bytes → ⊥

@@ -7,3 +7,6 @@ pub mod Findings
 pub mod Holding
 pub mod Giving
 pub mod Writing
+mod AnswerCutting
+mod AnswerFindings
+mod AnswerGiving

@@ -9,3 +9,10 @@ pub mod ReaderShape
 pub mod Reading
 pub mod Refusals
 pub mod Responses
+pub mod AnswerFields
+pub mod AnswerHeads
+pub mod Answers
+pub mod AnswerFinding
+pub mod AnswerReaderValue
+pub mod AnswerReaderShape
+pub mod AnswerReading

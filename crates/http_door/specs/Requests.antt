@@ -24,6 +24,10 @@ pub record IsHead (bytes : List ℕ) (h : RequestHead) (rest : List ℕ) : Type 
   pub short : length (print_request h) ≤ head_limit
   pub few : length h.fields ≤ field_limit
 
+-- a whole head stands at the front of the bytes
+abbrev pub HoldsHead : List ℕ → Type 0
+HoldsHead bytes = (h : RequestHead) × (rest : List ℕ) × IsHead bytes h rest
+
 -- the bytes are a whole request, and then rest
 pub record IsRequest (bytes : List ℕ) (r : Request) (rest : List ℕ) : Type 0 where
   pub head : RequestHead

@@ -138,7 +138,7 @@ fn length_with(buf: &[u8], said: ContentLength, field: &HeaderSpan) -> ContentLe
 }
 
 /// What the fields say of the length.
-fn length_in(buf: &[u8], fields: &[HeaderSpan]) -> ContentLength
+pub fn length_in(buf: &[u8], fields: &[HeaderSpan]) -> ContentLength
     requires { All (IsHeaderWithin (length buf.now)) fields.now }
     ensures { result ≡ length_said (values_of content_length (map (header_bytes buf.now) fields.now)) }
 {
@@ -176,7 +176,7 @@ fn framing_for(said: ContentLength, coded: bool, post: bool) -> Framing
 }
 
 /// Whether the body has a transfer coding (RFC 9112, section 6.1).
-fn is_coded(buf: &[u8], fields: &[HeaderSpan]) -> bool
+pub fn is_coded(buf: &[u8], fields: &[HeaderSpan]) -> bool
     requires { All (IsHeaderWithin (length buf.now)) fields.now }
     ensures { result ≡ list_any (λ h. is_word transfer_encoding (header_bytes buf.now h).0) fields.now }
 {

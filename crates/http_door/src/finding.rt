@@ -4,7 +4,7 @@ ghost use Rattle.farm_io.specs.Lines.{HasFeed, input_limit};
 ghost use Rattle.farm_io.specs.BlockValue.{IsEnded, HasCauseStop};
 ghost use Rattle.http_door.specs.Fields.{body_limit};
 ghost use Rattle.http_door.specs.Heads.{head_limit, framing_of};
-ghost use Rattle.http_door.specs.Requests.{HoldsRequest};
+ghost use Rattle.http_door.specs.Requests.{HoldsHead, HoldsRequest};
 ghost use Rattle.http_door.specs.WindowValue.{Fills};
 ghost use Rattle.http_door.specs.ReaderValue.{room_limit};
 ghost use Rattle.http_door.specs.Finding.{IsLooked, ShowsHead, HasShown, Stops, StopsOrShows, ended_by, IsSized, HasWhole};
@@ -28,7 +28,7 @@ pub struct Whole {
 }
 
 /// The bytes that a head may have.
-fn front_of(bytes: &[u8]) -> &[u8]
+pub fn front_of(bytes: &[u8]) -> &[u8]
     ensures { result.now ≡ take head_limit bytes.now }
 {
     &bytes[..bytes.len().min(HEAD_LIMIT)]
@@ -53,7 +53,7 @@ fn look(bytes: &[u8]) -> Option<Result<Seen, Ending>>
 }
 
 /// Whether a line ends in the bytes.
-fn has_feed(bytes: &[u8]) -> bool
+pub fn has_feed(bytes: &[u8]) -> bool
     ensures { IsTrue result ↔ HasFeed bytes.now }
 {
     memchr(b'\n', bytes).is_some()
@@ -99,10 +99,27 @@ fn look_last(bytes: &[u8], stop: Stop) -> Result<Seen, Ending>
     }
 }
 
+/// Takes what one call of the source gives. So a source is waited for only where no whole head stands in the window.
+fn ask<S: Source>(window: &mut Window, source: &mut S) -> Option<Stop>
+    requires lacking { ¬ HoldsHead window.old.ahead }
+    requires room { length window.old.ahead < window.old.size }
+    ensures fills { Fills (S.left source.old) (S.left source.new) window.old window.new }
+    ensures size { window.new.size ≡ window.old.size }
+    ensures grows { IsNone result → window.old.taken < window.new.taken }
+    ensures few { window.new.taken ≤ input_limit }
+    ensures end { IsEnded result (S.left source.new) }
+    ensures limit { result ≡ Some Stop.InputLimit → window.new.taken ≡ input_limit }
+    ensures cause { HasCauseStop (S.faults source.old) (S.faults source.new) result }
+    ensures beside { S.beside source.new ≡ S.beside source.old }
+{
+    window.fill(source)
+}
+
 /// Takes bytes until a head stands at the front of the window.
 fn seek<S: Source>(window: &mut Window, source: &mut S) -> Result<Seen, Ending>
     requires room { head_limit < window.old.size }
     requires short { length window.old.ahead < head_limit }
+    requires lacking { ¬ HoldsHead window.old.ahead }
     requires few { window.old.taken ≤ input_limit }
     ensures fills { Fills (S.left source.old) (S.left source.new) window.old window.new }
     ensures ok { IfOk result (HasShown window.new.ahead) }
@@ -114,7 +131,7 @@ fn seek<S: Source>(window: &mut Window, source: &mut S) -> Result<Seen, Ending>
 {
     loop {
         let seen = window.ahead().len();
-        if let Some(stop) = window.fill(source) {
+        if let Some(stop) = ask(window, source) {
             return look_last(window.ahead(), stop);
         }
         if let Some(found) = glance(window.ahead(), seen) {
@@ -145,7 +162,7 @@ fn find_head<S: Source>(window: &mut Window, source: &mut S) -> Result<Seen, End
 }
 
 /// Takes bytes until so many stand in the window.
-fn wait_for<S: Source>(window: &mut Window, source: &mut S, need: usize) -> Option<Stop>
+pub fn wait_for<S: Source>(window: &mut Window, source: &mut S, need: usize) -> Option<Stop>
     requires room { need ≤ window.old.size }
     requires few { window.old.taken ≤ input_limit }
     ensures fills { Fills (S.left source.old) (S.left source.new) window.old window.new }

@@ -6,7 +6,7 @@ use httparse::Status;
 use httparse::spans::{EMPTY_HEADER_SPAN, Span, parse_request};
 
 /// The most fields of a head.
-const FIELD_LIMIT: usize = 64;
+pub const FIELD_LIMIT: usize = 64;
 
 /// The parts of a head, as places in the buffer.
 #[derive(Clone, Copy)]

@@ -45,6 +45,18 @@ impl Window {
         })
     }
 
+    /// A window that holds no bytes and has no memory.
+    pub fn empty(alloc: Global) -> Window
+        ensures { result ≡ record { ahead = []; taken = 0; size = 0 } }
+    {
+        Window {
+            bytes: Vec::new(alloc),
+            from: 0,
+            to: 0,
+            taken: 0,
+        }
+    }
+
     /// The bytes that were not given out yet.
     pub fn ahead(&self) -> &[u8]
         ensures { result.now ≡ self.now.ahead }
@@ -64,6 +76,13 @@ impl Window {
             lengthen(&mut self.bytes, size)?;
         }
         Ok(())
+    }
+
+    /// Counts the bytes that are taken from here on.
+    pub fn count_anew(&mut self)
+        ensures { self.new ≡ record self.old { taken = 0 } }
+    {
+        self.taken = 0;
     }
 
     /// Gives out so many bytes.

@@ -2,7 +2,7 @@
 use Rattle.std.proofs.Common.{List, ℕ, Some, None, refl, sym, subst}
 use Rattle.farm_io.specs.Lines.{HasFeed}
 use Rattle.http_door.specs.Finding.{IsLooked}
-use Rattle.http_door.proofs.Holding.{held_found, held_looked}
+use Rattle.http_door.proofs.Holding.{held_found, held_looked, lacks_looked}
 use Rattle.http_door.proofs.finding.find_head.Goals as goal
 
 pub returns-in-Some-clause-held : goal.returns-in-Some-clause-held
@@ -12,3 +12,7 @@ returns-in-Some-clause-held g c =
 pub returns-clause-held : goal.returns-clause-held
 returns-clause-held g c =
     λ q. absurd (held_looked c.args.window.now.ahead (λ f. subst (λ (z : List ℕ). IsLooked z None) c.ahead.ensures (c.in_default.ensures.fed (subst HasFeed (sym c.ahead.ensures) f))) q)
+
+pub seek-requires-clause-lacking : goal.seek-requires-clause-lacking
+seek-requires-clause-lacking g c =
+    lacks_looked c.args.window.now.ahead (λ f. subst (λ (z : List ℕ). IsLooked z None) c.ahead.ensures (c.in_default.ensures.fed (subst HasFeed (sym c.ahead.ensures) f)))

@@ -1,4 +1,7 @@
-use Rattle.std.proofs.Common.{◌∙◌, refl, ap, arith, length}
+use Rattle.std.proofs.Common.{◌∙◌, List, ℕ, None, refl, sym, ap, subst, arith, length, drop}
+use Rattle.farm_io.specs.Lines.{HasFeed}
+use Rattle.http_door.specs.Finding.{IsLooked}
+use Rattle.http_door.proofs.Holding.{lacks_more}
 use Rattle.http_door.proofs.Windows.{Fills-refl, Fills-trans}
 use Rattle.http_door.proofs.Findings.{last_ok, last_err, looked_ok, looked_err}
 use Rattle.http_door.proofs.finding.seek.Goals as goal
@@ -11,38 +14,46 @@ loop-stop-init g c =
       few = c.requires.few;
       room = c.requires.room;
       short = c.requires.short;
+      lacking = c.requires.lacking;
       later = omega arith;
       beside = refl;
     }
 
 pub returns-in-Some-clause-fills : goal.returns-in-Some-clause-fills
-returns-in-Some-clause-fills g c = Fills-trans _ _ _ _ _ _ c.loop-stop.invariant.fills c.fill.ensures.fills
+returns-in-Some-clause-fills g c = Fills-trans _ _ _ _ _ _ c.loop-stop.invariant.fills c.ask.ensures.fills
 
 pub returns-in-Some-clause-ok : goal.returns-in-Some-clause-ok
-returns-in-Some-clause-ok g c = last_ok c.fill.new.self _ _ _ c.ahead.ensures c.look_last.ensures
+returns-in-Some-clause-ok g c = last_ok c.ask.new.window _ _ _ c.ahead.ensures c.look_last.ensures
 
 pub returns-in-Some-clause-err : goal.returns-in-Some-clause-err
 returns-in-Some-clause-err g c =
-    last_err _ _ _ _ c.fill.new.self _ c.in-Some.stop _ c.ahead.ensures c.look_last.ensures c.loop-stop.invariant.later c.in-Some.ensures.end c.in-Some.ensures.cause c.in-Some.ensures.limit
+    last_err _ _ _ _ c.ask.new.window _ c.in-Some.stop _ c.ahead.ensures c.look_last.ensures c.loop-stop.invariant.later c.in-Some.ensures.end c.in-Some.ensures.cause c.in-Some.ensures.limit
 
 pub returns-in-Some-glance-clause-fills : goal.returns-in-Some-glance-clause-fills
-returns-in-Some-glance-clause-fills g c = Fills-trans _ _ _ _ _ _ c.loop-stop.invariant.fills c.fill.ensures.fills
+returns-in-Some-glance-clause-fills g c = Fills-trans _ _ _ _ _ _ c.loop-stop.invariant.fills c.ask.ensures.fills
 
 pub returns-in-Some-glance-clause-ok : goal.returns-in-Some-glance-clause-ok
-returns-in-Some-glance-clause-ok g c = looked_ok c.fill.new.self _ _ c.ahead-in-loop-stop.ensures (c.in-Some-glance.ensures.some refl)
+returns-in-Some-glance-clause-ok g c = looked_ok c.ask.new.window _ _ c.ahead-in-loop-stop.ensures (c.in-Some-glance.ensures.some refl)
 
 pub returns-in-Some-glance-clause-err : goal.returns-in-Some-glance-clause-err
-returns-in-Some-glance-clause-err g c = looked_err _ _ _ c.fill.new.self _ _ c.ahead-in-loop-stop.ensures (c.in-Some-glance.ensures.some refl)
+returns-in-Some-glance-clause-err g c = looked_err _ _ _ c.ask.new.window _ _ c.ahead-in-loop-stop.ensures (c.in-Some-glance.ensures.some refl)
 
 pub loop-stop-preserved : goal.loop-stop-preserved
 loop-stop-preserved g c =
     let i = c.loop-stop.invariant in
     record {
-      fills = Fills-trans _ _ _ _ _ _ i.fills c.fill.ensures.fills;
-      size = c.fill.ensures.size ∙ i.size;
-      few = c.fill.ensures.few;
-      room = omega (arith, c.fill.ensures.size, i.room);
+      fills = Fills-trans _ _ _ _ _ _ i.fills c.ask.ensures.fills;
+      size = c.ask.ensures.size ∙ i.size;
+      few = c.ask.ensures.few;
+      room = omega (arith, c.ask.ensures.size, i.room);
       short = omega (arith, c.in_default-glance.ensures.none refl, ap length c.ahead-in-loop-stop.ensures);
-      later = omega (arith, i.later, c.fill.ensures.cause.later);
-      beside = c.fill.ensures.beside ∙ i.beside;
+      lacking =
+          lacks_more c.loop-stop.window.ahead c.ask.ensures.fills.front c.ask.new.window.ahead c.ask.ensures.fills.whole i.lacking
+          (λ f.
+          subst (λ (z : List ℕ). IsLooked z None) c.ahead-in-loop-stop.ensures
+          (c.in_default-glance.ensures.fed
+          (subst (λ (z : List ℕ). HasFeed (drop (length z) c.ahead-in-loop-stop.result.now)) (sym c.ahead-seen.ensures)
+          (subst (λ (z : List ℕ). HasFeed (drop (length c.loop-stop.window.ahead) z)) (sym c.ahead-in-loop-stop.ensures) f))));
+      later = omega (arith, i.later, c.ask.ensures.cause.later);
+      beside = c.ask.ensures.beside ∙ i.beside;
     }

@@ -1,6 +1,7 @@
 use Rattle.std.proofs.Common.{◌≡◌, ◌-◌, ◌≤◌, ◌<◌, length}
 use Rattle.farm_io.specs.Lines.{input_limit}
 use Rattle.http_door.specs.Heads.{head_limit}
+use Rattle.http_door.specs.Requests.{HoldsHead}
 use Rattle.http_door.specs.WindowValue.{Fills}
 use Rattle.http_door.proofs.finding.seek.Given as goal
 
@@ -13,6 +14,7 @@ invariant-loop-stop g l =
       few : l.window.taken ≤ input_limit;
       room : head_limit < l.window.size;
       short : length l.window.ahead < head_limit;
+      lacking : ¬ HoldsHead l.window.ahead;
       later : g.S.Source.faults l.fn.source ≤ g.S.Source.faults l.source;
       beside : g.S.Source.beside l.source ≡ g.S.Source.beside l.fn.source;
     }

@@ -1,0 +1,154 @@
+-- What is found at the front of a window.
+use Rattle.std.proofs.Common.{ℕ, min, ◌≡◌, ◌≢◌, ◌+◌, ◌≤◌, ◌<◌, ◌⊎◌, inl, inr, List, ◌++◌, Option, Some, Result, Ok, Err, IfErr, IfOk, refl, sym, ap, ◌∙◌, subst, arith, length, take, drop}
+use Rattle.std.proofs.lemmas.Bool.{cases_lt}
+use Rattle.std.proofs.lemmas.List.{take_all, take-append-drop, drop-append-le, length-append, length-take, length-drop}
+use Rattle.httparse.specs.Grammar.{ResponseHead, HasNoResponse, MayBecomeResponse}
+use Rattle.farm_io.specs.declared.block.Stop.{Stop}
+use Rattle.farm_io.specs.declared.block.Stop.TheVariants as stop
+use Rattle.farm_io.specs.Streams.{Rose}
+use Rattle.farm_io.specs.BlockValue.{IsEnded, HasCauseStop}
+use Rattle.http_door.specs.declared.answers.heads.Seen.{Seen}
+use Rattle.http_door.specs.declared.answers.ending.AnswerEnding.{AnswerEnding}
+use Rattle.http_door.specs.declared.answers.ending.AnswerEnding.TheVariants as ending
+use Rattle.http_door.specs.declared.answers.fields.AnswerFraming.{AnswerFraming}
+use Rattle.http_door.specs.declared.answers.fields.AnswerFraming.TheVariants as framing
+use Rattle.http_door.specs.Heads.{head_limit}
+use Rattle.http_door.specs.AnswerHeads.{framing_of, Shows}
+use Rattle.http_door.specs.Answers.{IsHead, IsWithinHead, IsWithinBody, IsLongHead, EndsAs, IsFault}
+use Rattle.http_door.specs.AnswerFinding.{ShowsHead, HasShown, IsLooked, Stops, StopsOrShows, ended_by, IsSized, HasWhole}
+use Rattle.http_door.proofs.AnswerCutting.{head_more}
+
+take_min_at : (lim : ℕ) (bytes : List ℕ) → (length bytes < lim) ⊎ (lim ≤ length bytes) → take (min (length bytes) lim) bytes ≡ take lim bytes
+take_min_at lim bytes (inl h) =
+    take_all (min (length bytes) lim) bytes (omega arith) ∙ sym (take_all lim bytes (omega arith))
+take_min_at lim bytes (inr h) = let e : min (length bytes) lim ≡ lim = omega arith in rw e refl
+
+pub take_min : (lim : ℕ) (bytes : List ℕ) → take (min (length bytes) lim) bytes ≡ take lim bytes
+take_min lim bytes = take_min_at lim bytes (cases_lt (length bytes) lim)
+
+pub looked_more : (bytes front : List ℕ) → front ≡ take head_limit bytes → length bytes < head_limit → HasNoResponse front × MayBecomeResponse front → IsWithinHead bytes
+looked_more bytes front is short h =
+    let e : front ≡ bytes = is ∙ take_all head_limit bytes (omega (arith, short)) in
+    record { short = short; none = subst HasNoResponse e h.0; may = subst MayBecomeResponse e h.1 }
+
+pub looked_long : (bytes front : List ℕ) → front ≡ take head_limit bytes → head_limit ≤ length bytes → HasNoResponse front × MayBecomeResponse front → IsLongHead bytes
+looked_long bytes front is long h = record { long = long; none = subst HasNoResponse is h.0; may = subst MayBecomeResponse is h.1 }
+
+shown_more : (front more : List ℕ) (h : ResponseHead) (s : Seen) → ShowsHead front h s → ShowsHead (front ++ more) h s
+shown_more front more h s x = record {
+  is_head = subst (λ (z : List ℕ). IsHead (front ++ more) h z) (sym (drop-append-le s.len front more x.within)) (head_more front h (drop s.len front) more x.is_head);
+  short = x.short;
+  within = omega (arith, x.within, length-append front more);
+  code = x.code;
+  framing = x.framing;
+}
+
+-- a head that is seen stays seen as more bytes come
+pub shown_still : (bytes more all : List ℕ) (h : ResponseHead) (s : Seen) → all ≡ bytes ++ more → ShowsHead bytes h s → ShowsHead all h s
+shown_still bytes more all h s e x = subst (λ (z : List ℕ). ShowsHead z h s) (sym e) (shown_more bytes more h s x)
+
+seen_front : (front : List ℕ) (h : ResponseHead) (s : Seen) → length front ≤ head_limit → Shows front h s → ShowsHead front h s
+seen_front front h s short x = record {
+  is_head = record { reads = x.reads; short = omega (arith, x.len, x.within, short); few = x.few };
+  short = omega (arith, x.within, short);
+  within = x.within;
+  code = x.code;
+  framing = x.framing;
+}
+
+pub looked_head : (bytes front : List ℕ) (h : ResponseHead) (s : Seen) → front ≡ take head_limit bytes → Shows front h s → ShowsHead bytes h s
+looked_head bytes front h s is x =
+    let short : length front ≤ head_limit = omega (arith, ap length is, length-take head_limit bytes) in
+    shown_still front (drop head_limit bytes) bytes h s (sym (take-append-drop head_limit bytes) ∙ ap (λ z. z ++ drop head_limit bytes) (sym is)) (seen_front front h s short x)
+
+fault_cut : (e : AnswerEnding) → IsFault e → ¬ (e ≡ ending.Cut)
+fault_cut e h is = subst IsFault is h
+
+fault_read : (e : AnswerEnding) → IsFault e → ¬ (e ≡ ending.ReadFault)
+fault_read e h is = subst IsFault is h
+
+-- a fault of the bytes stops the reader
+pub refused : (left : Option (List ℕ)) (before now : ℕ) (ahead : List ℕ) (e : AnswerEnding) → EndsAs e ahead → IsFault e → Stops left before now ahead e
+refused left before now ahead e h r = record {
+  ends = h;
+  end = λ is. absurd (fault_cut e r is);
+  fault = λ is. absurd (fault_read e r is);
+}
+
+pub looked_err : (left : Option (List ℕ)) (before now : ℕ) (ahead bytes : List ℕ) (r : Result Seen AnswerEnding) → bytes ≡ ahead → IsLooked bytes (Some r) → IfErr r (Stops left before now ahead)
+looked_err left before now ahead bytes (Ok s) e h = tt
+looked_err left before now ahead bytes (Err end) e h = refused left before now ahead end (subst (EndsAs end) e h.0) h.1
+
+pub looked_ok : (ahead bytes : List ℕ) (r : Result Seen AnswerEnding) → bytes ≡ ahead → IsLooked bytes (Some r) → IfOk r (HasShown ahead)
+looked_ok ahead bytes (Ok s) e h = subst (λ (z : List ℕ). HasShown z s) e h
+looked_ok ahead bytes (Err end) e h = tt
+
+-- a count that rose since has risen
+pub rose_from : (before was now : ℕ) → before ≤ was → Rose was now → Rose before now
+rose_from before was now le h = omega (arith, le, h)
+
+-- the bytes stop within a head
+pub stopped_head : (left : Option (List ℕ)) (before was now : ℕ) (ahead : List ℕ) (s : Stop) → IsWithinHead ahead → before ≤ was
+    → IsEnded (Some s) left → HasCauseStop was now (Some s) → s ≢ stop.InputLimit → Stops left before now ahead (ended_by s)
+stopped_head left before was now ahead stop.End h le end cause limit = record { ends = inl h; end = λ e. end refl; fault = λ e. cc }
+stopped_head left before was now ahead stop.ReadFault h le end cause limit =
+    record { ends = inl h; end = λ e. cc; fault = λ e. rose_from before was now le (cause.failed refl) }
+stopped_head left before was now ahead stop.InputLimit h le end cause limit = absurd (limit refl)
+
+-- a head or a fault that stands at the front where the bytes stop, or neither
+pub last_ok : (ahead bytes : List ℕ) (s : Stop) (r : Result Seen AnswerEnding) → bytes ≡ ahead → StopsOrShows bytes s r → IfOk r (HasShown ahead)
+last_ok ahead bytes s r e (inl h) = looked_ok ahead bytes r e h
+last_ok ahead bytes s r e (inr h) = subst (λ (z : Result Seen AnswerEnding). IfOk z (HasShown ahead)) (sym h.1) tt
+
+pub last_err : (left : Option (List ℕ)) (before was now : ℕ) (ahead bytes : List ℕ) (s : Stop) (r : Result Seen AnswerEnding) → bytes ≡ ahead → StopsOrShows bytes s r → before ≤ was
+    → IsEnded (Some s) left → HasCauseStop was now (Some s) → s ≢ stop.InputLimit → IfErr r (Stops left before now ahead)
+last_err left before was now ahead bytes s r e (inl h) le end cause limit = looked_err left before now ahead bytes r e h
+last_err left before was now ahead bytes s r e (inr h) le end cause limit =
+    subst (λ (z : Result Seen AnswerEnding). IfErr z (Stops left before now ahead)) (sym h.1)
+    (stopped_head left before was now ahead s (subst IsWithinHead e h.0) le end cause limit)
+
+-- want of memory may come at any time
+pub no_memory : (left : Option (List ℕ)) (before now : ℕ) (ahead : List ℕ) → Stops left before now ahead ending.NoMemory
+no_memory left before now ahead = record { ends = tt; end = λ e. cc; fault = λ e. cc }
+
+-- the bytes stop within a body
+pub stopped_body : (left : Option (List ℕ)) (before was now : ℕ) (ahead : List ℕ) (s : Stop) → IsWithinBody ahead → before ≤ was
+    → IsEnded (Some s) left → HasCauseStop was now (Some s) → s ≢ stop.InputLimit → Stops left before now ahead (ended_by s)
+stopped_body left before was now ahead stop.End h le end cause limit = record { ends = inr h; end = λ e. end refl; fault = λ e. cc }
+stopped_body left before was now ahead stop.ReadFault h le end cause limit =
+    record { ends = inr h; end = λ e. cc; fault = λ e. rose_from before was now le (cause.failed refl) }
+stopped_body left before was now ahead stop.InputLimit h le end cause limit = absurd (limit refl)
+
+err_is : (e f : AnswerEnding) (r : Result ℕ AnswerEnding) → r ≡ Err e → r ≡ Err f → e ≡ f
+err_is e f r h k = cc
+
+pub no_ok : (n : ℕ) (e : AnswerEnding) (r : Result ℕ AnswerEnding) → r ≡ Err e → r ≡ Ok n → ⊥
+no_ok n e r h k = cc
+
+fault_at : (bytes : List ℕ) (e f : AnswerEnding) → e ≡ f → EndsAs f bytes × IsFault f → EndsAs e bytes × IsFault e
+fault_at bytes e f is h = subst (λ (z : AnswerEnding). EndsAs z bytes × IsFault z) (sym is) h
+
+pub sized_err_at : (bytes : List ℕ) (h : ResponseHead) (rest : List ℕ) (e : AnswerEnding) (f : AnswerFraming) → f ≡ framing_of h → IsHead bytes h rest → IsSized f (Err e) → EndsAs e bytes × IsFault e
+sized_err_at bytes h rest e (framing.Sized n) is x s = absurd (no_ok n e (Err e) refl s)
+sized_err_at bytes h rest e framing.BadLength is x s = fault_at bytes e ending.BadHead (err_is e _ (Err e) refl s) (inr (h, rest, x, sym is), tt)
+sized_err_at bytes h rest e (framing.TooLong n) is x s = fault_at bytes e (ending.TooLong n) (err_is e _ (Err e) refl s) ((h, rest, x, sym is), tt)
+sized_err_at bytes h rest e (framing.Status c) is x s = fault_at bytes e (ending.Status c) (err_is e _ (Err e) refl s) ((h, rest, x, sym is), tt)
+
+-- a head that says no fit length stops the reader
+pub sized_err : (left : Option (List ℕ)) (before now : ℕ) (ahead : List ℕ) (s : Seen) (e : AnswerEnding) → HasShown ahead s → IsSized s.framing (Err e) → Stops left before now ahead e
+sized_err left before now ahead s e x h =
+    let r = sized_err_at ahead x.0 (drop s.len ahead) e s.framing x.1.framing x.1.is_head h in
+    refused left before now ahead e r.0 r.1
+
+-- a head and its body, where enough bytes stand behind the head
+pub shown_whole : (bytes : List ℕ) (s : Seen) (n : ℕ) → (h : ResponseHead) × ShowsHead bytes h s × (framing_of h ≡ framing.Sized n) → s.len + n ≤ length bytes → HasWhole bytes (record { seen = s; len = n })
+shown_whole bytes s n h le = record { head = h.0; shows = h.1; framing = h.2; within = le }
+
+pub shown_more_whole : (bytes more all : List ℕ) (s : Seen) (n : ℕ) → all ≡ bytes ++ more → (h : ResponseHead) × ShowsHead bytes h s × (framing_of h ≡ framing.Sized n) → s.len + n ≤ length all → HasWhole all (record { seen = s; len = n })
+shown_more_whole bytes more all s n e h le = record { head = h.0; shows = shown_still bytes more all h.0 s e h.1; framing = h.2; within = le }
+
+-- a head whose body is not whole
+pub shown_within : (bytes more all : List ℕ) (s : Seen) (n : ℕ) → all ≡ bytes ++ more → (h : ResponseHead) × ShowsHead bytes h s × (framing_of h ≡ framing.Sized n) → length all < s.len + n → IsWithinBody all
+shown_within bytes more all s n e h le =
+    let x = shown_still bytes more all h.0 s e h.1 in
+    record { head = h.0; rest = drop s.len all; len = n; is_head = x.is_head; framing = h.2; short = omega (arith, x.within, le, length-drop s.len all) }

@@ -1,0 +1,29 @@
+use Rattle.std.proofs.Common.{refl, ap, arith, length}
+use Rattle.http_door.proofs.Windows.{Fills-refl, Fills-more, Fills-trans}
+use Rattle.http_door.proofs.AnswerFindings.{no_memory, shown_whole, shown_more_whole}
+use Rattle.http_door.proofs.answers.finding.take_body.Goals as goal
+
+pub returns-then-ahead-need-clause-fills : goal.returns-then-ahead-need-clause-fills
+returns-then-ahead-need-clause-fills g c = Fills-refl _ _
+
+pub returns-then-ahead-need-clause-ok : goal.returns-then-ahead-need-clause-ok
+returns-then-ahead-need-clause-ok g c = shown_whole _ _ _ c.requires.shows (omega (arith, c.if-ahead-need.true, ap length c.ahead.ensures))
+
+pub returns-in-Err-clause-fills : goal.returns-in-Err-clause-fills
+returns-in-Err-clause-fills g c = Fills-more _ _ _ c.grow.ensures.ahead c.grow.ensures.taken c.grow.ensures.more
+
+pub returns-in-Err-clause-err : goal.returns-in-Err-clause-err
+returns-in-Err-clause-err g c = no_memory _ _ _ _
+
+pub returns-in-Some-clause-fills : goal.returns-in-Some-clause-fills
+returns-in-Some-clause-fills g c =
+    Fills-trans _ _ _ _ _ _ (Fills-more _ _ _ c.grow.ensures.ahead c.grow.ensures.taken c.grow.ensures.more) c.wait_for.ensures.fills
+
+pub returns-clause-fills : goal.returns-clause-fills
+returns-clause-fills g c =
+    Fills-trans _ _ _ _ _ _ (Fills-more _ _ _ c.grow.ensures.ahead c.grow.ensures.taken c.grow.ensures.more) c.wait_for.ensures.fills
+
+pub returns-clause-ok : goal.returns-clause-ok
+returns-clause-ok g c =
+    let f = Fills-trans _ _ _ c.args.window.now _ c.wait_for.new.window (Fills-more (g.S.Source.left c.args.source.now) _ _ c.grow.ensures.ahead c.grow.ensures.taken c.grow.ensures.more) c.wait_for.ensures.fills in
+    shown_more_whole _ f.front _ c.args.seen c.args.len f.whole c.requires.shows (c.in_default-wait_for.ensures.whole refl)

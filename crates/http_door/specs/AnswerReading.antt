@@ -1,0 +1,44 @@
+-- What one call of a reader of responses reads.
+use Rattle.std.specs.Prelude.{◌≡◌, ℕ, ◌≤◌, List, ◌++◌, length, take, drop, Option, Result, Ok, Err}
+use Rattle.std.specs.Io.KnownBytes.{Consumes, IsAtEnd}
+use Rattle.farm_io.specs.Streams.{Rose}
+use Rattle.http_door.specs.declared.answers.ending.AnswerEnding.{AnswerEnding}
+use Rattle.http_door.specs.declared.answers.ending.AnswerEnding.TheVariants as ending
+use Rattle.http_door.specs.declared.answers.reader.Given.{Given}
+use Rattle.http_door.specs.declared.answers.reader.Given.TheVariants as given
+use Rattle.http_door.specs.Answers.{Answer, IsAnswer, EndsAs}
+use Rattle.http_door.specs.WindowValue.{WindowValue}
+use Rattle.http_door.specs.AnswerReaderValue.{ReaderValue}
+
+abbrev pub answer_with : ℕ → List ℕ → Answer
+answer_with code body = record { code = code; body = body }
+
+-- Of the bytes that were held and taken the first response is given, and the rest is left; or all are left.
+abbrev pub Gives : List ℕ → List ℕ → List ℕ → Result ℕ AnswerEnding → Type 0
+Gives bytes rest body (Ok code) = IsAnswer bytes (answer_with code body) rest
+Gives bytes rest body (Err e) = EndsAs e bytes × (rest ≡ bytes)
+
+-- A front of what the source had left was taken, behind what the reader held. Where the bytes were cut, the source has
+-- nothing left.
+pub record Reads (left left' : Option (List ℕ)) (old new : ReaderValue) (result : Result ℕ AnswerEnding) : Type 0 where
+  pub front : List ℕ
+  pub took : Consumes left left' front
+  pub gives : Gives (old.ahead ++ front) new.ahead new.body result
+  pub end : result ≡ Err ending.Cut → IsAtEnd left'
+
+-- the same over a window, where the body is still part of what is left
+abbrev pub GivesIn : List ℕ → List ℕ → Given → Type 0
+GivesIn bytes ahead (given.Answer code n) =
+    (n ≤ length ahead) × IsAnswer bytes (answer_with code (take n ahead)) (drop n ahead)
+GivesIn bytes ahead (given.Ended e) = EndsAs e bytes × (ahead ≡ bytes)
+
+pub record ReadsIn (left left' : Option (List ℕ)) (old new : WindowValue) (result : Given) : Type 0 where
+  pub front : List ℕ
+  pub took : Consumes left left' front
+  pub gives : GivesIn (old.ahead ++ front) new.ahead result
+  pub end : result ≡ given.Ended ending.Cut → IsAtEnd left'
+
+-- the count of the source's faults never falls, and rises where the source failed
+pub record HasCauseRead (before now : ℕ) (result : Result ℕ AnswerEnding) : Type 0 where
+  pub later : before ≤ now
+  pub failed : result ≡ Err ending.ReadFault → Rose before now
