@@ -86,7 +86,7 @@ def main():
     program, numbers = program_and_numbers(sys.argv[1:])
     long, short = (numbers + [48, 200][len(numbers):])[:2]
     if not os.access(program, os.X_OK):
-        print(f"skipped: {program} is not there; build it by 'rt run' in crates/farm, or name another one")
+        print(f"skipped: {program} is not there; build it by './farm --build farm', or name another one")
         return 0
     os.makedirs(OUT, exist_ok=True)
     compare(program, "long runs", contest("long", model.LOOP, long, 0.5), long)

@@ -156,7 +156,7 @@ def main():
     program = os.path.abspath(words.pop(0)) if words and not words[0].isdigit() else compare.FARM
     submissions, seed = ([int(word) for word in words] + [500, 1][len(words):])[:2]
     if not os.access(program, os.X_OK):
-        print(f"skipped: {program} is not there; build it by 'rt run' in crates/farm, or name another one")
+        print(f"skipped: {program} is not there; build it by './farm --build farm', or name another one")
         return 0
     os.makedirs(OUT, exist_ok=True)
     folder, ending, short, large = (os.path.join(OUT, name) for name in ["contest", "ending", "short", "large"])

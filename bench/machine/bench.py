@@ -61,7 +61,7 @@ def run(interpreter, image, stdin=b""):
 def main():
     rounds = int(sys.argv[1]) if len(sys.argv) > 1 else 5
     if not os.access(RVRUN, os.X_OK):
-        print(f"skipped: {RVRUN} is not there; build it by 'rt run' in crates/rvrun, or name it in RVRUN")
+        print(f"skipped: {RVRUN} is not there; build it by './farm --build rvrun', or name it in RVRUN")
         return
     build()
     others = ["cached", "threaded", "paged"]

@@ -5,7 +5,7 @@ set -eu
 here=$(cd "$(dirname "$0")" && pwd)
 out=$here/../out
 run=${RVRUN:-$here/../../crates/rvrun/out/rvrun}
-[ -x "$run" ] || { echo "skipped: $run is not there; build it by 'rt run' in crates/rvrun, or name it in RVRUN"; exit 0; }
+[ -x "$run" ] || { echo "skipped: $run is not there; build it by './farm --build rvrun', or name it in RVRUN"; exit 0; }
 "$here/../programs/build.sh" || { [ $? = 77 ] && exit 0; exit 1; }
 for name in cached threaded paged; do gcc -O2 -Wall -Wextra -o "$out/$name" "$here/$name.c"; done
 cat "$here"/../programs/*.c >"$out/source.txt"

@@ -83,7 +83,7 @@ def peak(interpreter, data, code):
 def main():
     rounds = int(sys.argv[1]) if len(sys.argv) > 1 else 3
     if not os.access(RVRUN, os.X_OK):
-        print(f"skipped: {RVRUN} is not there; build it by 'rt run' in crates/rvrun, or name it in RVRUN")
+        print(f"skipped: {RVRUN} is not there; build it by './farm --build rvrun', or name it in RVRUN")
         return
     os.makedirs(OUT, exist_ok=True)
     for name in ["cached", "threaded", "paged", "peak"]:

@@ -72,7 +72,7 @@ def measure(plain, rounds, name, tests, size, answer):
 def main():
     rounds = int(sys.argv[1]) if len(sys.argv) > 1 else 5
     if not os.access(PROGRAM, os.X_OK):
-        sys.exit(f"{PROGRAM} is not there; build it by 'rt run' in crates/package_info")
+        sys.exit(f"{PROGRAM} is not there; build it by './farm --build package_info'")
     os.makedirs(OUT, exist_ok=True)
     plain = os.path.join(OUT, "plain")
     subprocess.run(["gcc", "-O2", "-Wall", "-Wextra", "-o", plain, os.path.join(HERE, "plain.c")], check=True)

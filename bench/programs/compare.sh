@@ -6,7 +6,7 @@ here=$(cd "$(dirname "$0")" && pwd)
 out=$here/../out
 run=${RVRUN:-$here/../../crates/rvrun/out/rvrun}
 command -v qemu-riscv32 >/dev/null || { echo "skipped: qemu-riscv32 is not installed (Debian: apt-get install qemu-user)"; exit 0; }
-[ -x "$run" ] || { echo "skipped: $run is not there; build it by 'rt run' in crates/rvrun, or name it in RVRUN"; exit 0; }
+[ -x "$run" ] || { echo "skipped: $run is not there; build it by './farm --build rvrun', or name it in RVRUN"; exit 0; }
 "$here/build.sh" || { [ $? = 77 ] && exit 0; exit 1; }
 
 head -c 100000 /dev/zero | tr '\0' 'x' >"$out/long.txt"

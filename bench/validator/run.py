@@ -6,7 +6,7 @@
 The texts are pairs of an answer and an output of SIZE bytes (16 MiB if none is said): whole numbers, floats with a
 tolerance, words. The two programs take turns, TURNS times (5), each reading both texts from files; the least processor
 time of each counts. Printed are MB a second and the ratio (above 1: faster than the C++ program). `validate` is built
-by `rt run` in `crates/validate`, the other one here by `g++`.
+by `./farm --build validate`, the other one here by `g++`.
 """
 
 import os
@@ -39,7 +39,7 @@ def main():
     size, turns = words[0] if words else "16777216", int(words[1]) if len(words) > 1 else 5
     os.makedirs(OUT, exist_ok=True)
     if not os.path.exists(OURS):
-        sys.exit(f"{OURS} is not there: build it by `rt run` in crates/validate")
+        sys.exit(f"{OURS} is not there: build it by `./farm --build validate`")
     subprocess.run(["g++", "-O2", "-std=c++17", "-o", THEIRS, os.path.join(HERE, "validator.cc")], check=True)
     subprocess.run([sys.executable, os.path.join(HERE, "make_texts.py"), OUT, size], check=True)
     print(f"{'texts':8}{'proved MB/s':>13}{'C++ MB/s':>11}{'ratio':>8}")
