@@ -1,5 +1,8 @@
 //! One test of one submission: its program is run on the test's input within limits, and its output is checked, by the
 //! default output validator or by a program of the problem's own.
+//!
+//! Where things stand: `case.rt` a case and the trait `Cases`, `image.rt` what is an image and how it is loaded,
+//! `running.rt` is `run_case`; `specs/Values.antt` says what a run gives.
 #![tactic(auto)]
 
 mod case;

@@ -1,4 +1,9 @@
 //! The grammar of event lines, and the texts of events and replies.
+//!
+//! Where things stand: `lines.rt` reads a line, by `jury.rt` and `hosts.rt` for theirs, over `words.rt`,
+//! `fronts.rt` (the name or number that stands first), `alone.rt` (lines of one name, number or kind), `lists.rt`
+//! and `numbers.rt`; `replies.rt` writes replies, `rows.rt` the rows of boards and matrices, `tables.rt` tables of
+//! verdicts, `events.rt` events, over `texts.rt`; `laws.rt` says that what is written of an event is read back.
 #![tactic(auto)]
 
 mod alone;

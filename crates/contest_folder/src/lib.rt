@@ -1,5 +1,12 @@
 //! Contests: what the files of a folder say of a contest's settings, problems and submissions, or the first fault
 //! among them; and the case of each judging and test.
+//!
+//! Where things stand: `reading.rt` has `read_contest`; `problems.rt` the packages, `lines.rt` the lines of
+//! `submissions.txt`, `images.rt` the images, `files.rt` a file of the folder, `roster.rt` what was read,
+//! `cases.rt` the case of each task, `texts.rt` the text of each fault.
+//!
+//! To add a fault, write it in `faults.rt`, in the file of `specs/` that has its subject, and in
+//! the file above that looks for it.
 #![tactic(auto)]
 
 mod cases;

@@ -4,6 +4,9 @@
 //!
 //! White space is space, tab, LF, VT, FF and CR. Case folding maps A to Z to a to z. No call takes
 //! memory.
+//!
+//! Where things stand: `cuts.rt` (white space and tokens), `flags.rt`, `agreement.rt` (one pair of tokens),
+//! `walk.rt` (both texts).
 #![tactic(auto)]
 
 mod agreement;

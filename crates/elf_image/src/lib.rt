@@ -1,5 +1,8 @@
 //! ELF32 executables for RISC-V: where the program begins, and which bytes of the file stand where in memory. After
 //! the System V ABI, "Object Files" and "Program Loading and Dynamic Linking". No call takes memory.
+//!
+//! Where things stand: `elf.rt` has `read_elf`, `fields.rt` the header's fields, `segment.rt` the program headers,
+//! `fault.rt` why a file is no executable.
 #![tactic(auto)]
 
 mod elf;

@@ -2,6 +2,9 @@
 //!
 //! A [`Tree`] gives the bytes of the file at a path and the entries of a folder, and counts its faults. Trees in memory serve programs
 //! without an outside and tests, and [`DiskTree`] stands over the files of `std`.
+//!
+//! Where things stand: `reads.rt` the trait; `entries.rt` entries and lists of files; `listing.rt` what a folder of
+//! such files holds; `memory.rt` and `disk.rt` the trees.
 #![tactic(auto)]
 
 mod disk;

@@ -7,6 +7,13 @@
 //!
 //! The cuts are defined over whole lists of bytes in `specs/Requests.antt` and `specs/Answers.antt`; their laws are
 //! the contracts of the functions of `laws.rt` and `answers/laws.rt`, which do nothing.
+//!
+//! Where things stand: `reader.rt` has `HttpReader`, over `finding.rt` (when a head is looked for, and how a body
+//! is waited for), `heads.rt` (a head, by `httparse`), `fields.rt` (what its fields say of the body and the
+//! connection) and `window.rt` (the bytes that were taken); `responses.rt` is `write_response`, `refusals.rt` the
+//! fixed responses, `ending.rt` why a reader gives no more. `specs/Requests.antt` is the cut of bytes into
+//! requests, `laws.rt` its laws, `worked.rt` the definitions at examples. The folder `answers` has the same for
+//! responses: its `AnswerReader` shares the window, the fields and how a body is waited for.
 #![tactic(auto)]
 
 mod answers;

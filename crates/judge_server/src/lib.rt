@@ -2,6 +2,16 @@
 //!
 //! [`read_request`] finds the event of a request by the table of [`Paths`], and [`serve_on`] answers the requests of a
 //! connection by a [`Replier`], until it ends as a [`ConnEnd`] says. [`serve_conn`] does so on a running board.
+//!
+//! Where things stand: `paths.rt` the table of paths and its router, `routes.rt` the route of a request,
+//! `asking.rt` its event, `answering.rt` responses; `replier.rt` what answers events, and how those of a request
+//! are entered, `serving.rt` is `serve_on`, which answers a connection by whatever answers events, and `calling.rt`
+//! is `serve_conn`, which does so by calls of a board, on a pass; `ends.rt` how a connection ends.
+//! `specs/Exchanges.antt` is what is entered and answered for a request, `specs/Serving.antt` what for a
+//! connection, `specs/PassCalls.antt` what that makes of a pass.
+//!
+//! To add a route, write its path in `specs/Table.antt` and `paths.rt`, its method and id in `specs/Routes.antt`
+//! and `routes.rt`, and its event in `specs/Conversation.antt` and `asking.rt`.
 #![tactic(auto)]
 
 mod answering;

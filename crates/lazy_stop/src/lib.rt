@@ -7,6 +7,10 @@
 //! A row is seen as a rule and a list of cells. Its verdict is settled once every way to fill its
 //! empty cells has that verdict. [`Row`] never forms one of these ways: it keeps its best filled cell,
 //! its first empty cell and three kinds of its rule, and answers in constant time.
+//!
+//! Where things stand: `row.rt` is `Row` and its closed form, `cells.rt` its cells of a byte each, `extremes.rt`
+//! the kinds of a rule that decide, `laws.rt` the laws of lazy stopping as contracts of empty functions;
+//! `matters_before` says up to where judging goes on.
 #![tactic(auto)]
 
 mod cells;

@@ -1,5 +1,10 @@
 //! Leases in the order of one of their numbers and then of their tasks: a balanced search tree. A change
 //! takes no memory: nodes come from a pool, and go back to it.
+//!
+//! Where things stand: `tree.rt` has the calls and the pool of nodes, `node.rt` a tree and its nodes, `keys.rt` the
+//! three orders, `lookup.rt` finds and counts, `change.rt` puts in and takes out, `balance.rt` keeps the sides of a
+//! node even; `proofs/Rises.antt`, `Ranks.antt` and `Bounds.antt` say where in leases that are in order something
+//! is found, and how much.
 #![tactic(auto)]
 
 mod balance;

@@ -1,4 +1,9 @@
 //! A file of records on a disk: each record is on the disk before it is acknowledged.
+//!
+//! Where things stand: `disk.rt` the trait, `memory.rt` and `file.rt` the disks, `durable.rt` one write and its
+//! sync, `records.rt` records; `specs/Model.antt` is what a crash may leave, and `Held.antt` what a file holds.
+//! `proofs/Moments.antt` puts moments together, `Images.antt` says what is left of one write, `Steps.antt` what the
+//! two writes of a batch leave.
 #![tactic(auto)]
 
 mod disk;

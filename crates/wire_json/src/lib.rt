@@ -1,4 +1,13 @@
 //! The JSON bodies of the judge server: what a request's body says, and the body of each reply.
+//!
+//! Where things stand: `routes.rt` what a request may ask for, `bodies.rt` what its body says, `reading.rt` the
+//! lists of fields, over `fields.rt`, which reads one field, and `faults.rt`, what is wrong with a body;
+//! `replies.rt` the JSON of each reply, `rows.rt` the rows of boards and matrices, `answers.rt` names and answers
+//! as text.
+//!
+//! To add a reply write a line in `specs/Replies.antt` and one in `proofs/Plain.antt`, and an arm in `replies.rt`.
+//!
+//! To add a route, a line in `specs/Bodies.antt` and an arm in `reading.rt`.
 #![tactic(auto)]
 
 mod answers;
