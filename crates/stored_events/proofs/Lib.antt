@@ -1,0 +1,3 @@
+pub mod KeptLaws
+pub mod Replays
+pub mod Openings
