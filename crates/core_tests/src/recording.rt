@@ -1,6 +1,6 @@
 //! A bench in memory and a gate that write down what a host does.
 
-ghost use Rattle.std.specs.Prelude.{◌≡◌, [], ◌+◌, ◌≤◌, ◌^◌, None, true, unwrap_or};
+ghost use Rattle.std.specs.Prelude.{◌≡◌, [], ◌+◌, ◌≤◌, ◌^◌, None, true, unwrap_or, ⊤};
 ghost use Rattle.std.specs.Option.{option_map};
 ghost use Rattle.default_validator.specs.Accepts.{wide_token_of};
 ghost use Rattle.case_run.specs.Images.{is_image};
@@ -117,6 +117,8 @@ impl<'a> Bench for MemoryBench<'a> {
     ghost posts = { λ b. b.posts };
 
     ghost heard = { λ b. heard_at_claim b.heard };
+
+    ghost sound = { λ b. ⊤ };
 
     fn claim(&mut self) -> Claimed {
         write_down(self.steps, Step::Claim);

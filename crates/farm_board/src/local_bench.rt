@@ -1,4 +1,4 @@
-ghost use Rattle.std.specs.Prelude.{◌≡◌, ◌≢◌, ◌≤◌, ◌<◌, ◌+◌, ◌^◌, ℕ, List, [], None, Some, Ok, Err, true, false, unwrap_or};
+ghost use Rattle.std.specs.Prelude.{◌≡◌, ◌≢◌, ◌≤◌, ◌<◌, ◌+◌, ◌^◌, ℕ, List, [], None, Some, Ok, Err, true, false, unwrap_or, ⊤};
 ghost use Rattle.std.specs.Option.{option_map};
 ghost use Rattle.std.specs.List.{list_all};
 ghost use Rattle.farm_kinds.specs.declared.kinds.Kind.{Kind as KindValue};
@@ -109,6 +109,8 @@ impl<'a, W: Wait, C: Cases + Drop, A: Admission> Bench for LocalBench<'a, W, C, 
     ghost posts = { λ b. b.posts };
 
     ghost heard = { λ b. heard_at_claim b.heard };
+
+    ghost sound = { λ b. ⊤ };
 
     /// Claims a task of the board: one call of it, whose reply is answered.
     fn claim(&mut self) -> Claimed

@@ -54,6 +54,9 @@ pub trait Bench {
     ghost posts: { Self → ℕ };
     /// What the last call answered, where this was nothing or a refusal.
     ghost heard: { Self → Option Heard };
+    /// What a host's work keeps: each claim that is made while nothing was heard and no task is pending, and each post that
+    /// is made while nothing was heard.
+    ghost sound: { Self → Type 0 };
 
     /// Asks for a task, which is then the pending one. Any other answer leaves none pending.
     fn claim(&mut self) -> Claimed
@@ -63,6 +66,7 @@ pub trait Bench {
         ensures posts { posts self.new ≡ posts self.old }
         ensures pending { IsPending result (pending self.new) }
         ensures heard { heard self.new ≡ heard_at_claim result }
+        ensures sound { heard self.old ≡ None → pending self.old ≡ None → sound self.old → sound self.new }
         ensures later { faults self.old ≤ faults self.new }
         ensures link { result ≡ Claimed.Refused BenchFault.Link → Rose (faults self.old) (faults self.new) }
         ensures fixed { fixed self.new ≡ fixed self.old };
@@ -82,6 +86,7 @@ pub trait Bench {
         ensures posts { posts self.new ≡ posts self.old + 1 }
         ensures pending { pending self.new ≡ None }
         ensures heard { heard self.new ≡ heard_at_post result }
+        ensures sound { heard self.old ≡ None → sound self.old → sound self.new }
         ensures later { faults self.old ≤ faults self.new }
         ensures link { result ≡ Err BenchFault.Link → Rose (faults self.old) (faults self.new) }
         ensures no_host { (name : List ℕ) → result ≢ Ok (replies.NoHost name) }

@@ -43,6 +43,7 @@ pub fn host_loop<B: Bench, G: Gate>(
     requires silent { B.heard bench.old ≡ None }
     requires fuel { fuel ≤ 2 ^ 32 }
     ensures idle { result ≡ HostEnd.Idle → B.heard bench.new ≡ Some Nothing }
+    ensures asked { result ≡ HostEnd.Idle → 1 ≤ B.claims bench.new }
     ensures died { (point : PointValue) (turn : ℕ) → result ≡ HostEnd.Died point turn → G.may_answer gate.now host point turn Go.Die ≡ true }
     ensures turn { (point : PointValue) (turn : ℕ) → result ≡ HostEnd.Died point turn → turn ≡ B.claims bench.new }
     ensures spent { result ≡ HostEnd.Fuel → B.claims bench.new ≡ fuel }
@@ -53,6 +54,7 @@ pub fn host_loop<B: Bench, G: Gate>(
     ensures posts { B.posts bench.new + B.tasks bench.old + left_over result ≡ B.posts bench.old + B.tasks bench.new }
     ensures passed { (turn : ℕ) → 1 ≤ turn → turn < B.claims bench.new → MayPass (G.may_answer gate.now) host turn }
     ensures all_passed { result ≡ HostEnd.Fuel → (turn : ℕ) → 1 ≤ turn → turn ≤ fuel → MayPass (G.may_answer gate.now) host turn }
+    ensures sound { B.pending bench.old ≡ None → B.sound bench.old → B.sound bench.new }
     ensures later { B.faults bench.old ≤ B.faults bench.new }
     ensures fixed { B.fixed bench.new ≡ B.fixed bench.old }
 {
@@ -73,6 +75,7 @@ fn take_turn<B: Bench, G: Gate>(
     turn: u64,
 ) -> Result<(), HostEnd>
     requires turn { turn ≡ B.claims bench.old + 1 }
+    requires silent { B.heard bench.old ≡ None }
     requires room { turn ≤ 2 ^ 32 }
     ensures claims { B.claims bench.new ≡ turn }
     ensures goes_on { IfOk result (λ _. (B.heard bench.new ≡ None) × (B.tasks bench.new ≡ B.tasks bench.old + 1)
@@ -80,6 +83,8 @@ fn take_turn<B: Bench, G: Gate>(
     ensures stops { IfErr result (λ end. IsCause (G.may_answer gate.now) host turn (B.heard bench.new) end
         × Handed end (B.tasks bench.old + 1) (B.tasks bench.new)
         × (B.posts bench.new + B.tasks bench.old + left_over end ≡ B.posts bench.old + B.tasks bench.new)) }
+    ensures sound { B.pending bench.old ≡ None → B.sound bench.old → B.sound bench.new }
+    ensures bare { IfOk result (λ _. B.pending bench.new ≡ None) }
     ensures later { B.faults bench.old ≤ B.faults bench.new }
     ensures fixed { B.fixed bench.new ≡ B.fixed bench.old }
 {
@@ -93,12 +98,14 @@ fn take_turn<B: Bench, G: Gate>(
 
 /// Asks for a task. An error says why the host stops.
 fn claim<B: Bench>(bench: &mut B) -> Result<Task, HostEnd>
+    requires silent { B.heard bench.old ≡ None }
     requires room { B.claims bench.old < 2 ^ 32 }
     ensures claims { B.claims bench.new ≡ B.claims bench.old + 1 }
     ensures posts { B.posts bench.new ≡ B.posts bench.old }
     ensures task { IfOk result (λ task. (c : TestCase) × (B.pending bench.new ≡ Some (task, c))) }
     ensures goes_on { IfOk result (λ _. (B.heard bench.new ≡ None) × (B.tasks bench.new ≡ B.tasks bench.old + 1)) }
     ensures stops { IfErr result (λ end. IsUnhanded (B.heard bench.new) end × (B.tasks bench.new ≡ B.tasks bench.old)) }
+    ensures sound { B.pending bench.old ≡ None → B.sound bench.old → B.sound bench.new }
     ensures later { B.faults bench.old ≤ B.faults bench.new }
     ensures fixed { B.fixed bench.new ≡ B.fixed bench.old }
 {
@@ -117,6 +124,7 @@ fn post<B: Bench, G: Gate>(
     turn: u64,
     done: Done,
 ) -> Result<(), HostEnd>
+    requires silent { B.heard bench.old ≡ None }
     requires value { (c : TestCase) × (B.pending bench.old ≡ Some (done.task, c)) × (done.kind ≡ case_value c) }
     ensures claims { B.claims bench.new ≡ B.claims bench.old }
     ensures tasks { B.tasks bench.new ≡ B.tasks bench.old }
@@ -124,6 +132,8 @@ fn post<B: Bench, G: Gate>(
         × MayPost (G.may_answer gate.now) host turn) }
     ensures stops { IfErr result (λ end. IsUnposted (G.may_answer gate.now) host turn (B.heard bench.new) end
         × (B.posts bench.new + left_over end ≡ B.posts bench.old + 1)) }
+    ensures sound { B.sound bench.old → B.sound bench.new }
+    ensures bare { IfOk result (λ _. B.pending bench.new ≡ None) }
     ensures later { B.faults bench.old ≤ B.faults bench.new }
     ensures fixed { B.fixed bench.new ≡ B.fixed bench.old }
 {
