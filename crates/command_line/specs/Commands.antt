@@ -5,7 +5,8 @@ use Rattle.clap.specs.declared.builder.ArgAction.TheVariants.{Set, SetTrue}
 
 -- `--NAME VALUE` or `--NAME=VALUE`
 abbrev pub option : List ℕ → Bool → Rule
-option name required = record (new_rule name) { long = Some name; action = Some Set; required = required }
+option name required =
+    record (new_rule name) { long = Some name; action = Some Set; value_names = 1; required = required }
 
 -- `--NAME`
 abbrev pub flag : List ℕ → Rule
@@ -13,7 +14,7 @@ flag name = record (new_rule name) { long = Some name; action = Some SetTrue }
 
 -- a word, which has to be there
 abbrev pub operand : List ℕ → Rule
-operand name = record (new_rule name) { action = Some Set; required = true }
+operand name = record (new_rule name) { action = Some Set; value_names = 1; required = true }
 
 -- `judge FOLDER --hosts N [--journal]`
 abbrev pub judge : App
@@ -60,3 +61,15 @@ with_contests = with_subcommand (with_subcommand bare judge.top) serve.top
 
 abbrev pub farm : App
 farm = with_subcommand (with_subcommand with_contests script.top) make.top
+
+-- the program with its commands, which also knows the words that ask for help and for the version
+abbrev pub helping : App
+helping =
+    record farm {
+      top = record farm.top {
+        disable_help_flag = false;
+        disable_help_subcommand = false;
+        disable_version_flag = false;
+        has_version = true;
+      };
+    }

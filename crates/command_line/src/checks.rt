@@ -22,7 +22,7 @@ fn all_plain(words: &[String]) -> bool
 }
 
 /// Whether the word is not empty, `-` or `--`, and what stands in it behind the `=` of an option is a value.
-fn is_plain(word: &str) -> bool
+pub(crate) fn is_plain(word: &str) -> bool
     ensures { result ≡ is_plain word.now }
 {
     if word.is_empty() || word == "-" || word == "--" {
@@ -45,7 +45,7 @@ fn is_value(text: &str) -> bool
 }
 
 /// The value of an option that stands in one word with it.
-fn joined_value(word: &str) -> Option<&str>
+pub(crate) fn joined_value(word: &str) -> Option<&str>
     ensures { option_map (λ value. value.now) result ≡ joined_value word.now }
 {
     let option = without_dash(without_dash(word)?)?;

@@ -1,11 +1,15 @@
 //! The grammar of the command line.
 ghost use Rattle.std.specs.Prelude.{◌≡◌, IfOk, false, true};
-ghost use Rattle.clap.specs.Words.{app_of, rule_of, with_rule, with_subcommand};
+ghost use Rattle.clap.specs.Words.{app_of, new_app, rule_of, with_rule, with_subcommand};
 ghost use Rattle.clap.specs.declared.builder.command.Command.TheViews.{out-Command as fields_of};
-ghost use Rattle.command_line.specs.Commands.{option, flag, operand, judge, script, make, serve, bare, farm};
+ghost use Rattle.command_line.specs.Commands.{option, flag, operand, judge, script, make, serve, bare, farm, helping};
 
+use crate::described::{about, described, remarks};
 use clap::{Arg, ArgAction, Command};
 use std::alloc::{AllocError, Global};
+
+/// What `--version` prints behind the program's name.
+const VERSION: &str = "0.1.0";
 
 /// The program with its commands.
 pub(crate) fn farm_command<'a>(alloc: Global) -> Result<Command<'a>, AllocError>
@@ -15,6 +19,34 @@ pub(crate) fn farm_command<'a>(alloc: Global) -> Result<Command<'a>, AllocError>
     let program = with_serve(alloc, program)?;
     let program = with_script(alloc, program)?;
     with_make(alloc, program)
+}
+
+/// The program with its commands, which also knows the words that ask for help and for the version.
+pub(crate) fn helping_command<'a>(alloc: Global) -> Result<Command<'a>, AllocError>
+    ensures { IfOk result (λ command. app_of command ≡ helping) }
+{
+    let program = farm_command(alloc)?;
+    Ok(
+        program
+            .disable_help_flag(false)
+            .disable_help_subcommand(false)
+            .disable_version_flag(false)
+            .version(VERSION),
+    )
+}
+
+/// The command of the program with this name.
+pub(crate) fn command_named<'a>(
+    alloc: Global,
+    name: &str,
+) -> Result<Option<Command<'a>>, AllocError> {
+    match name {
+        "judge" => Ok(Some(judge_command(alloc)?)),
+        "serve" => Ok(Some(serve_command(alloc)?)),
+        "script" => Ok(Some(script_command(alloc)?)),
+        "make" => Ok(Some(make_command(alloc)?)),
+        _ => Ok(None),
+    }
 }
 
 /// The program with the command `judge`.
@@ -58,7 +90,7 @@ fn bare_command<'a>(alloc: Global) -> Command<'a>
     ensures app { app_of result ≡ bare }
     ensures globals { (fields_of result).has_globals ≡ false }
 {
-    Command::new(alloc, "farm")
+    new_command(alloc, "farm")
         .disable_help_flag(true)
         .disable_help_subcommand(true)
         .disable_version_flag(true)
@@ -70,7 +102,7 @@ fn judge_command<'a>(alloc: Global) -> Result<Command<'a>, AllocError>
     ensures app { IfOk result (λ command. app_of command ≡ judge) }
     ensures globals { IfOk result (λ command. (fields_of command).has_globals ≡ false) }
 {
-    let with_folder = with_operand(alloc, Command::new(alloc, "judge"), "folder")?;
+    let with_folder = with_operand(alloc, new_command(alloc, "judge"), "folder")?;
     let with_hosts = with_option(alloc, with_folder, "hosts")?;
     with_hosts.arg(flag(alloc, "journal"))
 }
@@ -80,7 +112,7 @@ fn script_command<'a>(alloc: Global) -> Result<Command<'a>, AllocError>
     ensures app { IfOk result (λ command. app_of command ≡ script) }
     ensures globals { IfOk result (λ command. (fields_of command).has_globals ≡ false) }
 {
-    Command::new(alloc, "script").arg(option(alloc, "config", false))
+    new_command(alloc, "script").arg(option(alloc, "config", false))
 }
 
 /// `make NUMBER PROBLEMS SUBMISSIONS`
@@ -88,7 +120,7 @@ fn make_command<'a>(alloc: Global) -> Result<Command<'a>, AllocError>
     ensures app { IfOk result (λ command. app_of command ≡ make) }
     ensures globals { IfOk result (λ command. (fields_of command).has_globals ≡ false) }
 {
-    let with_number = with_operand(alloc, Command::new(alloc, "make"), "number")?;
+    let with_number = with_operand(alloc, new_command(alloc, "make"), "number")?;
     let with_problems = with_operand(alloc, with_number, "problems")?;
     with_operand(alloc, with_problems, "submissions")
 }
@@ -98,10 +130,20 @@ fn serve_command<'a>(alloc: Global) -> Result<Command<'a>, AllocError>
     ensures app { IfOk result (λ command. app_of command ≡ serve) }
     ensures globals { IfOk result (λ command. (fields_of command).has_globals ≡ false) }
 {
-    let with_folder = with_operand(alloc, Command::new(alloc, "serve"), "folder")?;
+    let with_folder = with_operand(alloc, new_command(alloc, "serve"), "folder")?;
     let with_port = with_option(alloc, with_folder, "port")?;
     let with_lanes = with_option(alloc, with_port, "lanes")?;
     with_option(alloc, with_lanes, "connections")
+}
+
+/// The command of this name, with what help says of it.
+fn new_command<'a>(alloc: Global, name: &'a str) -> Command<'a>
+    ensures app { app_of result ≡ new_app name.entry.now }
+    ensures globals { (fields_of result).has_globals ≡ false }
+{
+    Command::new(alloc, name)
+        .about(about(name))
+        .after_help(remarks(name))
 }
 
 /// The command with one more option, which has to be there.
@@ -135,10 +177,13 @@ fn option<'a>(alloc: Global, name: &'a str, required: bool) -> Arg<'a>
     ensures rule { rule_of result ≡ option name.entry.now required }
     ensures global { result.global ≡ false }
 {
+    let described = described(name);
     Arg::new(alloc, name)
         .long(name)
         .action(ArgAction::Set)
         .required(required)
+        .value_name(described.value)
+        .help(described.help)
 }
 
 /// `--NAME`
@@ -146,7 +191,11 @@ fn flag<'a>(alloc: Global, name: &'a str) -> Arg<'a>
     ensures rule { rule_of result ≡ flag name.entry.now }
     ensures global { result.global ≡ false }
 {
-    Arg::new(alloc, name).long(name).action(ArgAction::SetTrue)
+    let described = described(name);
+    Arg::new(alloc, name)
+        .long(name)
+        .action(ArgAction::SetTrue)
+        .help(described.help)
 }
 
 /// A word, which has to be there.
@@ -154,5 +203,10 @@ fn operand<'a>(alloc: Global, name: &'a str) -> Arg<'a>
     ensures rule { rule_of result ≡ operand name.entry.now }
     ensures global { result.global ≡ false }
 {
-    Arg::new(alloc, name).action(ArgAction::Set).required(true)
+    let described = described(name);
+    Arg::new(alloc, name)
+        .action(ArgAction::Set)
+        .required(true)
+        .value_name(described.value)
+        .help(described.help)
 }

@@ -1,6 +1,8 @@
 ghost use Rattle.std.specs.Prelude.{◌≡◌, [], ◌∷◌, Some, None, codes, true, false};
 ghost use Rattle.farm_model.specs.Words.{words};
+ghost use Rattle.clap.specs.declared.error.kind.ErrorKind.TheVariants.{DisplayHelp, DisplayVersion, InvalidSubcommand, UnknownArgument};
 ghost use Rattle.command_line.specs.CommandLine.{command_of, Judge, Script, Make, Serve};
+ghost use Rattle.command_line.specs.Helping.{answers_to};
 
 /// `farm judge` at words.
 pub fn worked_judgings()
@@ -83,4 +85,18 @@ pub fn worked_words()
     ensures no_word { command_of [] ≡ None }
     ensures empty_word { command_of (codes "farm" ∷ codes "script" ∷ [] ∷ []) ≡ None }
     ensures empty_folder { command_of (codes "farm" ∷ codes "judge" ∷ [] ∷ codes "--hosts=1" ∷ []) ≡ None }
+{}
+
+/// Words that ask for help or for the version, and near them words that do not.
+pub fn worked_help()
+    ensures option { answers_to (words (codes "farm --help")) ≡ DisplayHelp ∷ [] }
+    ensures short_option { answers_to (words (codes "farm -h")) ≡ DisplayHelp ∷ [] }
+    ensures of_a_command { answers_to (words (codes "farm judge --help")) ≡ DisplayHelp ∷ [] }
+    ensures short_of_a_command { answers_to (words (codes "farm serve -h")) ≡ DisplayHelp ∷ [] }
+    ensures word { answers_to (words (codes "farm help")) ≡ DisplayHelp ∷ InvalidSubcommand ∷ [] }
+    ensures version { answers_to (words (codes "farm --version")) ≡ DisplayVersion ∷ [] }
+    ensures short_version { answers_to (words (codes "farm -V")) ≡ DisplayVersion ∷ [] }
+    ensures command { answers_to (words (codes "farm judge c --hosts 1")) ≡ [] }
+    ensures other_word { answers_to (words (codes "farm script x")) ≡ UnknownArgument ∷ [] }
+    ensures other_option { answers_to (words (codes "farm script --helps")) ≡ UnknownArgument ∷ [] }
 {}

@@ -1,0 +1,71 @@
+//! The words of the small programs, by the same rules: each has one grammar, and no commands.
+ghost use Rattle.std.specs.Prelude.{◌≤◌, IfSome};
+
+use crate::refusing::{odd_word, refused_by, with_usage};
+use clap::error::ErrorKind;
+use clap::{ArgMatches, Command};
+use std::alloc::{AllocError, Global};
+
+/// What the words of a program are.
+#[derive(Debug, Drop)]
+pub enum ProgramWords<'a> {
+    /// What the grammar found in them.
+    Found(ArgMatches<'a>),
+    /// They ask for help or for the version: its text, which is for standard output.
+    Help(String),
+    /// They are wrong: which word is, what was wanted in its place, and the usage.
+    Wrong(String),
+}
+
+/// Reads the words by the program's grammar. The first word is the program's name, and of those behind it so many must
+/// not be empty, `-` or `--`, and have no value that is empty or begins with `-`.
+pub fn read_program<'a>(
+    alloc: Global,
+    program: &mut Command<'a>,
+    words: &'a [String],
+    checked: usize,
+) -> Result<ProgramWords<'a>, AllocError> {
+    match program.try_get_matches_from_mut(words) {
+        Ok(matches) => match odd_word(alloc, words, checked)? {
+            Some(message) => Ok(ProgramWords::Wrong(refused_by(alloc, program, message.as_str())?)),
+            None => Ok(ProgramWords::Found(matches)),
+        },
+        Err(error) => {
+            let text = format!(in alloc; "{error}")?;
+            match error.kind() {
+                ErrorKind::OutOfMemory => Err(AllocError),
+                ErrorKind::DisplayHelp | ErrorKind::DisplayVersion => Ok(ProgramWords::Help(text)),
+                _ => Ok(ProgramWords::Wrong(with_usage(alloc, program, text)?)),
+            }
+        }
+    }
+}
+
+/// The number that the text is, from the least to the greatest: digits without a sign or a leading zero.
+pub fn number_from(text: &str, least: u64, most: u64) -> Option<u64>
+    ensures { IfSome result (λ number. (least ≤ number) × (number ≤ most)) }
+{
+    if text.starts_with('+') || (text.len() > 1 && text.starts_with('0')) {
+        return None;
+    }
+    let number = text.parse::<u64>().ok()?;
+    if number < least || number > most {
+        return None;
+    }
+    Some(number)
+}
+
+/// What is said of an option's value that is no number from the least to the greatest.
+pub fn no_number(
+    alloc: Global,
+    program: &mut Command<'_>,
+    option: &str,
+    value: &str,
+    least: u64,
+    most: u64,
+) -> Result<String, AllocError> {
+    let message = format!(in alloc;
+        "invalid value '{value}' for '{option}': wanted is a number from {least} to {most}, without a sign or a leading zero"
+    )?;
+    refused_by(alloc, program, message.as_str())
+}

@@ -1,0 +1,137 @@
+//! What is wrong with words that are no command.
+use crate::checks::{is_plain, joined_value};
+use crate::described::described;
+use crate::grammar::{command_named, helping_command};
+use clap::error::ErrorKind;
+use clap::{Arg, ArgMatches, Command};
+use command_text::read_number;
+use std::alloc::{AllocError, Global};
+
+/// The text of an error of `clap`, with the usage of the command that the words name.
+pub(crate) fn refusal(alloc: Global, words: &[String], text: String) -> Result<String, AllocError> {
+    let mut command = named_by(alloc, words)?;
+    with_usage(alloc, &mut command, text)
+}
+
+/// Why words that the grammar accepts are no command: one of them is not plain, or a number is not in its range.
+pub(crate) fn unfit(
+    alloc: Global,
+    words: &[String],
+    found: &ArgMatches<'_>,
+) -> Result<String, AllocError> {
+    let mut command = named_by(alloc, words)?;
+    let message = match odd_word(alloc, words, words.len())? {
+        Some(message) => message,
+        None => odd_number(alloc, &command, found)?,
+    };
+    refused_by(alloc, &mut command, message.as_str())
+}
+
+/// The text of an error of `clap`, with the usage of the command where it has none.
+pub(crate) fn with_usage(
+    alloc: Global,
+    command: &mut Command<'_>,
+    text: String,
+) -> Result<String, AllocError> {
+    if text.as_str().contains("Usage: ") {
+        return Ok(text);
+    }
+    refused_by(alloc, command, message_of(text.as_str()))
+}
+
+/// What the text of an error says, without what stands around it.
+fn message_of(text: &str) -> &str {
+    let message = match text.split_once("\n\nFor more") {
+        Some((message, _)) => message,
+        None => text,
+    };
+    match message.strip_prefix("error: ") {
+        Some(rest) => rest,
+        None => message,
+    }
+}
+
+/// A message, with the usage of the command.
+pub(crate) fn refused_by(
+    alloc: Global,
+    command: &mut Command<'_>,
+    message: &str,
+) -> Result<String, AllocError> {
+    let error = command.error(ErrorKind::ValueValidation, message)?;
+    format!(in alloc; "{error}")
+}
+
+/// What is wrong with the first word that is not plain, of so many past the program's name.
+pub(crate) fn odd_word(
+    alloc: Global,
+    words: &[String],
+    checked: usize,
+) -> Result<Option<String>, AllocError> {
+    for word in words.iter().skip(1).take(checked) {
+        if !is_plain(word.as_str()) {
+            return Ok(Some(odd_text(alloc, word.as_str())?));
+        }
+    }
+    Ok(None)
+}
+
+/// What is wrong with a word that is not plain.
+fn odd_text(alloc: Global, word: &str) -> Result<String, AllocError> {
+    if word.is_empty() {
+        return String::from_str(alloc, "an empty word found, and none is taken");
+    }
+    match joined_value(word) {
+        Some(value) => format!(in alloc;
+            "invalid value '{value}' in '{word}': a value is not empty and does not begin with '-'"
+        ),
+        None => format!(in alloc; "unexpected argument '{word}' found"),
+    }
+}
+
+/// Which number of the command that was found is not in its range.
+fn odd_number(
+    alloc: Global,
+    command: &Command<'_>,
+    found: &ArgMatches<'_>,
+) -> Result<String, AllocError> {
+    if let Some((_, found)) = found.subcommand() {
+        for arg in command.get_arguments() {
+            if let Some(text) = number_text(alloc, arg, found)? {
+                return Ok(text);
+            }
+        }
+    }
+    String::from_str(alloc, "these words are no command")
+}
+
+/// What is wrong with the number of this operand or option, if anything is.
+fn number_text(
+    alloc: Global,
+    arg: &Arg<'_>,
+    found: &ArgMatches<'_>,
+) -> Result<Option<String>, AllocError> {
+    let id = arg.get_id();
+    let (Some((least, most)), Some(value)) = (described(id).range, found.get_str(id)) else {
+        return Ok(None);
+    };
+    if let Some(number) = read_number(value.as_bytes()) {
+        if number >= least && number <= most {
+            return Ok(None);
+        }
+    }
+    let text = format!(in alloc;
+        "invalid value '{value}' for '{arg}': wanted is a number from {least} to {most}, without a sign or a leading zero"
+    )?;
+    Ok(Some(text))
+}
+
+/// The command that the words name, or the whole program.
+fn named_by<'a>(alloc: Global, words: &[String]) -> Result<Command<'a>, AllocError> {
+    if let [_, name, ..] = words {
+        if let Some(command) = command_named(alloc, name.as_str())? {
+            let shown = format!(in alloc; "farm {name}")?;
+            return command.bin_name(shown.as_str());
+        }
+    }
+    helping_command(alloc)
+}
