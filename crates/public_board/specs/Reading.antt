@@ -1,0 +1,29 @@
+-- What a read tells of a view.
+use Rattle.std.specs.Prelude.{◌≡◌, ◌≢◌, ℕ, ◌≤◌, List, [], length, slice_index_or}
+use mathlib.Core.List.{IsPrefix}
+use Rattle.public_board.specs.Versions.{last_of}
+use Rattle.public_board.specs.declared.rule.View.{View}
+
+-- the reader has seen all versions so far, or none more
+pub record LooksAt {R : Type 0} (v w : View R) : Type 0 where
+  pub seen : IsPrefix v.seen w.seen
+  pub told : w.told ≡ v.told
+  pub least : w.least ≡ v.least
+
+-- the reader has seen all versions so far, of which the last has these rows, and there are at least so many
+pub record SeesRows {R : Type 0} (allows : List (List R) → Type 0) (v w : View R) (told : ℕ) (rows : List R) : Type 0 where
+  pub seen : IsPrefix v.seen w.seen
+  pub first : IsPrefix v.told w.seen
+  pub allowed : allows w.seen
+  pub number : told ≤ length w.seen
+  pub some : w.seen ≢ []
+  pub last : rows ≡ last_of w.seen
+  pub long : v.least ≤ length rows
+  pub kept_told : w.told ≡ v.told
+  pub kept_least : w.least ≡ v.least
+
+-- the row stands at this place in such rows
+pub record SeesRow {R : Type 0} (allows : List (List R) → Type 0) (v w : View R) (told at : ℕ) (row : R) : Type 0 where
+  pub rows : List R
+  pub sees : SeesRows allows v w told rows
+  pub row_at : slice_index_or rows at row ≡ row
