@@ -10,7 +10,7 @@ use serde_json::Value;
 use std::alloc::Global;
 
 /// The whole number that a value is. None where it is none in range.
-fn whole_in(value: &Value, least: u64, most: u64) -> Option<u64>
+pub fn whole_in(value: &Value, least: u64, most: u64) -> Option<u64>
     ensures value { result ≡ whole_in least most (view value.now) }
     ensures most { IfSome result (λ n. n ≤ most) }
 {
@@ -22,7 +22,7 @@ fn whole_in(value: &Value, least: u64, most: u64) -> Option<u64>
 }
 
 /// The number of 32 bits that a value is. None where it is none.
-fn number_in(value: &Value) -> Option<u32>
+pub fn number_in(value: &Value) -> Option<u32>
     ensures { result ≡ number_in (view value.now) }
 {
     match whole_in(value, 0, 4_294_967_295) {
@@ -50,7 +50,7 @@ fn name_in(value: &Value) -> Option<Name>
 }
 
 /// The kind that a value names. None where it names none.
-fn kind_in(value: &Value) -> Option<Kind>
+pub fn kind_in(value: &Value) -> Option<Kind>
     ensures { result ≡ kind_in (view value.now) }
 {
     let text = value.as_str()?;

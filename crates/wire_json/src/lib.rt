@@ -20,9 +20,11 @@ mod routes;
 mod rows;
 mod worked;
 
+pub use answers::name_text;
 pub use bodies::Body;
 pub use faults::{BodyFault, Field, fault_json};
-pub use reading::read_body;
+pub use fields::{kind_in, number_in, whole_in};
+pub use reading::{object_of, read_body};
 pub use replies::write_json;
 pub use routes::Route;
 pub use worked::{worked_bodies, worked_faults, worked_replies, worked_rows};

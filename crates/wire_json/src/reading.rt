@@ -11,8 +11,8 @@ use crate::routes::Route;
 use serde_json::{Map, Value};
 use std::alloc::Global;
 
-/// The object that a body is.
-fn object_of(alloc: Global, bytes: &[u8]) -> Result<Value, BodyFault>
+/// The object that a body is. An empty body counts as `{}`.
+pub fn object_of(alloc: Global, bytes: &[u8]) -> Result<Value, BodyFault>
     ensures ok { IfOk result (λ v. object_of bytes.now ≡ Some (view v)) }
     ensures not_json { result ≡ Err BodyFault.NotJson → object_of bytes.now ≡ None }
     ensures err { IfErr result (λ e. (e ≡ BodyFault.NotJson) ⊎ (e ≡ BodyFault.NoMemory)) }
