@@ -1,3 +1,6 @@
 pub mod KeptLaws
-pub mod Replays
+pub mod KeptReplays
 pub mod Openings
+pub mod Replays
+pub mod ShortLists
+pub mod ShortTexts

@@ -5,10 +5,14 @@
 //! function of what it holds.
 #![tactic(auto)]
 
+mod again;
 mod config;
 mod faults;
 mod kept;
+mod texts;
 
+pub use again::a_store_is_opened_again;
 pub use config::{config_line, config_of, looks_unborn};
 pub use faults::OpenFault;
 pub use kept::{is_kept, kept_events_lead_to_the_state};
+pub use texts::texts_of_lines_are_short;
