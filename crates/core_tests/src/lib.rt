@@ -19,6 +19,8 @@ mod lazy_stop_tests;
 mod lease_book_tests;
 #[cfg(test)]
 mod lease_tree_tests;
+#[cfg(test)]
+mod public_board_tests;
 pub mod recording;
 #[cfg(test)]
 mod rejudge_book_tests;
