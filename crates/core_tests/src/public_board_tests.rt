@@ -4,7 +4,7 @@ ghost use Rattle.public_board.specs.Versions.{last_of};
 use farm_kinds::{Answer, Kind, Verdict};
 use public_board::{Note, Publication, Publisher, Reader, Row, open};
 use std::alloc::Global;
-use std::sync::Wait;
+use std::sync::{Mutex, Wait};
 use std::test::Fail;
 
 /// Any versions may be published.
@@ -97,5 +97,28 @@ fn a_row_is_read_by_its_number(rt: HostRuntime) -> Result<(), Fail> {
     }
     publisher.end(&rt);
     assert_eq!(rt; row, Some(Points { team: 2, points: 7 }));
+    Ok(())
+}
+
+/// The value, which may go to another thread.
+fn is_sent<T: Send>(value: T) -> T {
+    value
+}
+
+/// Threads may share the value.
+fn is_shared<T: Sync>(_value: &T) {}
+
+#[test]
+fn both_sides_may_go_to_threads(rt: HostRuntime) -> Result<(), Fail> {
+    let first = [Answer::Pending];
+    let (publisher, mut readers) = open::<Answer, Any, _>(&rt, rt.alloc(), first.as_slice(), 1, 1)?;
+    let mut taken = None;
+    if let Some(reader) = readers.take() {
+        taken = Some(is_sent(reader));
+    }
+    let shared = Mutex::new(is_sent(publisher));
+    is_shared(&shared);
+    shared.into_inner().end(&rt);
+    assert!(rt; taken.is_some());
     Ok(())
 }
