@@ -75,7 +75,7 @@ def looks():
         done = subprocess.run([PROGRAM, "none", folder + "/none", folder], input=b"", capture_output=True, check=False)
         yield "1: no answer", fault_of((done.returncode, done.stderr, done.stdout), 1, b"cannot read the answer")
         done = subprocess.run([PROGRAM, "none", "answer"], input=b"", capture_output=True, check=False)
-        yield "2: words", None if done.returncode == 2 and b"usage" in done.stderr else f"status {done.returncode}"
+        yield "2: words", None if done.returncode == 2 and b"Usage: validate" in done.stderr else f"status {done.returncode}"
         with open(folder + "/answer", "wb") as file:
             file.write(b"7\n")
         words = [PROGRAM, "none", folder + "/answer", folder + "/no/folder"]

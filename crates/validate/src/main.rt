@@ -13,22 +13,11 @@ mod words;
 
 use crate::judgement::{Judgement, judge};
 use crate::message::{error_text, reason};
-use crate::words::{Command, read_words};
+use crate::words::{Asked, Command, read_words};
 use default_validator::Flags;
-use std::io::Read;
+use std::io::{Read, Write};
 use std::process::ExitCode;
 use std::{env, fs, io};
-
-const USAGE: &str = "usage: validate INPUT ANSWER FEEDBACK_FOLDER [FLAGS ..] < OUTPUT
-
-Compares a team's output with the answer of a test, token by token, as Kattis'
-default output validator does. INPUT is not looked at.
-FLAGS: case_sensitive, space_change_sensitive, float_tolerance E,
-float_relative_tolerance E, float_absolute_tolerance E.
-
-Status: 42 accepted, 43 wrong answer (FEEDBACK_FOLDER/judgemessage.txt says
-why), 1 judge's error, 2 usage.
-";
 
 fn main(rt: HostRuntime) -> ExitCode {
     match run(&rt) {
@@ -43,10 +32,21 @@ fn main(rt: HostRuntime) -> ExitCode {
 /// Judges the output that the words ask for, and gives the status.
 fn run(rt: &HostRuntime) -> io::Result<u8> {
     let words = env::args(rt)?.collect::<Vec<String>>(rt.alloc())?;
-    let Some(command) = read_words(words.as_slice()) else {
-        rt.eprint(USAGE)?;
-        return Ok(2);
-    };
+    match read_words(rt.alloc(), words.as_slice())? {
+        Asked::Judgement(command) => judge_command(rt, &command),
+        Asked::Help(text) => {
+            io::writer(rt).write_all(text.as_bytes())?;
+            Ok(0)
+        }
+        Asked::Wrong(text) => {
+            rt.eprint(text.as_str())?;
+            Ok(2)
+        }
+    }
+}
+
+/// Judges an output, says why it is not accepted, and gives the status.
+fn judge_command(rt: &HostRuntime, command: &Command<'_>) -> io::Result<u8> {
     let flags = command.flags.join(rt.alloc(), " ")?;
     let answer = match fs::read(rt, command.answer) {
         Ok(answer) => answer,
@@ -61,7 +61,7 @@ fn run(rt: &HostRuntime) -> io::Result<u8> {
     let judgement = judge(flags.as_bytes(), answer.as_slice(), output.as_slice());
     tell(
         rt,
-        &command,
+        command,
         judgement,
         flags.as_bytes(),
         answer.as_slice(),

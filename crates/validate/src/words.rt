@@ -1,3 +1,8 @@
+//! The words of `validate`.
+use clap::{Arg, Command as Grammar};
+use command_line::{ProgramWords, read_program};
+use std::alloc::{AllocError, Global};
+
 /// What is judged: the path of a test's answer, where to say why an output is not accepted, and the flags.
 #[derive(Clone, Copy)]
 pub struct Command<'a> {
@@ -6,15 +11,79 @@ pub struct Command<'a> {
     pub flags: &'a [String],
 }
 
-/// Reads the program's words: its name, the paths of a test's input and answer and of the feedback folder, and the
-/// words of the flags. None where one of the paths is missing.
-pub fn read_words(words: &[String]) -> Option<Command<'_>> {
+/// What the words ask for.
+#[derive(Drop)]
+pub enum Asked<'a> {
+    /// That an output is judged.
+    Judgement(Command<'a>),
+    /// This text is to be printed.
+    Help(String),
+    /// Nothing, for the reason of this text.
+    Wrong(String),
+}
+
+const REMARKS: &str = "\
+The team's output is read from standard input. The flags: case_sensitive,
+space_change_sensitive, float_tolerance E, float_relative_tolerance E,
+float_absolute_tolerance E.
+
+Status: 42 accepted, 43 wrong answer (FEEDBACK_FOLDER/judgemessage.txt says
+why), 1 judge's error, 2 usage.";
+
+/// Reads the program's words: the paths of a test's input and answer and of the feedback folder, and the words of the
+/// flags, which may be any.
+pub fn read_words<'a>(alloc: Global, words: &'a [String]) -> Result<Asked<'a>, AllocError> {
+    let mut program = grammar(alloc)?;
+    match read_program(alloc, &mut program, words, 3)? {
+        ProgramWords::Found(_) => {}
+        ProgramWords::Help(text) => return Ok(Asked::Help(text)),
+        ProgramWords::Wrong(text) => return Ok(Asked::Wrong(text)),
+    }
     match words {
-        [_, _, answer, feedback, flags @ ..] => Some(Command {
+        [_, _, answer, feedback, flags @ ..] => Ok(Asked::Judgement(Command {
             answer: answer.as_str(),
             feedback: feedback.as_str(),
             flags,
-        }),
-        _ => None,
+        })),
+        // The grammar has found three operands.
+        _ => Ok(Asked::Wrong(program.render_usage()?)),
     }
+}
+
+/// `validate INPUT ANSWER FEEDBACK_FOLDER [FLAGS ..]`
+fn grammar<'a>(alloc: Global) -> Result<Grammar<'a>, AllocError> {
+    let flags = Arg::new(alloc, "flags")
+        .value_name("FLAGS")
+        .num_args(0..)
+        .trailing_var_arg(true)
+        .allow_hyphen_values(true)
+        .help("Words of flags, as they stand behind validator_flags in problem.yaml");
+    Grammar::new(alloc, "validate")
+        .version("0.1.0")
+        .about(
+            "Compares a team's output with the answer of a test, as Kattis' default output validator does",
+        )
+        .after_help(REMARKS)
+        .arg(operand(
+            alloc,
+            "input",
+            "INPUT",
+            "The test's input, which is not looked at",
+        ))?
+        .arg(operand(alloc, "answer", "ANSWER", "The test's answer"))?
+        .arg(operand(
+            alloc,
+            "feedback",
+            "FEEDBACK_FOLDER",
+            "Where judgemessage.txt says why an output is not accepted",
+        ))?
+        .arg(flags)
+}
+
+/// A word, which has to be there.
+fn operand<'a>(alloc: Global, id: &'a str, value: &'a str, help: &'a str) -> Arg<'a> {
+    Arg::new(alloc, id)
+        .required(true)
+        .value_name(value)
+        .help(help)
 }
