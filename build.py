@@ -160,9 +160,12 @@ class Place:
         cache = os.environ.get("XDG_CACHE_HOME") or os.path.expanduser("~/.cache")
         home = os.environ.get("FARM_BUILD") or f"{cache}/farm-build"
         self.folder = f"{home}/{hashlib.sha256(TOP.encode()).hexdigest()[:12]}"
-        for it in ("log", "built"):
-            os.makedirs(f"{self.folder}/{it}", exist_ok=True)
-        self.lock = open(f"{self.folder}/lock", "w", encoding="utf-8")
+        try:
+            for it in ("log", "built"):
+                os.makedirs(f"{self.folder}/{it}", exist_ok=True)
+            self.lock = open(f"{self.folder}/lock", "w", encoding="utf-8")
+        except OSError as error:
+            stop(f"{error}: nothing can be built there; name another folder in FARM_BUILD")
         try:
             fcntl.flock(self.lock, fcntl.LOCK_EX | fcntl.LOCK_NB)
         except BlockingIOError:
@@ -217,20 +220,23 @@ class Build:
         self.wanted = crates.all_below(names)
         self.copies = {it: place.copy_with(it, crates.digest(it)) for it in self.wanted}
         self.todo = [it for it in self.wanted if self.copies[it] is None]
-        self.sizes = {it: sum(map(os.path.getsize, files_of(f"{TOP}/crates/{it}"))) for it in self.todo}
+        self.chains = self.chains_of(self.todo)
         self.running, self.children, self.failed, self.stopped = {}, {}, None, False
         self.turn, self.began = threading.Condition(), time.time()
 
-    def chain(self, name):
-        """How long this crate and those take that wait for it, by the size of their files."""
-        above = [self.chain(it) for it in self.todo if name in self.crates.below[it]]
-        return self.sizes[name] + max(above, default=0)
+    def chains_of(self, names):
+        """How long each crate takes with the longest chain of those that wait for it, by the size of their files."""
+        chains = {}
+        for name in reversed(names):
+            above = [chains[it] for it in chains if name in self.crates.below[it]]
+            chains[name] = sum(map(os.path.getsize, files_of(f"{TOP}/crates/{name}"))) + max(above, default=0)
+        return chains
 
     def ready(self):
         """The crates whose turn it is, the one first for which most others wait."""
         left = [it for it in self.todo if self.copies[it] is None and it not in self.running]
         found = [it for it in left if all(self.copies[below] is not None for below in self.crates.below[it])]
-        return sorted(found, key=self.chain, reverse=True)
+        return sorted(found, key=self.chains.get, reverse=True)
 
     def is_over(self):
         return self.failed or all(self.copies[it] is not None for it in self.todo)
@@ -281,17 +287,27 @@ class Build:
             if not taken:
                 return
             name, processors = taken
-            is_built = self.prove(copy, name, processors)
+            try:
+                is_built = self.prove(copy, name, processors)
+            except OSError as error:
+                is_built = False
+                self.note(name, f"build.py: {error}")
             with self.turn:
                 seconds = time.time() - self.running.pop(name)
                 self.children.pop(name, None)
                 if is_built:
                     self.copies[name] = copy
-                    self.place.keep(name, self.crates.digest(name), copy)
+                    with contextlib.suppress(OSError):
+                        self.place.keep(name, self.crates.digest(name), copy)
                     self.tell(name, seconds)
                 else:
                     self.failed = self.failed or name
                 self.turn.notify_all()
+
+    def note(self, name, line):
+        """Puts a line behind what a crate's command said, if it can be put anywhere."""
+        with contextlib.suppress(OSError), open(self.place.log(name), "a", encoding="utf-8") as log:
+            log.write(f"{line}\n")
 
     def count(self):
         return sum(self.copies[it] is not None for it in self.todo)
