@@ -1,0 +1,17 @@
+//! A job, as the judge server hands it to a judgehost on another machine: a task and its case, as JSON whose bytes are in
+//! Base64.
+//!
+//! Where things stand: `job.rt` a job, which can be run; `reading.rt` reads one, over `fields.rt` (one field), `units.rt`
+//! (the units of a tolerance), `checking.rt` (whether the case can be run) and `faults.rt`.
+#![tactic(auto)]
+
+mod checking;
+mod faults;
+mod fields;
+mod job;
+mod reading;
+mod units;
+
+pub use faults::{JobFault, JobField};
+pub use job::{Job, OwnCheck};
+pub use reading::read_job;
