@@ -66,7 +66,7 @@ deeper_if : (t : Bool) (head line : LineValue) → (if t then nat_lt (indent_of 
 deeper_if true head line h = indent_some (indent_of head.text) line.text h
 deeper_if false head line h = absurd (false≢true h)
 
-deeper_under : (head line : LineValue) → is_deeper head line ≡ true → is_under line ≡ true
+pub deeper_under : (head line : LineValue) → is_deeper head line ≡ true → is_under line ≡ true
 deeper_under head line h = deeper_if (is_unknown_size (field_of (content_of head.text))) head line h
 
 -- the sizes of an item, and then those of the items behind it

@@ -3,3 +3,4 @@ pub mod FieldLemmas
 pub mod ScalarLemmas
 pub mod NumberLemmas
 pub mod EntryLemmas
+pub mod SkippedLemmas

@@ -7,3 +7,4 @@ pub mod ProblemYaml
 pub mod DomjudgeIni
 pub mod MachineLimits
 pub mod Views
+pub mod Skipped

@@ -77,7 +77,7 @@ fn shallow_below(depth: usize, lines: &Lines) -> Option<BadLine>
 
 /// The lines behind those that belong to an item of a block.
 #[tactic(auto, using(crate::proofs::EntryLemmas::past_none))]
-fn past_item<'a>(head: &Line, lines: &Lines<'a>) -> Lines<'a>
+pub(crate) fn past_item<'a>(head: &Line, lines: &Lines<'a>) -> Lines<'a>
     ensures lines { lines_at result ≡ past (is_deeper (line_value head.now)) (lines_at lines.now) }
     ensures shorter { length (lines_at result) ≤ length (lines_at lines.now) }
 {

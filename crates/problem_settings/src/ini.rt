@@ -26,7 +26,7 @@ fn stripped(text: &[u8]) -> &[u8]
 }
 
 /// The key and the value of a line.
-fn setting_of(line: &[u8]) -> Option<Field<'_>>
+pub(crate) fn setting_of(line: &[u8]) -> Option<Field<'_>>
     ensures { option_map field_value result ≡ setting_of line.now }
 {
     let at = place_of(b'=', line)?;

@@ -37,7 +37,7 @@ pub fn read_yaml(alloc: Global, bytes: &[u8]) -> Result<Yaml, YamlFault>
 
 /// What the entries of these lines say.
 #[tactic(auto, using(crate::proofs::EntryLemmas::said_step, crate::proofs::EntryLemmas::said_stop))]
-fn said_in<'a>(lines: &Lines<'a>) -> Result<Said<'a>, BadLine>
+pub(crate) fn said_in<'a>(lines: &Lines<'a>) -> Result<Said<'a>, BadLine>
     ensures cases { Says said_value (said_from nothing (entries belongs (lines_at lines.now))) result }
     ensures sound { IfOk result (λ said. IfSome said.sizes HasSizes) }
 {

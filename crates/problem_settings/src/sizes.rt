@@ -1,4 +1,4 @@
-ghost use Rattle.std.specs.Prelude.{◌≡◌, ◌≤◌, IfOk, IfSome};
+ghost use Rattle.std.specs.Prelude.{◌≡◌, ◌≤◌, IfOk, IfSome, is_none};
 ghost use Rattle.std.specs.Option.{option_map};
 ghost use Rattle.problem_settings.specs.Fields.{content_of, field_of, trimmed, after_spaces};
 ghost use Rattle.problem_settings.specs.Lines.{parts};
@@ -33,8 +33,10 @@ impl Size {
 
 /// The sizes that are said so far, in MiB: from 1 to 1,000,000.
 #[derive(Clone, Copy, Debug, PartialEq, Eq)]
-pub(crate) struct Sizes {
+pub struct Sizes {
+    /// The memory of a run, where it is said.
     pub memory: Option<u32>,
+    /// The output of a run, where it is said.
     pub output: Option<u32>,
 }
 
@@ -62,7 +64,7 @@ fn is_plain(value: &[u8]) -> bool
 }
 
 /// What stands between the opening brace and the closing one, which ends the text.
-fn before_brace(text: &[u8]) -> Option<&[u8]>
+pub(crate) fn before_brace(text: &[u8]) -> Option<&[u8]>
     ensures { option_map (λ inner. inner.now) result ≡ before_brace text.now }
 {
     let at = place_of(b'}', text)?;
@@ -70,6 +72,13 @@ fn before_brace(text: &[u8]) -> Option<&[u8]>
         return None;
     }
     Some(&text[..at])
+}
+
+/// Whether the key names no size.
+pub(crate) fn names_no_size(key: &[u8]) -> bool
+    ensures { result ≡ is_none (size_named key.now) }
+{
+    Size::named(key).is_none()
 }
 
 /// Whether the key of a line names no size.
