@@ -84,7 +84,7 @@ impl<R: Trust + Drop, A: Admission> Board<R, A> {
         journal: bool,
     ) -> Result<(Board<R, A>, Pass<A>), NoMemory>
         requires named { A.admits ≡ R.admits trust }
-        requires seats { (1 ≤ seats) × (seats ≤ 64) }
+        requires seats { 1 ≤ seats }
         requires backed { AreBacked (R.admits trust) farm }
         ensures trust { IfOk result (λ r. r.0.trust ≡ trust) }
         ensures pass { IfOk result (λ r. r.1 ≡ opening_pass r.0.id (opening_board farm seats journal)) }

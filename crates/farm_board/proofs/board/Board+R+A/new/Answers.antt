@@ -11,7 +11,7 @@ pub new-requires-2 : goal.new-requires-2
 new-requires-2 g c =
     let is = c.of-start.ensures ∙ c.in_ok-contents.ensures in
     let small = c.ranges.seats in
-    opens _ c.of-start.result c.new-held.result c.push_reserved.new.self.items (search rules) (c.new-held.ensures ∙ sym c.of-start.ensures) (begins _ _ _ _ is (search rules)) (subst (λ (z : BoardState). 1 ≤ z.seats) (sym is) c.requires.seats.0)
+    opens _ c.of-start.result c.new-held.result c.push_reserved.new.self.items (search rules) (c.new-held.ensures ∙ sym c.of-start.ensures) (begins _ _ _ _ is (search rules)) (subst (λ (z : BoardState). 1 ≤ z.seats) (sym is) c.requires.seats)
 
 pub new-held-requires : goal.new-held-requires
 new-held-requires g c =
