@@ -1,7 +1,7 @@
 ghost use Rattle.std.specs.Prelude.{◌≡◌, ◌++◌, ℕ, codes, length, take, IfOk, OnOk, IfErr, string_bytes};
 ghost use Rattle.std.specs.Fmt.{decimal};
 ghost use Rattle.std.specs.Io.KnownBytes.{Appends};
-ghost use Rattle.http_door.specs.Responses.{phrase_of, head_lines, head_text, response_text, Writes, HasCauseWritten};
+ghost use Rattle.http_door.specs.Responses.{phrase_of, close_line, head_lines, head_text, response_with, Writes, HasCauseWritten};
 
 use farm_io::{PutEnd, Sink};
 use farm_kinds::NoMemory;
@@ -27,35 +27,63 @@ fn phrase(status: &StatusCode) -> &'static str
     }
 }
 
-/// The head of a response with this code and phrase.
-fn write_lines(alloc: Global, code: u16, phrase: &str, len: usize) -> Result<String, AllocError>
-    ensures { IfOk result (λ text. string_bytes text ≡ head_lines code phrase.now len) }
+/// The line that says that the connection ends behind the response, where it does (RFC 9112, section 9.6).
+fn close_line(closing: bool) -> &'static str
+    ensures { result.now ≡ close_line closing }
+{
+    if closing {
+        return "connection: close\r\n";
+    }
+    ""
+}
+
+/// The head of a response with this code and phrase, and this text behind its fields.
+fn write_lines(
+    alloc: Global,
+    code: u16,
+    phrase: &str,
+    len: usize,
+    last: &str,
+) -> Result<String, AllocError>
+    ensures { IfOk result (λ text. string_bytes text ≡ head_lines code phrase.now len last.now) }
 {
     format!(in alloc;
-        "HTTP/1.1 {code} {phrase}\r\ncontent-length: {len}\r\ncontent-type: application/json\r\n\r\n"
+        "HTTP/1.1 {code} {phrase}\r\ncontent-length: {len}\r\ncontent-type: application/json\r\n{last}\r\n"
     )
 }
 
 /// The head of a response with a body of so many bytes.
-fn write_head(alloc: Global, status: &StatusCode, len: usize) -> Result<String, AllocError>
-    ensures { IfOk result (λ text. string_bytes text ≡ head_text status.now len) }
+fn write_head(
+    alloc: Global,
+    closing: bool,
+    status: &StatusCode,
+    len: usize,
+) -> Result<String, AllocError>
+    ensures { IfOk result (λ text. string_bytes text ≡ head_text closing status.now len) }
 {
-    write_lines(alloc, status.as_u16(), phrase(status), len)
+    write_lines(
+        alloc,
+        status.as_u16(),
+        phrase(status),
+        len,
+        close_line(closing),
+    )
 }
 
-/// Puts a response: the status line, a line each for `content-length` and `content-type`, an empty line and
-/// the body, which is to be JSON.
+/// Puts a response: the status line, a line each for `content-length` and `content-type`, one for `connection` where the
+/// server ends the connection behind it (`closing`), an empty line and the body, which is to be JSON.
 pub fn write_response<K: Sink>(
     alloc: Global,
     sink: &mut K,
+    closing: bool,
     status: StatusCode,
     body: &[u8],
 ) -> Result<(), ResponseFault>
-    ensures writes { Writes (K.held sink.old) (K.held sink.new) (response_text status body.now) result }
+    ensures writes { Writes (K.held sink.old) (K.held sink.new) (response_with closing status body.now) result }
     ensures cause { HasCauseWritten (K.faults sink.old) (K.faults sink.new) result }
     ensures beside { K.beside sink.new ≡ K.beside sink.old }
 {
-    match response_bytes(alloc, &status, body) {
+    match response_bytes(alloc, closing, &status, body) {
         Err(_) => Err(ResponseFault::NoMemory),
         Ok(text) => match sink.put(text.as_slice()) {
             PutEnd::Failed => Err(ResponseFault::WriteFault),
@@ -65,10 +93,15 @@ pub fn write_response<K: Sink>(
 }
 
 /// The bytes of a response. They are put at once: a second piece may wait until the peer has told that the first one came.
-fn response_bytes(alloc: Global, status: &StatusCode, body: &[u8]) -> Result<Vec<u8>, AllocError>
-    ensures { IfOk result (λ text. text.items ≡ response_text status.now body.now) }
+fn response_bytes(
+    alloc: Global,
+    closing: bool,
+    status: &StatusCode,
+    body: &[u8],
+) -> Result<Vec<u8>, AllocError>
+    ensures { IfOk result (λ text. text.items ≡ response_with closing status.now body.now) }
 {
-    let mut text = write_head(alloc, status, body.len())?.into_bytes();
+    let mut text = write_head(alloc, closing, status, body.len())?.into_bytes();
     text.extend_from_slice(body)?;
     Ok(text)
 }

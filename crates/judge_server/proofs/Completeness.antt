@@ -14,8 +14,8 @@ use Rattle.http_door.proofs.Between.{none_refused}
 use Rattle.judge_server.specs.declared.ends.ConnHow.{ConnHow}
 use Rattle.judge_server.specs.declared.ends.ConnHow.TheVariants as how
 use Rattle.judge_server.specs.Entering.{Entered}
-use Rattle.judge_server.specs.Exchanges.{Exchange, requests_of}
-use Rattle.judge_server.specs.Serving.{untaken, IsClosed, EndsOf, IsServed, HasCauseServed, AnswersAll}
+use Rattle.judge_server.specs.Exchanges.{Exchange, Around, IsWhole, requests_of}
+use Rattle.judge_server.specs.Serving.{IsClosing, untaken, IsClosed, EndsOf, IsServed, HasCauseServed, AnswersAll}
 
 -- of requests that are all of the bytes, those that were found come first
 sound_front : (bytes : List ℕ) (qs : List Request) (rest : List ℕ) (rs : List Request) → AreRequests bytes qs rest → AreRequests bytes rs []
@@ -52,13 +52,22 @@ one_stays : (qs : List Request) (r : Request) (more : List Request) → All (λ 
 one_stays [] r more h = All-head (λ (z : Request). z.close ≡ false) r more h
 one_stays (q ∷ qs) r more h = one_stays qs r more (All-tail (λ (z : Request). z.close ≡ false) q (qs ++ r ∷ more) h)
 
-not_closed : (xs : List Exchange) (rs more : List Request) → IsClosed xs → All (λ (z : Request). z.close ≡ false) rs → rs ≡ requests_of xs ++ more → ⊥
-not_closed xs rs more c stay is =
+last_whole : (around : Around) (front : List Exchange) (x : Exchange) → All (IsWhole around) (front ++ x ∷ []) → IsWhole around x
+last_whole around [] x h = All-head (IsWhole around) x [] h
+last_whole around (y ∷ front) x h = last_whole around front x (All-tail (IsWhole around) y (front ++ x ∷ []) h)
+
+asked_last : (asked close : Bool) → close ≡ false → (close ≡ true) ⊎ (asked ≡ true) → asked ≡ true
+asked_last asked close stays (inl closes) = let both : true ≡ false = sym closes ∙ stays in cc both
+asked_last asked close stays (inr asks) = asks
+
+-- where no request asks to close, the server does
+closed_by : (around : Around) (xs : List Exchange) (rs more : List Request) → IsClosed xs → All (IsWhole around) xs → All (λ (z : Request). z.close ≡ false) rs → rs ≡ requests_of xs ++ more → around.asks ≡ true
+closed_by around xs rs more c whole stay is =
     let front = requests_of c.front in
     let last : requests_of xs ≡ front ++ c.last.request ∷ [] = ap requests_of c.whole ∙ map-append (λ (x : Exchange). x.request) c.front (c.last ∷ []) in
     let all : rs ≡ front ++ c.last.request ∷ more = is ∙ ap (λ (qs : List Request). qs ++ more) last ∙ append_assoc front (c.last.request ∷ []) more in
-    let both : true ≡ false = sym c.closes ∙ one_stays front c.last.request more (subst (All (λ (z : Request). z.close ≡ false)) all stay) in
-    cc both
+    let stays : c.last.request.close ≡ false = one_stays front c.last.request more (subst (All (λ (z : Request). z.close ≡ false)) all stay) in
+    (last_whole around c.front c.last (subst (All (IsWhole around)) c.whole whole)).asked (asked_last c.last.asked c.last.request.close stays c.closes)
 
 -- the count of all requests
 counts_all : (xs : List Exchange) (rs more : List Request) (n : ℕ) → length xs ≡ n → rs ≡ requests_of xs ++ more → more ≡ [] → n ≡ length rs
@@ -72,36 +81,36 @@ left_known : (bytes : List ℕ) (left : Option (List ℕ)) (all : List ℕ) → 
 left_known bytes None all x = absurd x
 left_known bytes (Some ys) all x = (ys, refl, x)
 
-by_end : (shows : ℕ → Bool) (xs : List Exchange) (all rest tail ys bytes : List ℕ) (left : Option (List ℕ)) (made : List Entered) (rs more : List Request) (read read' write write' n : ℕ) (h : ConnHow)
-    → EndsOf shows xs rest (0 + length all) left tail made h → HasCauseServed read read' write write' (Some h) → length xs ≡ n
+by_end : (around : Around) (xs : List Exchange) (all rest tail ys bytes : List ℕ) (left : Option (List ℕ)) (made : List Entered) (rs more : List Request) (read read' write write' n : ℕ) (h : ConnHow)
+    → EndsOf around xs rest (0 + length all) left tail made h → HasCauseServed read read' write write' (Some h) → length xs ≡ n
     → left ≡ Some ys → bytes ≡ all ++ ys → length bytes < input_limit → All (λ (z : Request). z.close ≡ false) rs → rs ≡ requests_of xs ++ more
-    → AreRequests (rest ++ ys) more [] → ¬ Rose read read' → ¬ Rose write write' → ((h ≡ how.End) × (n ≡ length rs)) ⊎ (h ≡ how.NoMemory)
-by_end shows xs all rest tail ys bytes left made rs more read read' write write' n how.End ends cause count known whole few stay is others reads writes =
+    → AreRequests (rest ++ ys) more [] → All (IsWhole around) xs → ¬ Rose read read' → ¬ Rose write write' → ((h ≡ how.End) × (n ≡ length rs)) ⊎ (h ≡ how.NoMemory) ⊎ ((h ≡ how.Closed) × (around.asks ≡ true))
+by_end around xs all rest tail ys bytes left made rs more read read' write write' n how.End ends cause count known whole few stay is others exchanges reads writes =
     let behind : ys ≡ [] = subst IsAtEnd known ends.1 in
     let nothing : rest ++ ys ≡ [] = ap₂ (λ (a b : List ℕ). a ++ b) ends.0 behind in
     inl (refl, counts_all xs rs more n count is (none_more more (subst (λ (z : List ℕ). AreRequests z more []) nothing others)))
-by_end shows xs all rest tail ys bytes left made rs more read read' write write' n how.Closed ends cause count known whole few stay is others reads writes =
-    absurd (not_closed xs rs more ends.0 stay is)
-by_end shows xs all rest tail ys bytes left made rs more read read' write write' n how.Cut ends cause count known whole few stay is others reads writes =
+by_end around xs all rest tail ys bytes left made rs more read read' write write' n how.Closed ends cause count known whole few stay is others exchanges reads writes =
+    inr (inr (refl, closed_by around xs rs more ends.0 exchanges stay is))
+by_end around xs all rest tail ys bytes left made rs more read read' write write' n how.Cut ends cause count known whole few stay is others exchanges reads writes =
     let behind : ys ≡ [] = subst IsAtEnd known ends.1 in
     let same : rest ++ ys ≡ rest = ap (λ (b : List ℕ). rest ++ b) behind ∙ append-nil rest in
     absurd (no_other_end rest more ending.Cut tt (λ none e. let zero = ap length none in omega (arith, e.0, zero)) ends.0 (subst (λ (z : List ℕ). AreRequests z more []) same others))
-by_end shows xs all rest tail ys bytes left made rs more read read' write write' n how.BadRequest ends cause count known whole few stay is others reads writes =
+by_end around xs all rest tail ys bytes left made rs more read read' write write' n how.BadRequest ends cause count known whole few stay is others exchanges reads writes =
     absurd (no_other_end (rest ++ ys) more ends.0 (of_bytes ends.0 ends.1) (λ none e. none_refused ends.0 (subst (EndsAs ends.0) none e) ends.1) (refusal_more rest ys ends.0 ends.1 ends.2) others)
-by_end shows xs all rest tail ys bytes left made rs more read read' write write' n how.ReadFault ends cause count known whole few stay is others reads writes =
+by_end around xs all rest tail ys bytes left made rs more read read' write write' n how.ReadFault ends cause count known whole few stay is others exchanges reads writes =
     absurd (reads (cause.read_failed refl))
-by_end shows xs all rest tail ys bytes left made rs more read read' write write' n how.WriteFault ends cause count known whole few stay is others reads writes =
+by_end around xs all rest tail ys bytes left made rs more read read' write write' n how.WriteFault ends cause count known whole few stay is others exchanges reads writes =
     absurd (writes (cause.write_failed refl))
-by_end shows xs all rest tail ys bytes left made rs more read read' write write' n how.InputLimit ends cause count known whole few stay is others reads writes =
+by_end around xs all rest tail ys bytes left made rs more read read' write write' n how.InputLimit ends cause count known whole few stay is others exchanges reads writes =
     let limit = ends.3 in
     absurd (omega (arith, few, ap length whole, length-append all ys, limit))
-by_end shows xs all rest tail ys bytes left made rs more read read' write write' n how.NoMemory ends cause count known whole few stay is others reads writes = inr refl
+by_end around xs all rest tail ys bytes left made rs more read read' write write' n how.NoMemory ends cause count known whole few stay is others exchanges reads writes = inr (inl refl)
 
-pub answers_all : {A : Type 0} (enters : A → List Entered → A → Type 0) (shows : ℕ → Bool) (s s' : A) (left left' held held' : Option (List ℕ)) (read read' write write' n : ℕ) (h : ConnHow)
-    → IsServed enters shows (untaken s left held) (untaken s' left' held') n h → HasCauseServed read read' write write' (Some h)
-    → AnswersAll left read read' write write' n h
-answers_all enters shows s s' left left' held held' read read' write write' n h u cause = λ bytes rs told sound reads writes.
+pub answers_all : {A : Type 0} (enters : A → List Entered → A → Type 0) (around : Around) (s s' : A) (left left' held held' : Option (List ℕ)) (read read' write write' n : ℕ) (h : ConnHow)
+    → IsServed enters around (untaken s left held) (untaken s' left' held') n h → HasCauseServed read read' write write' (Some h)
+    → AnswersAll around.asks left read read' write write' n h
+answers_all enters around s s' left left' held held' read read' write write' n h u cause = λ bytes rs told sound reads writes.
     let k = left_known bytes left' u.all (subst (λ (z : Option (List ℕ)). Consumes z left' u.all) told u.took) in
     let cut : AreRequests bytes (requests_of u.answered) (u.rest ++ k.0) = subst (λ (z : List ℕ). AreRequests z (requests_of u.answered) (u.rest ++ k.0)) (sym k.2) (requests_more u.all (requests_of u.answered) u.rest k.0 u.cut) in
     let f = sound_front bytes (requests_of u.answered) (u.rest ++ k.0) rs cut sound.cut in
-    by_end shows u.answered u.all u.rest u.tail k.0 bytes left' u.made rs f.0 read read' write write' n h u.ends cause u.count k.1 k.2 sound.few sound.staying f.1 f.2 reads writes
+    by_end around u.answered u.all u.rest u.tail k.0 bytes left' u.made rs f.0 read read' write write' n h u.ends cause u.count k.1 k.2 sound.few sound.staying f.1 f.2 u.whole reads writes

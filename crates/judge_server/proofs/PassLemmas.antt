@@ -8,6 +8,7 @@ use Rattle.farm_board.specs.BoardState.{BoardState}
 use Rattle.farm_board.specs.Passes.{PassValue, Calls}
 use Rattle.farm_board.specs.declared.entries.Entry.{Entry}
 use Rattle.farm_board.proofs.Prefixes.{prefix_self, prefix_trans}
+use Rattle.judge_server.specs.Exchanges.{Around}
 use Rattle.judge_server.specs.declared.ends.ConnHow.{ConnHow}
 use Rattle.judge_server.specs.Entering.{Entered, AreEntered}
 use Rattle.judge_server.specs.Serving.{Standing, IsServed}
@@ -64,8 +65,8 @@ makes_calls old [] new x = makes_none old new x
 makes_calls old (e ∷ xs) new x = makes_one old x.0 new e xs x.1 (makes_calls x.0 xs new x.2)
 
 -- what was entered on a board was called
-pub served_calls : (shows : ℕ → Bool) (b p : Standing PassValue) (n : ℕ) (h : ConnHow) → IsServed (AreEntered calling) shows b p n h → IsServed MakesCalls shows b p n h
-served_calls shows b p n h u = record {
+pub served_calls : (around : Around) (b p : Standing PassValue) (n : ℕ) (h : ConnHow) → IsServed (AreEntered calling) around b p n h → IsServed MakesCalls around b p n h
+served_calls around b p n h u = record {
   answered = u.answered;
   made = u.made;
   all = u.all;

@@ -22,8 +22,8 @@ use Rattle.http_door.proofs.Cutting.{requests_more, requests_then}
 use Rattle.judge_server.specs.declared.ends.ConnHow.{ConnHow}
 use Rattle.judge_server.specs.declared.ends.ConnHow.TheVariants as how
 use Rattle.judge_server.specs.Entering.{Entered, AreEntered}
-use Rattle.judge_server.specs.Exchanges.{Exchange, IsWhole, entered_in, text_of, requests_of, all_entered, all_text}
-use Rattle.judge_server.specs.Serving.{OneAnswered, end_response, PutsEnd, Standing, untaken, IsUnderWay, EndsOf, IsServed, answered_count, Turned, HasCauseServed}
+use Rattle.judge_server.specs.Exchanges.{Exchange, Around, IsWhole, entered_in, text_of, requests_of, all_entered, all_text}
+use Rattle.judge_server.specs.Serving.{IsStaying, OneAnswered, end_response, PutsEnd, Standing, untaken, IsUnderWay, EndsOf, IsServed, answered_count, Turned, HasCauseServed}
 use Rattle.judge_server.proofs.Enterings.{entered_then}
 
 -- one more exchange
@@ -66,22 +66,22 @@ with_none a b text x = subst (λ (z : List ℕ). Appends a b z) (sym (append-nil
 entered_none : {A : Type 0} (step : A → Event → Reply → A → Type 0) (a b : A) (xs : List Entered) → AreEntered step a xs b → AreEntered step a (xs ++ []) b
 entered_none step a b xs x = subst (λ (zs : List Entered). AreEntered step a zs b) (sym (append-nil xs)) x
 
-pub turned_request : {A : Type 0} (step : A → Event → Reply → A → Type 0) (shows : ℕ → Bool) (a a' : A) (left left' held held' : Option (List ℕ)) (old new : ReaderValue) (h : Head) (out : Option ConnHow)
-    → Reads left left' old new (next.Request h) → OneAnswered step shows a a' (request_with h new.body) held held' out
-    → Turned step shows (record { state = a; left = left; held = held; ahead = old.ahead; taken = old.taken }) (record { state = a'; left = left'; held = held'; ahead = new.ahead; taken = new.taken }) out
-turned_request step shows a a' left left' held held' old new h None x y = λ b n u. record {
+pub turned_request : {A : Type 0} (step : A → Event → Reply → A → Type 0) (around : Around) (a a' : A) (left left' held held' : Option (List ℕ)) (old new : ReaderValue) (h : Head) (out : Option ConnHow)
+    → Reads left left' old new (next.Request h) → OneAnswered step around a a' (request_with h new.body) held held' out
+    → Turned step around (record { state = a; left = left; held = held; ahead = old.ahead; taken = old.taken }) (record { state = a'; left = left'; held = held'; ahead = new.ahead; taken = new.taken }) out
+turned_request step around a a' left left' held held' old new h None x y = λ b n u. record {
   answered = u.answered ++ y.0 ∷ [];
   all = u.all ++ x.front;
   count = longer u.answered y.0 n u.count;
   bytes = more_bytes b.taken old.taken new.taken u.all x.front u.bytes x.count;
   took = Consumes-trans b.left left left' u.all x.front u.took x.took;
   cut = cut_last u.all old.ahead x.front new.ahead u.answered y.0 (request_with h new.body) u.cut y.1.is x.gives;
-  whole = All-push (IsWhole shows) u.answered y.0 u.whole y.1.whole;
+  whole = All-push (IsWhole around) u.answered y.0 u.whole y.1.whole;
   entered = entered_last step b.state a a' u.answered y.0 u.entered y.1.entered;
   wrote = wrote_last b.held held held' u.answered y.0 u.wrote y.2;
-  staying = All-push (λ (z : Exchange). z.request.close ≡ false) u.answered y.0 u.staying (ap (λ (r : Request). r.close) y.1.is ∙ y.3);
+  staying = All-push IsStaying u.answered y.0 u.staying y.3;
 }
-turned_request step shows a a' left left' held held' old new h (Some how.Closed) x y = λ b n u. record {
+turned_request step around a a' left left' held held' old new h (Some how.Closed) x y = λ b n u. record {
   answered = u.answered ++ y.0 ∷ [];
   made = [];
   all = u.all ++ x.front;
@@ -90,13 +90,13 @@ turned_request step shows a a' left left' held held' old new h (Some how.Closed)
   count = longer u.answered y.0 n u.count;
   took = Consumes-trans b.left left left' u.all x.front u.took x.took;
   cut = cut_last u.all old.ahead x.front new.ahead u.answered y.0 (request_with h new.body) u.cut y.1.is x.gives;
-  whole = All-push (IsWhole shows) u.answered y.0 u.whole y.1.whole;
+  whole = All-push (IsWhole around) u.answered y.0 u.whole y.1.whole;
   entered = entered_none step b.state a' (all_entered (u.answered ++ y.0 ∷ [])) (entered_last step b.state a a' u.answered y.0 u.entered y.1.entered);
   wrote = with_none b.held held' (all_text (u.answered ++ y.0 ∷ [])) (wrote_last b.held held held' u.answered y.0 u.wrote y.2);
   staying = λ other. absurd (other refl);
-  ends = (record { front = u.answered; last = y.0; whole = refl; closes = ap (λ (r : Request). r.close) y.1.is ∙ y.3; staying = u.staying }, refl, refl);
+  ends = (record { front = u.answered; last = y.0; whole = refl; closes = y.3; staying = u.staying }, refl, refl);
 }
-turned_request step shows a a' left left' held held' old new h (Some how.WriteFault) x y = λ b n u. record {
+turned_request step around a a' left left' held held' old new h (Some how.WriteFault) x y = λ b n u. record {
   answered = u.answered;
   made = entered_in y.0;
   all = u.all ++ x.front;
@@ -119,7 +119,7 @@ turned_request step shows a a' left left' held held' old new h (Some how.WriteFa
     front = refl;
   });
 }
-turned_request step shows a a' left left' held held' old new h (Some how.NoMemory) x y = λ b n u. record {
+turned_request step around a a' left left' held held' old new h (Some how.NoMemory) x y = λ b n u. record {
   answered = u.answered;
   made = y.0.begun.made;
   all = u.all ++ x.front;
@@ -135,7 +135,7 @@ turned_request step shows a a' left left' held held' old new h (Some how.NoMemor
   ends = (
     refl,
     inr (record {
-      next = record { request = request_with h new.body; moment = y.0.moment; replies = y.0.begun.replies };
+      next = record { request = request_with h new.body; moment = y.0.moment; replies = y.0.begun.replies; asked = false };
       behind = new.ahead;
       is = x.gives;
       shown = y.0.shown;
@@ -143,11 +143,11 @@ turned_request step shows a a' left left' held held' old new h (Some how.NoMemor
     }),
   );
 }
-turned_request step shows a a' left left' held held' old new h (Some how.End) x y = absurd y
-turned_request step shows a a' left left' held held' old new h (Some how.Cut) x y = absurd y
-turned_request step shows a a' left left' held held' old new h (Some how.BadRequest) x y = absurd y
-turned_request step shows a a' left left' held held' old new h (Some how.ReadFault) x y = absurd y
-turned_request step shows a a' left left' held held' old new h (Some how.InputLimit) x y = absurd y
+turned_request step around a a' left left' held held' old new h (Some how.End) x y = absurd y
+turned_request step around a a' left left' held held' old new h (Some how.Cut) x y = absurd y
+turned_request step around a a' left left' held held' old new h (Some how.BadRequest) x y = absurd y
+turned_request step around a a' left left' held held' old new h (Some how.ReadFault) x y = absurd y
+turned_request step around a a' left left' held held' old new h (Some how.InputLimit) x y = absurd y
 
 -- where no request is given, all is left
 pub gives_end : (bytes rest body : List ℕ) (e : Ending) → Gives bytes rest body (next_of e) → LeavesAll e bytes rest
@@ -188,17 +188,17 @@ wrote_end start held held' text e how.InputLimit z x = with_none start held' tex
 wrote_end start held held' text e how.NoMemory z x = with_none start held' text (Appends-kept start held held' text x z)
 
 -- what stands at an end
-ends_of : (shows : ℕ → Bool) (xs : List Exchange) (rest : List ℕ) (bytes : ℕ) (left held held' : Option (List ℕ)) (e : Ending) (h : ConnHow) (z : PutsEnd held held' e h)
+ends_of : (around : Around) (xs : List Exchange) (rest : List ℕ) (bytes : ℕ) (left held held' : Option (List ℕ)) (e : Ending) (h : ConnHow) (z : PutsEnd held held' e h)
     → EndsAs e rest → IsEndOf e left → (e ≡ ending.InputLimit → bytes ≡ input_limit)
-    → EndsOf shows xs rest bytes left (tail_of h held held' e z) [] h
-ends_of shows xs rest bytes left held held' e how.End z x y l = (at_end e ending.End rest z.0 x, y.0 z.0, refl, refl)
-ends_of shows xs rest bytes left held held' e how.Closed z x y l = absurd z
-ends_of shows xs rest bytes left held held' e how.Cut z x y l = (at_end e ending.Cut rest z.0 x, y.1 z.0, refl, refl)
-ends_of shows xs rest bytes left held held' e how.BadRequest z x y l = (e, z.0, x, refl, refl)
-ends_of shows xs rest bytes left held held' e how.ReadFault z x y l = (at_end e ending.ReadFault rest z.0 x, refl, refl)
-ends_of shows xs rest bytes left held held' e how.InputLimit z x y l = (at_end e ending.InputLimit rest z.0 x, refl, refl, l z.0)
-ends_of shows xs rest bytes left held held' e how.NoMemory z x y l = (refl, inl refl)
-ends_of shows xs rest bytes left held held' e how.WriteFault z x y l =
+    → EndsOf around xs rest bytes left (tail_of h held held' e z) [] h
+ends_of around xs rest bytes left held held' e how.End z x y l = (at_end e ending.End rest z.0 x, y.0 z.0, refl, refl)
+ends_of around xs rest bytes left held held' e how.Closed z x y l = absurd z
+ends_of around xs rest bytes left held held' e how.Cut z x y l = (at_end e ending.Cut rest z.0 x, y.1 z.0, refl, refl)
+ends_of around xs rest bytes left held held' e how.BadRequest z x y l = (e, z.0, x, refl, refl)
+ends_of around xs rest bytes left held held' e how.ReadFault z x y l = (at_end e ending.ReadFault rest z.0 x, refl, refl)
+ends_of around xs rest bytes left held held' e how.InputLimit z x y l = (at_end e ending.InputLimit rest z.0 x, refl, refl, l z.0)
+ends_of around xs rest bytes left held held' e how.NoMemory z x y l = (refl, inl refl)
+ends_of around xs rest bytes left held held' e how.WriteFault z x y l =
     inr (record { why = e; n = z.1.0; refusal = z.0; ends = x; front = refl }, refl)
 
 same_count : (n : ℕ) (held held' : Option (List ℕ)) (e : Ending) (h : ConnHow) → PutsEnd held held' e h → answered_count n h ≡ n
@@ -215,10 +215,10 @@ bytes_at : (e : Ending) (start old new : ℕ) (all front : List ℕ) → old ≡
     → e ≡ ending.InputLimit → start + length (all ++ front) ≡ input_limit
 bytes_at e start old new all front x y l is = sym (more_bytes start old new all front x y) ∙ l is
 
-pub turned_end : {A : Type 0} (step : A → Event → Reply → A → Type 0) (shows : ℕ → Bool) (a : A) (left left' held held' : Option (List ℕ)) (old new : ReaderValue) (e : Ending) (h : ConnHow)
+pub turned_end : {A : Type 0} (step : A → Event → Reply → A → Type 0) (around : Around) (a : A) (left left' held held' : Option (List ℕ)) (old new : ReaderValue) (e : Ending) (h : ConnHow)
     → Reads left left' old new (next_of e) → IsEndOf e left' → (e ≡ ending.InputLimit → new.taken ≡ input_limit) → PutsEnd held held' e h
-    → Turned step shows (record { state = a; left = left; held = held; ahead = old.ahead; taken = old.taken }) (record { state = a; left = left'; held = held'; ahead = new.ahead; taken = new.taken }) (Some h)
-turned_end step shows a left left' held held' old new e h x end limit z = λ b n u. record {
+    → Turned step around (record { state = a; left = left; held = held; ahead = old.ahead; taken = old.taken }) (record { state = a; left = left'; held = held'; ahead = new.ahead; taken = new.taken }) (Some h)
+turned_end step around a left left' held held' old new e h x end limit z = λ b n u. record {
   answered = u.answered;
   made = [];
   all = u.all ++ x.front;
@@ -231,7 +231,7 @@ turned_end step shows a left left' held held' old new e h x end limit z = λ b n
   entered = entered_none step b.state a (all_entered u.answered) u.entered;
   wrote = wrote_end b.held held held' (all_text u.answered) e h z u.wrote;
   staying = λ _. u.staying;
-  ends = ends_of shows u.answered (old.ahead ++ x.front) (b.taken + length (u.all ++ x.front)) left' held held' e h z
+  ends = ends_of around u.answered (old.ahead ++ x.front) (b.taken + length (u.all ++ x.front)) left' held held' e h z
       (gives_end (old.ahead ++ x.front) new.ahead new.body e x.gives).0 end
       (bytes_at e b.taken old.taken new.taken u.all x.front u.bytes x.count limit);
 }
@@ -266,21 +266,21 @@ pub faults_beside : {N : Type 0} (beside : N → Side) (bytes : N → Option (Li
     → ((n : N) → beside n ≡ side (bytes n) (faults n)) → beside new ≡ beside old → faults new ≡ faults old
 faults_beside beside bytes faults old new is kept = ap (λ (s : Side). s.faults) (sym (is new) ∙ kept ∙ is old)
 
-pub turned_request_on : {A : Type 0} (step : A → Event → Reply → A → Type 0) (shows : ℕ → Bool) (a a' : A) (left mid left' held held1 held' : Option (List ℕ)) (old new : ReaderValue) (n : Next) (h : Head) (body : List ℕ) (out : Option ConnHow)
-    → left' ≡ mid → held1 ≡ held → body ≡ new.body → n ≡ next.Request h → Reads left mid old new n → OneAnswered step shows a a' (request_with h body) held1 held' out
-    → Turned step shows (record { state = a; left = left; held = held; ahead = old.ahead; taken = old.taken }) (record { state = a'; left = left'; held = held'; ahead = new.ahead; taken = new.taken }) out
-turned_request_on step shows a a' left mid left' held held1 held' old new n h body out l k b is x y =
-    turned_request step shows a a' left left' held held' old new h out
+pub turned_request_on : {A : Type 0} (step : A → Event → Reply → A → Type 0) (around : Around) (a a' : A) (left mid left' held held1 held' : Option (List ℕ)) (old new : ReaderValue) (n : Next) (h : Head) (body : List ℕ) (out : Option ConnHow)
+    → left' ≡ mid → held1 ≡ held → body ≡ new.body → n ≡ next.Request h → Reads left mid old new n → OneAnswered step around a a' (request_with h body) held1 held' out
+    → Turned step around (record { state = a; left = left; held = held; ahead = old.ahead; taken = old.taken }) (record { state = a'; left = left'; held = held'; ahead = new.ahead; taken = new.taken }) out
+turned_request_on step around a a' left mid left' held held1 held' old new n h body out l k b is x y =
+    turned_request step around a a' left left' held held' old new h out
     (subst (λ (z : Option (List ℕ)). Reads left z old new (next.Request h)) (sym l) (subst (λ (z : Next). Reads left mid old new z) is x))
-    (subst (λ (z : Option (List ℕ)). OneAnswered step shows a a' (request_with h new.body) z held' out) k
-    (subst (λ (z : List ℕ). OneAnswered step shows a a' (request_with h z) held1 held' out) b y))
+    (subst (λ (z : Option (List ℕ)). OneAnswered step around a a' (request_with h new.body) z held' out) k
+    (subst (λ (z : List ℕ). OneAnswered step around a a' (request_with h z) held1 held' out) b y))
 
-pub turned_end_on : {A : Type 0} (step : A → Event → Reply → A → Type 0) (shows : ℕ → Bool) (a : A) (left mid left' held held1 held' : Option (List ℕ)) (old new : ReaderValue) (n : Next) (e : Ending) (h : ConnHow)
+pub turned_end_on : {A : Type 0} (step : A → Event → Reply → A → Type 0) (around : Around) (a : A) (left mid left' held held1 held' : Option (List ℕ)) (old new : ReaderValue) (n : Next) (e : Ending) (h : ConnHow)
     → left' ≡ mid → held1 ≡ held → n ≡ next_of e → old.ended ≡ None → Reads left mid old new n → EndsWith n new.ended
     → (IsEndFor old.ended left → IsEndFor new.ended mid) → (n ≡ next.InputLimit → old.ended ≡ None → new.taken ≡ input_limit) → PutsEnd held1 held' e h
-    → Turned step shows (record { state = a; left = left; held = held; ahead = old.ahead; taken = old.taken }) (record { state = a; left = left'; held = held'; ahead = new.ahead; taken = new.taken }) (Some h)
-turned_end_on step shows a left mid left' held held1 held' old new n e h l k is going x ends ended limit y =
-    turned_end step shows a left left' held held' old new e h
+    → Turned step around (record { state = a; left = left; held = held; ahead = old.ahead; taken = old.taken }) (record { state = a; left = left'; held = held'; ahead = new.ahead; taken = new.taken }) (Some h)
+turned_end_on step around a left mid left' held held1 held' old new n e h l k is going x ends ended limit y =
+    turned_end step around a left left' held held' old new e h
     (subst (λ (z : Option (List ℕ)). Reads left z old new (next_of e)) (sym l) (subst (λ (z : Next). Reads left mid old new z) is x))
     (subst (λ (z : Option (List ℕ)). IsEndOf e z) (sym l)
     (end_from old.ended new.ended e left mid going (ended_as e new.ended (subst (λ (z : Next). EndsWith z new.ended) is ends)) ended))
@@ -296,17 +296,17 @@ some_how h k e = cc
 fault_of : (held held' : Option (List ℕ)) (e : Ending) (h : ConnHow) → PutsEnd held held' e h → Some h ≡ Some how.ReadFault → e ≡ ending.ReadFault
 fault_of held held' e h y is = let z = subst (λ (k : ConnHow). PutsEnd held held' e k) (some_how h how.ReadFault is) y in z.0
 
-no_fault : {A : Type 0} (step : A → Event → Reply → A → Type 0) (shows : ℕ → Bool) (a b : A) (r : Request) (held held' : Option (List ℕ)) (out : Option ConnHow)
-    → OneAnswered step shows a b r held held' out → ¬ (out ≡ Some how.ReadFault)
-no_fault step shows a b r held held' out y is = subst (λ (z : Option ConnHow). OneAnswered step shows a b r held held' z) is y
+no_fault : {A : Type 0} (step : A → Event → Reply → A → Type 0) (around : Around) (a b : A) (r : Request) (held held' : Option (List ℕ)) (out : Option ConnHow)
+    → OneAnswered step around a b r held held' out → ¬ (out ≡ Some how.ReadFault)
+no_fault step around a b r held held' out y is = subst (λ (z : Option ConnHow). OneAnswered step around a b r held held' z) is y
 
-pub cause_request : {A : Type 0} (step : A → Event → Reply → A → Type 0) (shows : ℕ → Bool) (a b : A) (r : Request) (held held' : Option (List ℕ)) (out : Option ConnHow) (read0 read1 read2 write0 write1 write2 : ℕ)
-    → OneAnswered step shows a b r held held' out → read0 ≤ read1 → read2 ≡ read1 → write1 ≡ write0 → write1 ≤ write2 → (out ≡ Some how.WriteFault → Rose write1 write2)
+pub cause_request : {A : Type 0} (step : A → Event → Reply → A → Type 0) (around : Around) (a b : A) (r : Request) (held held' : Option (List ℕ)) (out : Option ConnHow) (read0 read1 read2 write0 write1 write2 : ℕ)
+    → OneAnswered step around a b r held held' out → read0 ≤ read1 → read2 ≡ read1 → write1 ≡ write0 → write1 ≤ write2 → (out ≡ Some how.WriteFault → Rose write1 write2)
     → HasCauseServed read0 read2 write0 write2 out
-cause_request step shows a b r held held' out read0 read1 read2 write0 write1 write2 y later same kept more rose = record {
+cause_request step around a b r held held' out read0 read1 read2 write0 write1 write2 y later same kept more rose = record {
   read_later = omega (arith, later, same);
   write_later = omega (arith, kept, more);
-  read_failed = λ is. absurd (no_fault step shows a b r held held' out y is);
+  read_failed = λ is. absurd (no_fault step around a b r held held' out y is);
   write_failed = λ is. subst (λ (n : ℕ). Rose n write2) kept (rose is);
 }
 
@@ -321,9 +321,9 @@ cause_end held held' n e h was read0 read1 read2 write0 write1 write2 y is going
 }
 
 -- nothing was read and nothing put
-pub served_none : {A : Type 0} (step : A → Event → Reply → A → Type 0) (shows : ℕ → Bool) (a : A) (left held : Option (List ℕ))
-    → IsServed (AreEntered step) shows (untaken a left held) (untaken a left held) 0 how.NoMemory
-served_none step shows a left held = record {
+pub served_none : {A : Type 0} (step : A → Event → Reply → A → Type 0) (around : Around) (a : A) (left held : Option (List ℕ))
+    → IsServed (AreEntered step) around (untaken a left held) (untaken a left held) 0 how.NoMemory
+served_none step around a left held = record {
   answered = [];
   made = [];
   all = [];
@@ -332,34 +332,34 @@ served_none step shows a left held = record {
   count = refl;
   took = Consumes-nil left;
   cut = refl;
-  whole = All-nil (IsWhole shows);
+  whole = All-nil (IsWhole around);
   entered = refl;
   wrote = Appends-nil held;
-  staying = λ _. All-nil (λ (x : Exchange). x.request.close ≡ false);
+  staying = λ _. All-nil IsStaying;
   ends = (refl, inl refl);
 }
 
 -- a connection that has not begun is under way
-pub under_way_none : {A : Type 0} (step : A → Event → Reply → A → Type 0) (shows : ℕ → Bool) (a : A) (left held : Option (List ℕ))
-    → IsUnderWay step shows (untaken a left held) (untaken a left held) 0
-under_way_none step shows a left held = record {
+pub under_way_none : {A : Type 0} (step : A → Event → Reply → A → Type 0) (around : Around) (a : A) (left held : Option (List ℕ))
+    → IsUnderWay step around (untaken a left held) (untaken a left held) 0
+under_way_none step around a left held = record {
   answered = [];
   all = [];
   count = refl;
   bytes = refl;
   took = Consumes-nil left;
   cut = refl;
-  whole = All-nil (IsWhole shows);
+  whole = All-nil (IsWhole around);
   entered = refl;
   wrote = Appends-nil held;
-  staying = All-nil (λ (x : Exchange). x.request.close ≡ false);
+  staying = All-nil IsStaying;
 }
 
 -- what is still held does not matter at an end
-pub served_with : {A : Type 0} (step : A → Event → Reply → A → Type 0) (shows : ℕ → Bool) (b : Standing A) (a : A) (left held : Option (List ℕ)) (ahead : List ℕ) (taken : ℕ) (n : ℕ) (h : ConnHow)
-    → IsServed (AreEntered step) shows b (record { state = a; left = left; held = held; ahead = ahead; taken = taken }) n h
-    → IsServed (AreEntered step) shows b (untaken a left held) n h
-served_with step shows b a left held ahead taken n h u = record {
+pub served_with : {A : Type 0} (step : A → Event → Reply → A → Type 0) (around : Around) (b : Standing A) (a : A) (left held : Option (List ℕ)) (ahead : List ℕ) (taken : ℕ) (n : ℕ) (h : ConnHow)
+    → IsServed (AreEntered step) around b (record { state = a; left = left; held = held; ahead = ahead; taken = taken }) n h
+    → IsServed (AreEntered step) around b (untaken a left held) n h
+served_with step around b a left held ahead taken n h u = record {
   answered = u.answered;
   made = u.made;
   all = u.all;

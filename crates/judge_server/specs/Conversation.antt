@@ -15,7 +15,7 @@ use Rattle.wire_json.specs.Bodies.{body_of}
 use Rattle.wire_json.specs.FaultTexts.{json_of_fault}
 use Rattle.wire_json.specs.Replies.{json_of}
 use Rattle.http_door.specs.Requests.{Request}
-use Rattle.http_door.specs.Responses.{response_text}
+use Rattle.http_door.specs.Responses.{response_with}
 use Rattle.judge_server.specs.declared.asking.Asked.{Asked}
 use Rattle.judge_server.specs.declared.asking.Asked.TheVariants as asked
 use Rattle.judge_server.specs.declared.asking.RequestFault.{RequestFault}
@@ -145,9 +145,9 @@ status_of (reply.Unfinished judging) = 409
 status_of (reply.Already judging) = 409
 status_of r = 200
 
--- the response to a reply
-unfoldable pub reply_response : Reply → List ℕ
-reply_response r = response_text (status_of r) (compact_text (json_of r))
+-- the response to a reply, behind which the server ends the connection or does not
+unfoldable pub reply_response : Bool → Reply → List ℕ
+reply_response closing r = response_with closing (status_of r) (compact_text (json_of r))
 
 -- Not Found, Method Not Allowed, Bad Request
 abbrev pub fault_status : RequestFault → ℕ
@@ -161,13 +161,14 @@ fault_body fault.NoMethod = codes "{\"reply\":\"no-method\"}"
 fault_body (fault.BadBody why) = compact_text (json_of_fault why)
 
 -- the response to a request without an event
-unfoldable pub fault_response : RequestFault → List ℕ
-fault_response why = response_text (fault_status why) (fault_body why)
+unfoldable pub fault_response : Bool → RequestFault → List ℕ
+fault_response closing why = response_with closing (fault_status why) (fault_body why)
 
-abbrev pub response_in : Asked → Reply → List ℕ
-response_in (asked.Event ticks e) r = reply_response r
-response_in (asked.Refused why) r = fault_response why
+abbrev pub response_in : Bool → Asked → Reply → List ℕ
+response_in closing (asked.Event ticks e) r = reply_response closing r
+response_in closing (asked.Refused why) r = fault_response closing why
 
--- the response to a request whose last event has this reply; without an event no reply counts
-abbrev pub response_of : Request → Reply → List ℕ
-response_of request r = response_in (asked_of request) r
+-- the response to a request whose last event has this reply; without an event no reply counts. Where the server asks to
+-- close the connection behind it (`closing`), the response says so.
+abbrev pub response_of : Bool → Request → Reply → List ℕ
+response_of closing request r = response_in closing (asked_of request) r

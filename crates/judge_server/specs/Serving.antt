@@ -23,21 +23,26 @@ use Rattle.judge_server.specs.declared.ends.ConnHow.{ConnHow}
 use Rattle.judge_server.specs.declared.ends.ConnHow.TheVariants as how
 use Rattle.judge_server.specs.Conversation.{asked_of, response_in}
 use Rattle.judge_server.specs.Entering.{Entered, AreEntered, Replies, AreKnown, IsBegun}
-use Rattle.judge_server.specs.Exchanges.{Exchange, IsWhole, entered_by, entered_in, text_of, requests_of, all_entered, all_text}
+use Rattle.judge_server.specs.Exchanges.{Exchange, Around, IsWhole, entered_by, entered_in, text_of, requests_of, all_entered, all_text}
 
 -- One request
 
--- what was put of the answer to what is asked
-abbrev pub PutsAnswer : {A : Type 0} → (A → Event → Reply → A → Type 0) → ℕ → Asked → A → A
+-- what was put of the answer to what is asked, behind which the server asks to close or does not
+abbrev pub PutsAnswer : {A : Type 0} → (A → Event → Reply → A → Type 0) → Bool → ℕ → Asked → A → A
     → Option (List ℕ) → Option (List ℕ) → Result (Unit {0}) ResponseFault → Type 0
-PutsAnswer step moment what a b held held' (Ok u) =
+PutsAnswer step closing moment what a b held held' (Ok u) =
     (r : Replies) × AreKnown r × AreEntered step a (entered_by moment what r) b
-    × Appends held held' (response_in what r.answer)
-PutsAnswer step moment what a b held held' (Err fault.WriteFault) =
+    × Appends held held' (response_in closing what r.answer)
+PutsAnswer step closing moment what a b held held' (Err fault.WriteFault) =
     (r : Replies) × AreKnown r × AreEntered step a (entered_by moment what r) b
-    × ((n : ℕ) × Appends held held' (take n (response_in what r.answer)))
-PutsAnswer step moment what a b held held' (Err fault.NoMemory) =
+    × ((n : ℕ) × Appends held held' (take n (response_in closing what r.answer)))
+PutsAnswer step closing moment what a b held held' (Err fault.NoMemory) =
     IsBegun step (entered_by moment what) a b × Keeps held held'
+
+-- the request asks to close, or the server does
+abbrev pub close_or : Bool → Bool → Bool
+close_or true closing = true
+close_or false closing = closing
 
 -- whether the connection ends behind an answer
 abbrev pub how_after : Result (Unit {0}) ResponseFault → Bool → Option ConnHow
@@ -47,34 +52,42 @@ how_after (Err fault.WriteFault) close = Some how.WriteFault
 how_after (Err fault.NoMemory) close = Some how.NoMemory
 
 -- all of the exchange was entered, and it is that of the request
-pub record IsExchange {A : Type 0} (step : A → Event → Reply → A → Type 0) (shows : ℕ → Bool) (a : A) (r : Request)
+pub record IsExchange {A : Type 0} (step : A → Event → Reply → A → Type 0) (around : Around) (a : A) (r : Request)
     (x : Exchange) (b : A) : Type 0 where
   pub is : x.request ≡ r
-  pub whole : IsWhole shows x
+  pub whole : IsWhole around x
   pub entered : AreEntered step a (entered_in x) b
 
 -- a front of what is entered for the request was, at a moment that the clock shows
-pub record IsPartly {A : Type 0} (step : A → Event → Reply → A → Type 0) (shows : ℕ → Bool) (a : A) (r : Request)
+pub record IsPartly {A : Type 0} (step : A → Event → Reply → A → Type 0) (around : Around) (a : A) (r : Request)
     (b : A) : Type 0 where
   pub moment : ℕ
-  pub shown : shows moment ≡ true
+  pub shown : around.shows moment ≡ true
   pub begun : IsBegun step (entered_by moment (asked_of r)) a b
 
+-- neither the request nor the server asks to close behind it
+abbrev pub IsStaying : Exchange → Type 0
+IsStaying x = (x.request.close ≡ false) × (x.asked ≡ false)
+
+-- the request asks to close behind it, or the server does
+abbrev pub IsClosing : Exchange → Type 0
+IsClosing x = (x.request.close ≡ true) ⊎ (x.asked ≡ true)
+
 -- how one request was answered
-abbrev pub OneAnswered : {A : Type 0} → (A → Event → Reply → A → Type 0) → (ℕ → Bool) → A → A → Request
+abbrev pub OneAnswered : {A : Type 0} → (A → Event → Reply → A → Type 0) → Around → A → A → Request
     → Option (List ℕ) → Option (List ℕ) → Option ConnHow → Type 0
-OneAnswered step shows a b r held held' None =
-    (x : Exchange) × IsExchange step shows a r x b × Appends held held' (text_of x) × (r.close ≡ false)
-OneAnswered step shows a b r held held' (Some how.Closed) =
-    (x : Exchange) × IsExchange step shows a r x b × Appends held held' (text_of x) × (r.close ≡ true)
-OneAnswered step shows a b r held held' (Some how.WriteFault) =
-    (x : Exchange) × IsExchange step shows a r x b × ((n : ℕ) × Appends held held' (take n (text_of x)))
-OneAnswered step shows a b r held held' (Some how.NoMemory) = IsPartly step shows a r b × Keeps held held'
-OneAnswered step shows a b r held held' (Some how.End) = ⊥
-OneAnswered step shows a b r held held' (Some how.Cut) = ⊥
-OneAnswered step shows a b r held held' (Some how.BadRequest) = ⊥
-OneAnswered step shows a b r held held' (Some how.ReadFault) = ⊥
-OneAnswered step shows a b r held held' (Some how.InputLimit) = ⊥
+OneAnswered step around a b r held held' None =
+    (x : Exchange) × IsExchange step around a r x b × Appends held held' (text_of x) × IsStaying x
+OneAnswered step around a b r held held' (Some how.Closed) =
+    (x : Exchange) × IsExchange step around a r x b × Appends held held' (text_of x) × IsClosing x
+OneAnswered step around a b r held held' (Some how.WriteFault) =
+    (x : Exchange) × IsExchange step around a r x b × ((n : ℕ) × Appends held held' (take n (text_of x)))
+OneAnswered step around a b r held held' (Some how.NoMemory) = IsPartly step around a r b × Keeps held held'
+OneAnswered step around a b r held held' (Some how.End) = ⊥
+OneAnswered step around a b r held held' (Some how.Cut) = ⊥
+OneAnswered step around a b r held held' (Some how.BadRequest) = ⊥
+OneAnswered step around a b r held held' (Some how.ReadFault) = ⊥
+OneAnswered step around a b r held held' (Some how.InputLimit) = ⊥
 
 -- The end of the requests
 
@@ -134,12 +147,12 @@ pub record Standing (A : Type 0) : Type 0 where
 abbrev pub untaken : {A : Type 0} → A → Option (List ℕ) → Option (List ℕ) → Standing A
 untaken state left held = record { state = state; left = left; held = held; ahead = []; taken = 0 }
 
--- none of the requests asked to close
+-- none of the requests asked to close, and behind none did the server
 abbrev pub AreStaying : List Exchange → Type 0
-AreStaying xs = All (λ x. x.request.close ≡ false) xs
+AreStaying xs = All IsStaying xs
 
--- so many requests were answered since the beginning, and none of them asked to close
-pub record IsUnderWay {A : Type 0} (step : A → Event → Reply → A → Type 0) (shows : ℕ → Bool) (b p : Standing A)
+-- so many requests were answered since the beginning, and nobody asked to close
+pub record IsUnderWay {A : Type 0} (step : A → Event → Reply → A → Type 0) (around : Around) (b p : Standing A)
     (n : ℕ) : Type 0 where
   pub answered : List Exchange
   pub all : List ℕ
@@ -147,25 +160,25 @@ pub record IsUnderWay {A : Type 0} (step : A → Event → Reply → A → Type 
   pub bytes : p.taken ≡ b.taken + length all
   pub took : Consumes b.left p.left all
   pub cut : AreRequests all (requests_of answered) p.ahead
-  pub whole : All (IsWhole shows) answered
+  pub whole : All (IsWhole around) answered
   pub entered : AreEntered step b.state (all_entered answered) p.state
   pub wrote : Appends b.held p.held (all_text answered)
   pub staying : AreStaying answered
 
--- the last request asked to close, and no earlier one did
+-- the last request asked to close, or the server did behind it, and nobody did before
 pub record IsClosed (xs : List Exchange) : Type 0 where
   pub front : List Exchange
   pub last : Exchange
   pub whole : xs ≡ front ++ last ∷ []
-  pub closes : last.request.close ≡ true
+  pub closes : IsClosing last
   pub staying : AreStaying front
 
 -- all was entered for the next request, and a front of its response was put
-pub record IsNextCut (shows : ℕ → Bool) (rest tail : List ℕ) (made : List Entered) : Type 0 where
+pub record IsNextCut (around : Around) (rest tail : List ℕ) (made : List Entered) : Type 0 where
   pub next : Exchange
   pub behind : List ℕ
   pub is : IsRequest rest next.request behind
-  pub whole : IsWhole shows next
+  pub whole : IsWhole around next
   pub all_made : made ≡ entered_in next
   pub n : ℕ
   pub front : tail ≡ take n (text_of next)
@@ -179,33 +192,33 @@ pub record IsCutRefusal (rest tail : List ℕ) : Type 0 where
   pub front : tail ≡ take n (end_response why)
 
 -- a front of what is entered for the next request was, at a moment that the clock shows
-pub record IsNextBegun (shows : ℕ → Bool) (rest : List ℕ) (made : List Entered) : Type 0 where
+pub record IsNextBegun (around : Around) (rest : List ℕ) (made : List Entered) : Type 0 where
   pub next : Exchange
   pub behind : List ℕ
   pub is : IsRequest rest next.request behind
-  pub shown : shows next.moment ≡ true
+  pub shown : around.shows next.moment ≡ true
   pub front : IsPrefix made (entered_in next)
 
 -- What stands behind the requests that were answered: in the bytes that were taken (`rest`), in those that were put
 -- (`tail`), and in what was entered (`made`).
-abbrev pub EndsOf : (ℕ → Bool) → List Exchange → List ℕ → ℕ → Option (List ℕ) → List ℕ → List Entered
+abbrev pub EndsOf : Around → List Exchange → List ℕ → ℕ → Option (List ℕ) → List ℕ → List Entered
     → ConnHow → Type 0
-EndsOf shows xs rest bytes left tail made how.End = (rest ≡ []) × IsAtEnd left × (tail ≡ []) × (made ≡ [])
-EndsOf shows xs rest bytes left tail made how.Closed = IsClosed xs × (tail ≡ []) × (made ≡ [])
-EndsOf shows xs rest bytes left tail made how.Cut = EndsAs ending.Cut rest × IsAtEnd left × (tail ≡ []) × (made ≡ [])
-EndsOf shows xs rest bytes left tail made how.BadRequest =
+EndsOf around xs rest bytes left tail made how.End = (rest ≡ []) × IsAtEnd left × (tail ≡ []) × (made ≡ [])
+EndsOf around xs rest bytes left tail made how.Closed = IsClosed xs × (tail ≡ []) × (made ≡ [])
+EndsOf around xs rest bytes left tail made how.Cut = EndsAs ending.Cut rest × IsAtEnd left × (tail ≡ []) × (made ≡ [])
+EndsOf around xs rest bytes left tail made how.BadRequest =
     (e : Ending) × IsRefusal e × EndsAs e rest × (tail ≡ end_response e) × (made ≡ [])
-EndsOf shows xs rest bytes left tail made how.ReadFault = EndsAs ending.ReadFault rest × (tail ≡ []) × (made ≡ [])
-EndsOf shows xs rest bytes left tail made how.InputLimit =
+EndsOf around xs rest bytes left tail made how.ReadFault = EndsAs ending.ReadFault rest × (tail ≡ []) × (made ≡ [])
+EndsOf around xs rest bytes left tail made how.InputLimit =
     EndsAs ending.InputLimit rest × (tail ≡ []) × (made ≡ []) × (bytes ≡ input_limit)
-EndsOf shows xs rest bytes left tail made how.NoMemory = (tail ≡ []) × ((made ≡ []) ⊎ IsNextBegun shows rest made)
-EndsOf shows xs rest bytes left tail made how.WriteFault =
-    IsNextCut shows rest tail made ⊎ (IsCutRefusal rest tail × (made ≡ []))
+EndsOf around xs rest bytes left tail made how.NoMemory = (tail ≡ []) × ((made ≡ []) ⊎ IsNextBegun around rest made)
+EndsOf around xs rest bytes left tail made how.WriteFault =
+    IsNextCut around rest tail made ⊎ (IsCutRefusal rest tail × (made ≡ []))
 
 -- Of the bytes that were taken (`all`) the first n requests were answered. What was entered is what belongs to them,
 -- and `made` behind it; what was put are their responses, and `tail` behind them. `enters` says what it is to enter a
 -- list.
-pub record IsServed {A : Type 0} (enters : A → List Entered → A → Type 0) (shows : ℕ → Bool) (b p : Standing A)
+pub record IsServed {A : Type 0} (enters : A → List Entered → A → Type 0) (around : Around) (b p : Standing A)
     (n : ℕ) (h : ConnHow) : Type 0 where
   pub answered : List Exchange
   pub made : List Entered
@@ -215,12 +228,12 @@ pub record IsServed {A : Type 0} (enters : A → List Entered → A → Type 0) 
   pub count : length answered ≡ n
   pub took : Consumes b.left p.left all
   pub cut : AreRequests all (requests_of answered) rest
-  pub whole : All (IsWhole shows) answered
+  pub whole : All (IsWhole around) answered
   pub entered : enters b.state (all_entered answered ++ made) p.state
   pub wrote : Appends b.held p.held (all_text answered ++ tail)
-  -- only the last request may have asked to close, and only where the connection ends for that
+  -- only behind the last request may anybody have asked to close, and only where the connection ends for that
   pub staying : h ≢ how.Closed → AreStaying answered
-  pub ends : EndsOf shows answered rest (b.taken + length all) p.left tail made h
+  pub ends : EndsOf around answered rest (b.taken + length all) p.left tail made h
 
 -- the request that closes counts as answered
 abbrev pub answered_count : ℕ → ConnHow → ℕ
@@ -234,13 +247,13 @@ answered_count n how.InputLimit = n
 answered_count n how.NoMemory = n
 
 -- what one request, or the end of the requests, does, wherever the connection began
-abbrev pub Turned : {A : Type 0} → (A → Event → Reply → A → Type 0) → (ℕ → Bool) → Standing A → Standing A
+abbrev pub Turned : {A : Type 0} → (A → Event → Reply → A → Type 0) → Around → Standing A → Standing A
     → Option ConnHow → Type 0
-Turned {A} step shows old new None =
-    (b : Standing A) (n : ℕ) → IsUnderWay step shows b old n → IsUnderWay step shows b new (n + 1)
-Turned {A} step shows old new (Some h) =
-    (b : Standing A) (n : ℕ) → IsUnderWay step shows b old n
-    → IsServed (AreEntered step) shows b new (answered_count n h) h
+Turned {A} step around old new None =
+    (b : Standing A) (n : ℕ) → IsUnderWay step around b old n → IsUnderWay step around b new (n + 1)
+Turned {A} step around old new (Some h) =
+    (b : Standing A) (n : ℕ) → IsUnderWay step around b old n
+    → IsServed (AreEntered step) around b new (answered_count n h) h
 
 -- the counts of both sides never fall, and that of the side rises whose fault ended the connection
 pub record HasCauseServed (read read' write write' : ℕ) (result : Option ConnHow) : Type 0 where
@@ -256,8 +269,9 @@ pub record AreSound (bytes : List ℕ) (rs : List Request) : Type 0 where
   pub staying : All (λ r. r.close ≡ false) rs
 
 -- where the connection's bytes are sound requests, and neither side failed, all of them were answered, or memory ran
--- out
-abbrev pub AnswersAll : Option (List ℕ) → ℕ → ℕ → ℕ → ℕ → ℕ → ConnHow → Type 0
-AnswersAll left read read' write write' n h =
+-- out, or the server, which asks to close, has closed it
+abbrev pub AnswersAll : Bool → Option (List ℕ) → ℕ → ℕ → ℕ → ℕ → ℕ → ConnHow → Type 0
+AnswersAll asks left read read' write write' n h =
     (bytes : List ℕ) (rs : List Request) → left ≡ Some bytes → AreSound bytes rs
-    → ¬ Rose read read' → ¬ Rose write write' → ((h ≡ how.End) × (n ≡ length rs)) ⊎ (h ≡ how.NoMemory)
+    → ¬ Rose read read' → ¬ Rose write write'
+    → ((h ≡ how.End) × (n ≡ length rs)) ⊎ (h ≡ how.NoMemory) ⊎ ((h ≡ how.Closed) × (asks ≡ true))

@@ -30,19 +30,20 @@ pub fn status_of(reply: &Reply) -> StatusCode
     }
 }
 
-/// Puts the response to a reply.
+/// Puts the response to a reply, behind which the server ends the connection where it is `closing`.
 pub fn answer_reply<K: Sink>(
     alloc: Global,
     sink: &mut K,
+    closing: bool,
     reply: &Reply,
 ) -> Result<(), ResponseFault>
     requires { reply.now ≢ Reply.NoMemory }
-    ensures writes { Writes (K.held sink.old) (K.held sink.new) (reply_response reply.now) result }
+    ensures writes { Writes (K.held sink.old) (K.held sink.new) (reply_response closing reply.now) result }
     ensures cause { HasCauseWritten (K.faults sink.old) (K.faults sink.new) result }
     ensures beside { K.beside sink.new ≡ K.beside sink.old }
 {
     match write_json(alloc, reply) {
-        Ok(body) => write_response(alloc, sink, status_of(reply), body.as_slice()),
+        Ok(body) => write_response(alloc, sink, closing, status_of(reply), body.as_slice()),
         Err(_) => Err(ResponseFault::NoMemory),
     }
 }
@@ -77,19 +78,20 @@ fn fault_body(alloc: Global, fault: &RequestFault) -> Result<Text, NoMemory>
     }
 }
 
-/// Puts the response to a request without an event.
+/// Puts the response to a request without an event, behind which the server ends the connection where it is `closing`.
 pub fn answer_fault<K: Sink>(
     alloc: Global,
     sink: &mut K,
+    closing: bool,
     fault: &RequestFault,
 ) -> Result<(), ResponseFault>
     requires { fault.now ≢ RequestFault.BadBody BodyFault.NoMemory }
-    ensures writes { Writes (K.held sink.old) (K.held sink.new) (fault_response fault.now) result }
+    ensures writes { Writes (K.held sink.old) (K.held sink.new) (fault_response closing fault.now) result }
     ensures cause { HasCauseWritten (K.faults sink.old) (K.faults sink.new) result }
     ensures beside { K.beside sink.new ≡ K.beside sink.old }
 {
     match fault_body(alloc, fault) {
-        Ok(body) => write_response(alloc, sink, fault_status(fault), body.as_slice()),
+        Ok(body) => write_response(alloc, sink, closing, fault_status(fault), body.as_slice()),
         Err(_) => Err(ResponseFault::NoMemory),
     }
 }

@@ -2,14 +2,15 @@ ghost use Rattle.std.specs.Prelude.{◌≡◌, ◌≤◌, ◌^◌, ℕ, Some};
 ghost use Rattle.farm_io.specs.Beside.{side};
 ghost use Rattle.farm_board.specs.Passes.{Calls};
 ghost use Rattle.judge_server.specs.Serving.{untaken, IsServed, HasCauseServed, AnswersAll};
+ghost use Rattle.judge_server.specs.Exchanges.{around_of};
 ghost use Rattle.judge_server.specs.PassCalls.{MakesCalls};
 
-use crate::ends::ConnEnd;
+use crate::ends::{ConnEnd, ConnHow};
 use crate::paths::Paths;
 use crate::replier::Replier;
 use crate::serving::serve_on;
 use farm_board::{Admission, Anyone, Board, Pass};
-use farm_io::{Clock, Sink, Source};
+use farm_io::{Clock, Peer, Sink, Source};
 use farm_kinds::{Event, Reply};
 use std::alloc::Global;
 use std::sync::Wait;
@@ -35,9 +36,14 @@ impl<'a, W: Wait, A: Admission> Replier for BoardReplier<'a, W, A> {
     }
 }
 
+/// Whether the other end may still say what nobody reads any more.
+fn is_unheard(how: ConnHow) -> bool {
+    matches!(how, ConnHow::BadRequest | ConnHow::InputLimit)
+}
+
 /// Answers the requests of a connection by calls of a board until it ends, one after the other, each by at most three
-/// calls.
-pub fn serve_conn<W: Wait, A: Admission, C: Clock, N: Source + Sink>(
+/// calls. Whoever is at its other end then sees that it has ended.
+pub fn serve_conn<W: Wait, A: Admission, C: Clock, N: Source + Sink + Peer>(
     rt: &W,
     alloc: Global,
     paths: &Paths,
@@ -50,14 +56,16 @@ pub fn serve_conn<W: Wait, A: Admission, C: Clock, N: Source + Sink>(
     requires calls { 2 ^ 42 ≤ pass.old.left }
     requires source { (n : N) → N.Source.beside n ≡ side (N.held n) (N.Sink.faults n) }
     requires sink { (n : N) → N.Sink.beside n ≡ side (N.left n) (N.Source.faults n) }
-    ensures served { IsServed MakesCalls (C.shows clock.now)
+    ensures served { IsServed MakesCalls (around_of (C.shows clock.now) N.Peer.asks)
         (untaken pass.old (N.left conn.old) (N.held conn.old)) (untaken pass.new (N.left conn.new) (N.held conn.new))
         result.requests result.how }
     ensures cause { HasCauseServed (N.Source.faults conn.old) (N.Source.faults conn.new)
         (N.Sink.faults conn.old) (N.Sink.faults conn.new) (Some result.how) }
-    ensures complete { AnswersAll (N.left conn.old) (N.Source.faults conn.old) (N.Source.faults conn.new)
+    ensures complete { AnswersAll N.Peer.asks (N.left conn.old) (N.Source.faults conn.old) (N.Source.faults conn.new)
         (N.Sink.faults conn.old) (N.Sink.faults conn.new) result.requests result.how }
 {
     let replier = BoardReplier { rt, board };
-    serve_on(alloc, paths, &replier, pass, clock, conn)
+    let end = serve_on(alloc, paths, &replier, pass, clock, conn);
+    conn.finish(is_unheard(end.how));
+    end
 }

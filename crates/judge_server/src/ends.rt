@@ -3,7 +3,7 @@
 pub enum ConnHow {
     /// Its bytes ended between requests.
     End,
-    /// The last request asked to close, or was of version 1.0.
+    /// The last request asked to close, or was of version 1.0; or the server asked to close behind it.
     Closed,
     /// Its bytes ended within a request.
     Cut,

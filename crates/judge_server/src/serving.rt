@@ -1,4 +1,4 @@
-ghost use Rattle.std.specs.Prelude.{◌≡◌, ◌≢◌, ◌+◌, ◌*◌, ◌<◌, ◌≤◌, ◌^◌, [], IfOk, IsNone, None, Some, IsUtf8};
+ghost use Rattle.std.specs.Prelude.{◌≡◌, ◌≢◌, ◌+◌, ◌*◌, ◌<◌, ◌≤◌, ◌^◌, [], true, Bool, IfOk, IsNone, IsTrue, None, Some, IsUtf8};
 ghost use Rattle.farm_io.specs.Lines.{input_limit};
 ghost use Rattle.farm_io.specs.Streams.{Rose};
 ghost use Rattle.farm_io.specs.Beside.{side};
@@ -6,14 +6,15 @@ ghost use Rattle.http_door.specs.Responses.{Writes, HasCauseWritten};
 ghost use Rattle.http_door.specs.Reading.{request_with};
 ghost use Rattle.http_door.specs.ReaderValue.{budget};
 ghost use Rattle.judge_server.specs.Entering.{AreEntered};
-ghost use Rattle.judge_server.specs.Serving.{PutsAnswer, how_after, OneAnswered, refusal_response, given_as, Refuses, PutsEnd, untaken, Turned, IsServed, answered_count, HasCauseServed};
+ghost use Rattle.judge_server.specs.Exchanges.{around_of};
+ghost use Rattle.judge_server.specs.Serving.{PutsAnswer, close_or, how_after, OneAnswered, refusal_response, given_as, Refuses, PutsEnd, untaken, Turned, IsServed, answered_count, HasCauseServed};
 
 use crate::answering::{answer_fault, answer_reply};
 use crate::asking::{Asked, RequestFault, read_request};
 use crate::ends::{ConnEnd, ConnHow};
 use crate::paths::Paths;
 use crate::replier::{Replier, enter};
-use farm_io::{Clock, Sink, Source};
+use farm_io::{Clock, Peer, Sink, Source};
 use http_door::{Ending, Head, HttpReader, Next, Refusal, ResponseFault, write_response};
 use std::alloc::Global;
 use wire_json::BodyFault;
@@ -25,22 +26,23 @@ fn answer_asked<A: Replier, K: Sink>(
     state: &mut A::State,
     moment: u64,
     asked: &Asked,
+    closing: bool,
     sink: &mut K,
 ) -> Result<(), ResponseFault>
     requires suits { A.suits replier.now state.old }
     requires calls { 3 ≤ A.left state.old }
     requires told { asked.now ≢ Asked.Refused (RequestFault.BadBody BodyFault.NoMemory) }
-    ensures puts { PutsAnswer A.steps moment asked.now state.old state.new (K.held sink.old) (K.held sink.new) result }
+    ensures puts { PutsAnswer A.steps closing moment asked.now state.old state.new (K.held sink.old) (K.held sink.new) result }
     ensures cause { HasCauseWritten (K.faults sink.old) (K.faults sink.new) result }
     ensures beside { K.beside sink.new ≡ K.beside sink.old }
     ensures left { A.left state.old ≤ A.left state.new + 3 }
     ensures suits { A.suits replier.now state.new }
 {
     match asked {
-        Asked::Refused(fault) => answer_fault(alloc, sink, fault),
+        Asked::Refused(fault) => answer_fault(alloc, sink, closing, fault),
         Asked::Event { ticks, event } => match enter(replier, state, *ticks, moment, event) {
             Err(_) => Err(ResponseFault::NoMemory),
-            Ok(reply) => answer_reply(alloc, sink, &reply),
+            Ok(reply) => answer_reply(alloc, sink, closing, &reply),
         },
     }
 }
@@ -61,7 +63,14 @@ fn how_after(written: Result<(), ResponseFault>, close: bool) -> Option<ConnHow>
     }
 }
 
-/// Answers one request.
+/// Whether the request or the server asks to close.
+fn close_or(close: bool, closing: bool) -> bool
+    ensures { result ≡ close_or close closing }
+{
+    close || closing
+}
+
+/// Answers one request. Where it is `closing`, the server asks to close behind the response.
 fn answer_one<A: Replier, C: Clock, K: Sink>(
     alloc: Global,
     paths: &Paths,
@@ -70,13 +79,14 @@ fn answer_one<A: Replier, C: Clock, K: Sink>(
     clock: &C,
     head: &Head,
     body: &[u8],
+    closing: bool,
     sink: &mut K,
 ) -> Option<ConnHow>
     requires suits { A.suits replier.now state.old }
     requires calls { 3 ≤ A.left state.old }
     requires text { IsUtf8 head.now.target }
-    ensures puts { OneAnswered A.steps (C.shows clock.now) state.old state.new (request_with head.now body.now)
-        (K.held sink.old) (K.held sink.new) result }
+    ensures puts { (asks : Bool) → (closing ≡ true → asks ≡ true) → OneAnswered A.steps (around_of (C.shows clock.now) asks)
+        state.old state.new (request_with head.now body.now) (K.held sink.old) (K.held sink.new) result }
     ensures later { K.faults sink.old ≤ K.faults sink.new }
     ensures write { result ≡ Some ConnHow.WriteFault → Rose (K.faults sink.old) (K.faults sink.new) }
     ensures beside { K.beside sink.new ≡ K.beside sink.old }
@@ -87,8 +97,8 @@ fn answer_one<A: Replier, C: Clock, K: Sink>(
     match read_request(alloc, paths, head, body) {
         Err(_) => Some(ConnHow::NoMemory),
         Ok(asked) => {
-            let written = answer_asked(alloc, replier, state, moment, &asked, sink);
-            how_after(written, head.close)
+            let written = answer_asked(alloc, replier, state, moment, &asked, closing, sink);
+            how_after(written, close_or(head.close, closing))
         }
     }
 }
@@ -99,7 +109,7 @@ fn put_refusal<K: Sink>(alloc: Global, sink: &mut K, refusal: Refusal) -> Result
     ensures cause { HasCauseWritten (K.faults sink.old) (K.faults sink.new) result }
     ensures beside { K.beside sink.new ≡ K.beside sink.old }
 {
-    write_response(alloc, sink, refusal.status(), refusal.body())
+    write_response(alloc, sink, false, refusal.status(), refusal.body())
 }
 
 /// Puts the fixed response of a refusal, and says how the connection ends.
@@ -155,7 +165,7 @@ fn head_of(next: Next) -> Result<Head, Ending>
 }
 
 /// Reads one request and answers it, or says how the connection ends.
-fn turn<A: Replier, C: Clock, N: Source + Sink>(
+fn turn<A: Replier, C: Clock, N: Source + Sink + Peer>(
     alloc: Global,
     paths: &Paths,
     replier: &A,
@@ -169,7 +179,7 @@ fn turn<A: Replier, C: Clock, N: Source + Sink>(
     requires calls { 3 * budget reader.old ≤ A.left state.old }
     requires source { (n : N) → N.Source.beside n ≡ side (N.held n) (N.Sink.faults n) }
     requires sink { (n : N) → N.Sink.beside n ≡ side (N.left n) (N.Source.faults n) }
-    ensures turned { Turned A.steps (C.shows clock.now)
+    ensures turned { Turned A.steps (around_of (C.shows clock.now) N.Peer.asks)
         (record { state = state.old; left = N.left conn.old; held = N.held conn.old; ahead = reader.old.ahead; taken = reader.old.taken })
         (record { state = state.new; left = N.left conn.new; held = N.held conn.new; ahead = reader.new.ahead; taken = reader.new.taken })
         result }
@@ -181,16 +191,20 @@ fn turn<A: Replier, C: Clock, N: Source + Sink>(
         (N.Sink.faults conn.old) (N.Sink.faults conn.new) result }
 {
     match head_of(reader.next_request(conn)) {
-        Ok(head) => answer_one(
-            alloc,
-            paths,
-            replier,
-            state,
-            clock,
-            &head,
-            reader.body(),
-            conn,
-        ),
+        Ok(head) => {
+            let closing = conn.is_asked_to_close();
+            answer_one(
+                alloc,
+                paths,
+                replier,
+                state,
+                clock,
+                &head,
+                reader.body(),
+                closing,
+                conn,
+            )
+        }
         Err(ending) => Some(end_with(alloc, conn, ending)),
     }
 }
@@ -209,8 +223,9 @@ fn end_after(requests: u64, how: ConnHow) -> ConnEnd
     }
 }
 
-/// Answers the requests of a connection until it ends, one after the other, each by at most three events.
-pub fn serve_on<A: Replier, C: Clock, N: Source + Sink>(
+/// Answers the requests of a connection until it ends, one after the other, each by at most three events. Where the
+/// connection was asked to close, it ends behind the next response.
+pub fn serve_on<A: Replier, C: Clock, N: Source + Sink + Peer>(
     alloc: Global,
     paths: &Paths,
     replier: &A,
@@ -222,7 +237,7 @@ pub fn serve_on<A: Replier, C: Clock, N: Source + Sink>(
     requires calls { 2 ^ 42 ≤ A.left state.old }
     requires source { (n : N) → N.Source.beside n ≡ side (N.held n) (N.Sink.faults n) }
     requires sink { (n : N) → N.Sink.beside n ≡ side (N.left n) (N.Source.faults n) }
-    ensures served { IsServed (AreEntered A.steps) (C.shows clock.now)
+    ensures served { IsServed (AreEntered A.steps) (around_of (C.shows clock.now) N.Peer.asks)
         (untaken state.old (N.left conn.old) (N.held conn.old)) (untaken state.new (N.left conn.new) (N.held conn.new))
         result.requests result.how }
     ensures cause { HasCauseServed (N.Source.faults conn.old) (N.Source.faults conn.new)

@@ -1,4 +1,4 @@
-ghost use Rattle.std.specs.Prelude.{◌≡◌, ◌++◌, [], ◌∷◌, codes, false, Some, None};
+ghost use Rattle.std.specs.Prelude.{◌≡◌, ◌++◌, [], ◌∷◌, codes, true, false, Some, None};
 ghost use Rattle.farm_kinds.specs.Names.{jury};
 ghost use Rattle.farm_kinds.specs.declared.kinds.Kind.TheVariants as kind;
 ghost use Rattle.farm_kinds.specs.declared.events.Event.TheVariants as event;
@@ -35,54 +35,57 @@ pub fn worked_targets()
 pub fn worked_events()
     ensures claim { let body = codes "{\"hostname\":\"h1\"}" in
         let r : Replies = record { ticked = reply.Ended 2; answer = reply.Nothing; downed = reply.NoMemory } in
-        entered_in record { request = record { method = codes "POST"; target = codes "/judgehosts/fetch-work"; close = false; body = body }; moment = 7; replies = r }
+        entered_in record { request = record { method = codes "POST"; target = codes "/judgehosts/fetch-work"; close = false; body = body }; moment = 7; replies = r; asked = false }
         ≡ with_reply (event.Tick 7) (reply.Ended 2) ∷ with_reply (event.Claim (codes "h1")) reply.Nothing ∷ [] }
     ensures fetch { let body = codes "{\"hostname\":\"h1\",\"max\":2}" in
         let r : Replies = record { ticked = reply.Ended 0; answer = reply.Nothing; downed = reply.NoMemory } in
-        entered_in record { request = record { method = codes "POST"; target = codes "/judgehosts/fetch-work"; close = false; body = body }; moment = 7; replies = r }
+        entered_in record { request = record { method = codes "POST"; target = codes "/judgehosts/fetch-work"; close = false; body = body }; moment = 7; replies = r; asked = false }
         ≡ with_reply (event.Tick 7) (reply.Ended 0) ∷ with_reply (event.Fetch (codes "h1") 2) reply.Nothing ∷ [] }
     ensures verify { let r : Replies = record { ticked = reply.NoMemory; answer = reply.Verified 1; downed = reply.NoMemory } in
-        entered_in record { request = record { method = codes "POST"; target = codes "/judgements/1/verify"; close = false; body = [] }; moment = 7; replies = r }
+        entered_in record { request = record { method = codes "POST"; target = codes "/judgements/1/verify"; close = false; body = [] }; moment = 7; replies = r; asked = false }
         ≡ with_reply (event.Verify jury 1) (reply.Verified 1) ∷ [] }
     ensures no_event { let r : Replies = record { ticked = reply.Nothing; answer = reply.Nothing; downed = reply.Nothing } in
-        entered_in record { request = record { method = codes "PUT"; target = codes "/board"; close = false; body = [] }; moment = 7; replies = r } ≡ [] }
+        entered_in record { request = record { method = codes "PUT"; target = codes "/board"; close = false; body = [] }; moment = 7; replies = r; asked = false } ≡ [] }
     ensures differs { let body = codes "{\"hostname\":\"h2\",\"judging\":1,\"test\":1,\"result\":\"wrong-answer\"}" in
         let r : Replies = record { ticked = reply.NoMemory; answer = reply.Differs kind.Correct kind.WrongAnswer; downed = reply.Ended 1 } in
-        entered_in record { request = record { method = codes "POST"; target = codes "/judgehosts/add-judging-run"; close = false; body = body }; moment = 7; replies = r }
+        entered_in record { request = record { method = codes "POST"; target = codes "/judgehosts/add-judging-run"; close = false; body = body }; moment = 7; replies = r; asked = false }
         ≡ with_reply (event.Result (codes "h2") 1 1 kind.WrongAnswer) (reply.Differs kind.Correct kind.WrongAnswer)
         ∷ with_reply (event.Down (codes "h2")) (reply.Ended 1) ∷ [] }
 {}
 
 /// The definition of responses at some requests and replies.
 pub fn worked_responses()
-    ensures nothing { response_of record { method = codes "GET"; target = codes "/board"; close = false; body = [] } reply.Nothing
+    ensures nothing { response_of false record { method = codes "GET"; target = codes "/board"; close = false; body = [] } reply.Nothing
         ≡ codes "HTTP/1.1 200 OK\r\ncontent-length: 19\r\ncontent-type: application/json\r\n\r\n"
         ++ codes "{\"reply\":\"nothing\"}" }
-    ensures no_host { response_of record { method = codes "GET"; target = codes "/board"; close = false; body = [] } (reply.NoHost (codes "h9"))
+    ensures no_host { response_of false record { method = codes "GET"; target = codes "/board"; close = false; body = [] } (reply.NoHost (codes "h9"))
         ≡ codes "HTTP/1.1 404 Not Found\r\ncontent-length: 31\r\ncontent-type: application/json\r\n\r\n"
         ++ codes "{\"name\":\"h9\",\"reply\":\"no-host\"}" }
-    ensures no_lease { response_of record { method = codes "GET"; target = codes "/board"; close = false; body = [] } reply.NoLease
+    ensures no_lease { response_of false record { method = codes "GET"; target = codes "/board"; close = false; body = [] } reply.NoLease
         ≡ codes "HTTP/1.1 409 Conflict\r\ncontent-length: 20\r\ncontent-type: application/json\r\n\r\n"
         ++ codes "{\"reply\":\"no-lease\"}" }
-    ensures no_route { response_of record { method = codes "GET"; target = codes "/"; close = false; body = [] } reply.Nothing
+    ensures no_route { response_of false record { method = codes "GET"; target = codes "/"; close = false; body = [] } reply.Nothing
         ≡ codes "HTTP/1.1 404 Not Found\r\ncontent-length: 20\r\ncontent-type: application/json\r\n\r\n"
         ++ codes "{\"reply\":\"no-route\"}" }
-    ensures no_method { response_of record { method = codes "PUT"; target = codes "/board"; close = false; body = [] } reply.Nothing
+    ensures no_method { response_of false record { method = codes "PUT"; target = codes "/board"; close = false; body = [] } reply.Nothing
         ≡ codes "HTTP/1.1 405 Method Not Allowed\r\ncontent-length: 21\r\ncontent-type: application/json\r\n\r\n"
         ++ codes "{\"reply\":\"no-method\"}" }
-    ensures bad_body { response_of record { method = codes "POST"; target = codes "/judgehosts"; close = false; body = [] } reply.Nothing
+    ensures bad_body { response_of false record { method = codes "POST"; target = codes "/judgehosts"; close = false; body = [] } reply.Nothing
         ≡ codes "HTTP/1.1 400 Bad Request\r\ncontent-length: 45\r\ncontent-type: application/json\r\n\r\n"
         ++ codes "{\"reply\":\"bad-body\",\"why\":\"missing hostname\"}" }
-    ensures batch { response_of record { method = codes "POST"; target = codes "/judgehosts/fetch-work"; close = false; body = codes "{\"hostname\":\"h1\",\"max\":2}" } (reply.Batch 1 (1 ∷ 2 ∷ []) 60)
+    ensures batch { response_of false record { method = codes "POST"; target = codes "/judgehosts/fetch-work"; close = false; body = codes "{\"hostname\":\"h1\",\"max\":2}" } (reply.Batch 1 (1 ∷ 2 ∷ []) 60)
         ≡ codes "HTTP/1.1 200 OK\r\ncontent-length: 54\r\ncontent-type: application/json\r\n\r\n"
         ++ codes "{\"judging\":1,\"reply\":\"batch\",\"tests\":[1,2],\"until\":60}" }
-    ensures bad_max { response_of record { method = codes "POST"; target = codes "/judgehosts/fetch-work"; close = false; body = codes "{\"hostname\":\"h1\",\"max\":17}" } reply.Nothing
+    ensures bad_max { response_of false record { method = codes "POST"; target = codes "/judgehosts/fetch-work"; close = false; body = codes "{\"hostname\":\"h1\",\"max\":17}" } reply.Nothing
         ≡ codes "HTTP/1.1 400 Bad Request\r\ncontent-length: 36\r\ncontent-type: application/json\r\n\r\n"
         ++ codes "{\"reply\":\"bad-body\",\"why\":\"bad max\"}" }
-    ensures owner { response_of record { method = codes "GET"; target = codes "/judgements/1/submission"; close = false; body = [] } (reply.Owned 1)
+    ensures owner { response_of false record { method = codes "GET"; target = codes "/judgements/1/submission"; close = false; body = [] } (reply.Owned 1)
         ≡ codes "HTTP/1.1 200 OK\r\ncontent-length: 32\r\ncontent-type: application/json\r\n\r\n"
         ++ codes "{\"reply\":\"owner\",\"submission\":1}" }
-    ensures already { response_of record { method = codes "POST"; target = codes "/judgements/1/ask"; close = false; body = [] } (reply.Already 1)
+    ensures already { response_of false record { method = codes "POST"; target = codes "/judgements/1/ask"; close = false; body = [] } (reply.Already 1)
         ≡ codes "HTTP/1.1 409 Conflict\r\ncontent-length: 31\r\ncontent-type: application/json\r\n\r\n"
         ++ codes "{\"judging\":1,\"reply\":\"already\"}" }
+    ensures closing { response_of true record { method = codes "GET"; target = codes "/board"; close = false; body = [] } reply.Nothing
+        ≡ codes "HTTP/1.1 200 OK\r\ncontent-length: 19\r\ncontent-type: application/json\r\nconnection: close\r\n\r\n"
+        ++ codes "{\"reply\":\"nothing\"}" }
 {}

@@ -10,7 +10,7 @@ returns-in-Ok-clause-turned g c =
     turned_request_on g.A.Replier.steps _ _ _ (g.N.Source.left conn) (g.N.Source.left mid) (g.N.Source.left new) (g.N.Sink.held conn) (g.N.Sink.held mid) (g.N.Sink.held new) _ _ c.next_request.result c.in-Ok.head c.body.result.now _
     (bytes_beside g.N.Sink.beside g.N.Source.left g.N.Source.faults mid new c.requires.sink c.answer_one.ensures.beside)
     (bytes_beside g.N.Source.beside g.N.Sink.held g.N.Sink.faults conn mid c.requires.source e.beside)
-    c.body.ensures c.in-Ok.ensures e.reads c.answer_one.ensures.puts
+    c.body.ensures c.in-Ok.ensures e.reads (c.answer_one.ensures.puts g.N.Peer.asks c.is_asked_to_close-closing.ensures)
 
 pub returns-in-Ok-clause-cause : goal.returns-in-Ok-clause-cause
 returns-in-Ok-clause-cause g c =
@@ -19,7 +19,7 @@ returns-in-Ok-clause-cause g c =
     let mid = c.next_request.new.source in
     let new = c.answer_one.new.sink in
     cause_request g.A.Replier.steps _ _ _ _ _ _ c.answer_one.result (g.N.Source.faults conn) (g.N.Source.faults mid) (g.N.Source.faults new) (g.N.Sink.faults conn) (g.N.Sink.faults mid) (g.N.Sink.faults new)
-    c.answer_one.ensures.puts e.cause.later
+    (c.answer_one.ensures.puts g.N.Peer.asks c.is_asked_to_close-closing.ensures) e.cause.later
     (faults_beside g.N.Sink.beside g.N.Source.left g.N.Source.faults mid new c.requires.sink c.answer_one.ensures.beside)
     (faults_beside g.N.Source.beside g.N.Sink.held g.N.Sink.faults conn mid c.requires.source e.beside)
     c.answer_one.ensures.later c.answer_one.ensures.write

@@ -46,3 +46,7 @@ returns-clause-owner c = refl
 pub returns-clause-already : goal.returns-clause-already
 unfolding rows reply_response fault_response is_utf8 chars serde_json_on_literals matchit_on_literals digits
 returns-clause-already c = refl
+
+pub returns-clause-closing : goal.returns-clause-closing
+unfolding rows reply_response fault_response is_utf8 chars serde_json_on_literals matchit_on_literals digits
+returns-clause-closing c = refl
