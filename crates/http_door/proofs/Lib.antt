@@ -7,6 +7,6 @@ pub mod Findings
 pub mod Holding
 pub mod Giving
 pub mod Writing
-mod AnswerCutting
-mod AnswerFindings
-mod AnswerGiving
+pub mod AnswerCutting
+pub mod AnswerFindings
+pub mod AnswerGiving
