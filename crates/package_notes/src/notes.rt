@@ -1,0 +1,18 @@
+use farm_kinds::Text;
+
+/// Something in the files of a package that is skipped, or otherwise than one may think who wrote it.
+#[derive(Debug, Drop)]
+pub enum Note {
+    /// A key of `problem.yaml` that is not read, and the number of its line from 1.
+    YamlKey { line: u32, key: Text },
+    /// A key under `limits` that is not read, and the number of its line from 1.
+    LimitKey { line: u32, key: Text },
+    /// So many MiB of memory, which are cut down to 256.
+    Memory { said: u32 },
+    /// So many MiB of output, which are cut down to 64.
+    Output { said: u32 },
+    /// A key of `domjudge-problem.ini` that is not read, and the number of its line from 1.
+    IniKey { line: u32, key: Text },
+    /// Nothing sets the time limit, which is 1 second then.
+    StandardTime,
+}
