@@ -105,7 +105,6 @@ words_short (b ∷ bs) =
 -- Lines
 
 module _ (m : ℕ) where
-
   rejudge_few : (who : List ℕ) (ws : List (List ℕ)) → AreShort m ws → IfFew (m + 1) (rejudge_line who ws)
   rejudge_few who [] h = omega arith
   rejudge_few who (list ∷ []) h =
