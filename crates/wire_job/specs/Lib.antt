@@ -4,3 +4,4 @@ pub mod Checks
 pub mod JobValue
 pub mod JobShape
 pub mod Reading
+pub mod Writing

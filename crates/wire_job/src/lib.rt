@@ -2,7 +2,8 @@
 //! Base64.
 //!
 //! Where things stand: `job.rt` a job, which can be run; `reading.rt` reads one, over `fields.rt` (one field), `units.rt`
-//! (the units of a tolerance), `checking.rt` (whether the case can be run) and `faults.rt`.
+//! (the units of a tolerance), `checking.rt` (whether the case can be run) and `faults.rt`; `writing.rt` writes
+//! one.
 #![tactic(auto)]
 
 mod checking;
@@ -11,7 +12,9 @@ mod fields;
 mod job;
 mod reading;
 mod units;
+mod writing;
 
 pub use faults::{JobFault, JobField};
 pub use job::{Job, OwnCheck};
 pub use reading::read_job;
+pub use writing::write_job;
