@@ -1,0 +1,4 @@
+pub mod Submissions
+pub mod Looks
+pub mod Showing
+pub mod Feeds

@@ -1,0 +1,39 @@
+-- Versions that were published, as what the public saw at moments of one history of a board.
+use Rattle.std.specs.Prelude.{◌≡◌, ◌≢◌, ◌&&◌, Bool, true, false, List, [], ◌∷◌, ◌++◌}
+use Rattle.farm_kinds.specs.declared.outcomes.Answer.{Answer}
+use Rattle.farm_kinds.specs.declared.events.Event.{Event}
+use Rattle.farm_kinds.specs.declared.events.Event.TheVariants as event
+use Rattle.farm_model.specs.State.{public_answers}
+use Rattle.farm_board.specs.BoardState.{BoardState}
+use Rattle.farm_board.specs.Histories.{IsLegal, board_after}
+use Rattle.farm_board.specs.declared.entries.Entry.{Entry}
+use Rattle.farm_board.specs.declared.entries.Entry.TheVariants as entry
+
+-- each version is what the public sees after a front of the history, and a later version after a longer front
+abbrev pub Shown : BoardState → List (List Answer) → List Entry → Type 0
+Shown s [] es = Unit {0}
+Shown s (v ∷ vs) es =
+    (front : List Entry) × (rest : List Entry) × (es ≡ front ++ rest) × (front ≢ [])
+    × (v ≡ public_answers (board_after s front).state) × Shown (board_after s front) vs rest
+
+-- there is a legal history of the board that shows them
+abbrev pub AreShown : BoardState → List (List Answer) → Type 0
+AreShown s vs = ∥ ((history : List Entry) × IsLegal s history × Shown s vs history) ∥₁
+
+-- Who only looks
+
+-- the event asks what the public sees, or what is reported of a judging
+abbrev pub is_look : Event → Bool
+is_look event.Board = true
+is_look (event.Show judging) = true
+is_look e = false
+
+abbrev pub is_look_entry : Entry → Bool
+is_look_entry (entry.Call call) = is_look call.event
+is_look_entry (entry.Split number new) = false
+is_look_entry (entry.Join number old) = false
+
+-- all entries are calls of such events
+abbrev pub are_looks : List Entry → Bool
+are_looks [] = true
+are_looks (e ∷ es) = is_look_entry e && are_looks es
