@@ -1,5 +1,5 @@
 -- A pass makes the calls that are entered on its board.
-use Rattle.std.proofs.Common.{ℕ, ◌≡◌, List, [], ◌∷◌, ◌++◌, Bool, refl, sym, ap, ◌∙◌, subst, arith, map, append_assoc, append-nil}
+use Rattle.std.proofs.Common.{ℕ, ◌≡◌, List, [], ◌∷◌, ◌++◌, Bool, false, refl, sym, ap, ◌∙◌, subst, arith, map, append_assoc, append-nil}
 use mathlib.Core.List.{IsPrefix}
 use Rattle.farm_kinds.specs.declared.events.Event.{Event}
 use Rattle.farm_kinds.specs.declared.events.Reply.{Reply}
@@ -14,9 +14,9 @@ use Rattle.judge_server.specs.Entering.{Entered, AreEntered}
 use Rattle.judge_server.specs.Serving.{Standing, IsServed}
 use Rattle.judge_server.specs.PassCalls.{entry_of, MakesCalls}
 
--- a call leads from a pass to a pass
+-- a call leads from a pass to a pass that has no turn
 abbrev pub calling : PassValue → Event → Reply → PassValue → Type 0
-calling old event reply new = Calls old new event reply
+calling old event reply new = Calls old new event reply × (new.kept ≡ false)
 
 makes_none : (p q : PassValue) → q ≡ p → MakesCalls p [] q
 makes_none p q same = record {
@@ -25,6 +25,7 @@ makes_none p q same = record {
   legal = λ some. absurd (some refl);
   own = λ some. absurd (some refl);
   none = λ _. same;
+  turn = λ some. absurd (some refl);
   left = let e : q.left ≡ p.left = ap (λ (z : PassValue). z.left) same in omega (arith, e);
   spare = ap (λ (z : PassValue). z.spare) same;
   board = ap (λ (z : PassValue). z.board) same;
@@ -41,8 +42,13 @@ own_behind : (old m new : PassValue) (xs : List Entered) → entries_by old.numb
 own_behind old m new [] own number more = subst (λ (z : PassValue). entries_by old.number z.seen ≡ z.mine) (sym (more.none refl)) own
 own_behind old m new (x ∷ xs) own number more = subst (λ (n : ℕ). entries_by n new.seen ≡ new.mine) number (more.own (λ is. cc is))
 
-makes_one : (old m new : PassValue) (x : Entered) (xs : List Entered) → Calls old m x.event x.reply → MakesCalls m xs new → MakesCalls old (x ∷ xs) new
-makes_one old m new x xs call more =
+turn_behind : (m new : PassValue) (xs : List Entered) → m.kept ≡ false → MakesCalls m xs new → new.kept ≡ false
+turn_behind m new [] turn more = subst (λ (z : PassValue). z.kept ≡ false) (sym (more.none refl)) turn
+turn_behind m new (x ∷ xs) turn more = more.turn (λ is. cc is)
+
+makes_one : (old m new : PassValue) (x : Entered) (xs : List Entered) → calling old x.event x.reply m → MakesCalls m xs new → MakesCalls old (x ∷ xs) new
+makes_one old m new x xs made more =
+    let call = made.0 in
     let g = call.grows in
     let e : Entry = entry_of old.number x in record {
       mine = more.mine ∙ ap (λ (es : List Entry). es ++ map (entry_of m.number) xs) g.mine
@@ -53,6 +59,7 @@ makes_one old m new x xs call more =
       legal = λ _. legal_behind old m new xs g.legal g.start more;
       own = λ _. own_behind old m new xs g.own g.number more;
       none = λ is. absurd (cc is);
+      turn = λ _. turn_behind m new xs made.1 more;
       left = let a = call.left in let b = more.left in omega arith;
       spare = more.spare ∙ call.spare;
       board = more.board ∙ g.board;

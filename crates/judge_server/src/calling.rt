@@ -1,4 +1,4 @@
-ghost use Rattle.std.specs.Prelude.{◌≡◌, ◌≤◌, ◌^◌, ℕ, Some};
+ghost use Rattle.std.specs.Prelude.{◌≡◌, ◌≤◌, ◌^◌, ℕ, Some, false};
 ghost use Rattle.farm_io.specs.Beside.{side};
 ghost use Rattle.farm_board.specs.Passes.{Calls};
 ghost use Rattle.judge_server.specs.Serving.{untaken, IsServed, HasCauseServed, AnswersAll};
@@ -27,7 +27,7 @@ impl<'a, W: Wait, A: Admission> Replier for BoardReplier<'a, W, A> {
 
     ghost suits = { λ r pass. pass.board ≡ r.board.now.id };
 
-    ghost steps = { λ old event reply new. Calls old new event reply };
+    ghost steps = { λ old event reply new. Calls old new event reply × (new.kept ≡ false) };
 
     ghost left = { λ pass. pass.left };
 
