@@ -10,7 +10,7 @@ use std::fs::{File, Files, OpenFile, OpenOptions};
 use std::io;
 use std::os::unix::fs::FileExt;
 
-/// A file of the system. It tells nothing.
+/// A file of the system, which is locked while it is open: a second one at the same path fails to open. It tells nothing.
 ///
 /// Each failed call raises the count, which stands still at the end of its type. A sync that failed is not tried again:
 /// each later write and sync fails, since the system may have dropped what was written.
@@ -103,14 +103,16 @@ fn count(faults: &mut u64) -> DiskErr
     DiskErr::Failed
 }
 
-/// The file at the path, which is made where it is missing. Of an empty one, which may be new, the folder is synced:
-/// the name of a new file is on the disk only then.
+/// The file at the path, which is made where it is missing, and which no other open file of the system has locked: so two
+/// programs never write one store. Of an empty one, which may be new, the folder is synced: the name of a new file is on
+/// the disk only then.
 fn open_file<R: Files<File = File>>(files: &R, path: &str) -> io::Result<File> {
     let file = OpenOptions::new()
         .read(true)
         .write(true)
         .create(true)
         .open(files, path)?;
+    file.try_lock()?;
     if file.metadata()?.len() == 0 {
         let folder = OpenOptions::new().read(true).open(files, folder_of(path))?;
         folder.sync_all()?;
