@@ -43,7 +43,7 @@ tells_none {N} w door held start events pass o h = record {
   visits = [];
   stands = record {
     opening = o;
-    door = record { came = came_none door.coming; back = back_none door.back; accepted = omega arith; returned = omega arith };
+    door = record { came = came_none door.coming; back = back_none door.back; accepted = omega arith; returned = omega arith; listens = refl };
     beside = nothing_beside start events pass h (own_calls h.calls h.callers);
     each = All-nil (IsVisit w);
   };

@@ -1,8 +1,9 @@
 -- What stands once a connection was accepted, and once one was taken in.
 use Rattle.std.proofs.Common.{◌≡◌, ◌+◌, List, [], ◌∷◌, ◌++◌, Option, None, Some, map, length, refl, sym, ap, ◌∙◌, subst, arith, append_assoc}
-use Rattle.std.specs.Prelude.{All}
+use Rattle.std.specs.Prelude.{All, IsSome}
 use Rattle.std.proofs.lemmas.List.{map-append, length-append}
 use Rattle.std.proofs.lemmas.List.Elements.{All-head, All-tail}
+use Rattle.farm_io.specs.declared.door.Listening.{Listening}
 use Rattle.farm_io.specs.Doors.{DoorState, IsFirstOf, with_last, LetsIn, TakesBack, IsFresh}
 use Rattle.farm_board.specs.Passes.{BoardId, PassValue, SplitsOff, TakesIn}
 use Rattle.judge_server.specs.declared.ends.ConnEnd.{ConnEnd}
@@ -37,6 +38,7 @@ lets_in {N} first old new visits starts s g l =
       back = l.back ∙ g.back;
       accepted = omega (arith, len, before, one);
       returned = l.returned ∙ g.returned;
+      listens = l.listens ∙ g.listens;
     }
 
 -- the connection that was accepted first was given back
@@ -58,6 +60,7 @@ gives_back {N} first old new visits s starts v same g t =
           ∙ ap (λ (bs : List N). with_all first.back bs) (sym (map-append (λ (x : Visit N). x.back) visits (v ∷ [])));
       accepted = omega (arith, len, accepted_before, accepted_now);
       returned = omega (arith, len, returned_before, returned_now);
+      listens = t.listens ∙ g.listens;
     }
 
 -- A connection was accepted
@@ -77,6 +80,7 @@ accepts {N} w board door door' pass pass' starts s orderly fresh l split =
         orderly = record {
           board_is = split.grows.board ∙ orderly.board_is;
           door = omega (arith, len, room, accepted, returned);
+          listens = subst (λ (z : Option Listening). IsSome z) (sym l.listens) orderly.listens;
           ready = all_more (IsReady w board) starts s orderly.ready ready;
         };
         seats = omega (arith, len, spare);
@@ -123,6 +127,7 @@ takes {N} w board door door' pass pass' s starts v e orderly same_conn same_pass
         orderly = record {
           board_is = t.board ∙ orderly.board_is;
           door = omega (arith, room, accepted, returned);
+          listens = subst (λ (z : Option Listening). IsSome z) (sym b.listens) orderly.listens;
           ready = All-tail (IsReady w board) s starts orderly.ready;
         };
         seats = omega (arith, begun_spare, ready_spare, made_spare, spare);

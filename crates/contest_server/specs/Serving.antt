@@ -1,7 +1,7 @@
 -- Where the serving of a contest stands.
 use Rattle.std.specs.Prelude.{◌≡◌, ℕ, ◌+◌, ◌*◌, ◌≤◌, ◌^◌, ◌⊎◌, List, [], ◌∷◌, ◌++◌, length, map, All, Option, None, Some, Result, Ok, Err}
 use Rattle.std.specs.Io.KnownBytes.{Appends}
-use Rattle.farm_io.specs.Doors.{DoorState, IsFresh, IsEmpty}
+use Rattle.farm_io.specs.Doors.{DoorState, DoesListen, IsFresh, IsEmpty}
 use Rattle.farm_io.specs.Streams.{Rose}
 use Rattle.farm_board.specs.BoardState.{BoardState}
 use Rattle.farm_board.specs.Histories.{IsOpening}
@@ -40,6 +40,7 @@ pub record GivesBack {N : Type 0} (old new : DoorState N) (visits : List (Visit 
   pub back : new.back ≡ with_all old.back (map (λ v. v.back) visits)
   pub accepted : new.accepted ≡ old.accepted + (length visits + length starts)
   pub returned : new.returned ≡ old.returned + length visits
+  pub listens : new.listens ≡ old.listens
 
 -- The desk
 
@@ -63,10 +64,12 @@ pub record IsReady {N : Type 0} (w : Watch N) (board : BoardId) (s : Start N) : 
   pub board_is : s.begun.board ≡ board
   pub spare : s.begun.spare ≡ 0
 
--- the passes are of this board, and the connections that are being served were accepted and not given back
+-- the passes are of this board, the connections that are being served were accepted and not given back, and the door
+-- listens
 pub record IsOrderly {N : Type 0} (w : Watch N) (board : BoardId) (d : Desk N) : Type 0 where
   pub board_is : d.pass.board ≡ board
   pub door : d.door.returned + length d.starts ≤ d.door.accepted
+  pub listens : DoesListen d.door
   pub ready : All (IsReady w board) d.starts
 
 -- the desk is still in order, and a connection that is being served has a seat

@@ -1,10 +1,11 @@
 -- Connections that are being served, and those that were, with the lines that say so.
-use Rattle.std.specs.Prelude.{◌≡◌, ℕ, ◌+◌, List, [], ◌∷◌, ◌++◌, Bool, Option, Some, codes}
+use Rattle.std.specs.Prelude.{◌≡◌, ℕ, ◌+◌, List, [], ◌∷◌, ◌++◌, Option, Some, codes}
 use Rattle.std.specs.Fmt.{decimal}
 use Rattle.farm_io.specs.Doors.{IsFresh}
 use Rattle.farm_board.specs.Passes.{PassValue}
 use Rattle.judge_server.specs.declared.ends.ConnHow.{ConnHow}
 use Rattle.judge_server.specs.declared.ends.ConnHow.TheVariants as how
+use Rattle.judge_server.specs.Exchanges.{Around}
 use Rattle.judge_server.specs.Serving.{untaken, IsServed, HasCauseServed, AnswersAll}
 use Rattle.judge_server.specs.PassCalls.{MakesCalls}
 
@@ -24,12 +25,12 @@ pub record Watch (N : Type 0) : Type 0 where
   -- how often reading and writing have failed on it
   pub reads : Counting N
   pub writes : Counting N
-  -- the numbers that the clock may show
-  pub shows : ℕ → Bool
+  -- the numbers that the clock may show, and whether the server ever asks to close
+  pub around : Around
 
-abbrev pub watch : {N : Type 0} → Telling N → Telling N → Counting N → Counting N → (ℕ → Bool) → Watch N
-watch left held reads writes shows =
-    record { left = left; held = held; reads = reads; writes = writes; shows = shows }
+abbrev pub watch : {N : Type 0} → Telling N → Telling N → Counting N → Counting N → Around → Watch N
+watch left held reads writes around =
+    record { left = left; held = held; reads = reads; writes = writes; around = around }
 
 -- a connection as it came, and the pass that was split off for it
 pub record Start (N : Type 0) : Type 0 where
@@ -52,10 +53,10 @@ visit came back begun ended requests how =
 
 -- what `serve_conn` says of a connection
 pub record IsAnswered {N : Type 0} (w : Watch N) (v : Visit N) : Type 0 where
-  pub served : IsServed MakesCalls w.shows (untaken v.begun (w.left v.came) (w.held v.came))
+  pub served : IsServed MakesCalls w.around (untaken v.begun (w.left v.came) (w.held v.came))
       (untaken v.ended (w.left v.back) (w.held v.back)) v.requests v.how
   pub cause : HasCauseServed (w.reads v.came) (w.reads v.back) (w.writes v.came) (w.writes v.back) (Some v.how)
-  pub complete : AnswersAll (w.left v.came) (w.reads v.came) (w.reads v.back) (w.writes v.came) (w.writes v.back)
+  pub complete : AnswersAll w.around.asks (w.left v.came) (w.reads v.came) (w.reads v.back) (w.writes v.came) (w.writes v.back)
       v.requests v.how
 
 -- The connection came with nothing put on it and neither side failed. It was answered on a pass that had no entries yet

@@ -4,6 +4,7 @@ ghost use Rattle.farm_kinds.specs.declared.events.Event.{Event as EventValue};
 ghost use Rattle.farm_board.specs.BoardState.{BoardState};
 ghost use Rattle.farm_board.specs.Histories.{IsOpening};
 ghost use Rattle.parallel_judge.specs.Hosts.{HasEntered};
+ghost use Rattle.judge_server.specs.Exchanges.{around_of};
 ghost use Rattle.contest_server.specs.Visits.{watch};
 ghost use Rattle.contest_server.specs.Serving.{desk, share, IsOrderly, ServesLanes, HasCauseEnd};
 ghost use Rattle.contest_server.specs.Served.{HasServed, ShowsBoard};
@@ -42,23 +43,23 @@ fn serve_in_scope<
 ) -> (Pass<A>, ServeEnd)
 where
     D::Conn: Drop,
-    requires orderly { IsOrderly (watch D.Conn.left D.Conn.held D.Conn.Source.faults D.Conn.Sink.faults (C.shows clock.now)) board.now.id (desk (D.state door.old) pass []) }
+    requires orderly { IsOrderly (watch D.Conn.left D.Conn.held D.Conn.Source.faults D.Conn.Sink.faults (around_of (C.shows clock.now) D.Conn.Peer.asks)) board.now.id (desk (D.state door.old) pass []) }
     requires some { 0 < most }
     requires seats { pass.spare ≡ most }
     requires left { connections * (share + 2) + 2 * most < pass.left }
-    ensures serves { ServesLanes (watch D.Conn.left D.Conn.held D.Conn.Source.faults D.Conn.Sink.faults (C.shows clock.now)) board.now.id (desk (D.state door.old) pass []) (desk (D.state door.new) result.0 []) (K.held out.old) (K.held out.new) connections result.1 }
+    ensures serves { ServesLanes (watch D.Conn.left D.Conn.held D.Conn.Source.faults D.Conn.Sink.faults (around_of (C.shows clock.now) D.Conn.Peer.asks)) board.now.id (desk (D.state door.old) pass []) (desk (D.state door.new) result.0 []) (K.held out.old) (K.held out.new) connections result.1 }
     ensures cause { HasCauseEnd (D.faults door.old) (D.faults door.new) (K.faults out.old) (K.faults out.new) result.1 }
 {
     let (lent_door, lent_out, pass, end) = thread::scope(
         thread::scope_env(),
         rt,
         |scope| -> (&mut D, &mut K, Pass<A>, ServeEnd)
-            requires orderly { IsOrderly (watch D.Conn.left D.Conn.held D.Conn.Source.faults D.Conn.Sink.faults (C.shows clock.now)) board.now.id (desk (D.state door.now) pass []) }
+            requires orderly { IsOrderly (watch D.Conn.left D.Conn.held D.Conn.Source.faults D.Conn.Sink.faults (around_of (C.shows clock.now) D.Conn.Peer.asks)) board.now.id (desk (D.state door.now) pass []) }
             requires some { 0 < most }
             requires seats { pass.spare ≡ most }
             requires left { connections * (share + 2) + 2 * most < pass.left }
             ensures { (result.0.ghost_name ≡ door.entry.ghost_name) × (result.1.ghost_name ≡ out.entry.ghost_name)
-                × ServesLanes (watch D.Conn.left D.Conn.held D.Conn.Source.faults D.Conn.Sink.faults (C.shows clock.entry.now)) board.entry.now.id (desk (D.state door.entry.now) pass []) (desk (D.state result.0.now) result.2 []) (K.held out.entry.now) (K.held result.1.now) connections result.3
+                × ServesLanes (watch D.Conn.left D.Conn.held D.Conn.Source.faults D.Conn.Sink.faults (around_of (C.shows clock.entry.now) D.Conn.Peer.asks)) board.entry.now.id (desk (D.state door.entry.now) pass []) (desk (D.state result.0.now) result.2 []) (K.held out.entry.now) (K.held result.1.now) connections result.3
                 × HasCauseEnd (D.faults door.entry.now) (D.faults result.0.now) (K.faults out.entry.now) (K.faults result.1.now) result.3 }
         {
             let mut pass = pass;
@@ -138,12 +139,12 @@ pub(crate) fn serve_board<
 ) -> ServeEnd
 where
     D::Conn: Drop,
-    requires orderly { IsOrderly (watch D.Conn.left D.Conn.held D.Conn.Source.faults D.Conn.Sink.faults (C.shows clock.now)) board.now.id (desk (D.state door.old) pass []) }
+    requires orderly { IsOrderly (watch D.Conn.left D.Conn.held D.Conn.Source.faults D.Conn.Sink.faults (around_of (C.shows clock.now) D.Conn.Peer.asks)) board.now.id (desk (D.state door.old) pass []) }
     requires some { 0 < lanes }
     requires seats { pass.spare ≡ lanes }
     requires left { connections * (share + 2) + 4 * lanes < pass.left }
     ensures served { (start : BoardState) (events : List EventValue) → IsOpening start → HasEntered start events pass
-        → HasServed (watch D.Conn.left D.Conn.held D.Conn.Source.faults D.Conn.Sink.faults (C.shows clock.now)) start events (D.state door.old) (D.state door.new) (K.held out.old) (K.held out.new) connections result }
+        → HasServed (watch D.Conn.left D.Conn.held D.Conn.Source.faults D.Conn.Sink.faults (around_of (C.shows clock.now) D.Conn.Peer.asks)) start events (D.state door.old) (D.state door.new) (K.held out.old) (K.held out.new) connections result }
     ensures cause { HasCauseEnd (D.faults door.old) (D.faults door.new) (K.faults out.old) (K.faults out.new) result }
 {
     let (mut pass, end) = serve_in_scope(

@@ -1,9 +1,11 @@
 ghost use Rattle.std.specs.Prelude.{◌≡◌, ◌≤◌, ◌⊎◌, ◌+◌, ◌*◌, ◌^◌, IfOk, true, false};
+ghost use Rattle.farm_io.specs.Doors.{DoesListen};
 ghost use Rattle.farm_io.specs.Streams.{Rose};
 ghost use Rattle.farm_model.specs.State.{start};
 ghost use Rattle.farm_board.specs.Histories.{opening_board};
 ghost use Rattle.parallel_judge.specs.Hosts.{HasEntered};
 ghost use Rattle.contest_server.specs.Contest.{entering_events};
+ghost use Rattle.judge_server.specs.Exchanges.{around_of};
 ghost use Rattle.contest_server.specs.Visits.{watch};
 ghost use Rattle.contest_server.specs.Serving.{HasCauseEnd};
 ghost use Rattle.contest_server.specs.Served.{Serves};
@@ -44,7 +46,8 @@ where
     requires lanes { (1 ≤ lanes) × (lanes ≤ 16) }
     requires connections { connections ≤ 100000 }
     requires door { (D.state door.old).returned ≤ (D.state door.old).accepted }
-    ensures serves { Serves (watch D.Conn.left D.Conn.held D.Conn.Source.faults D.Conn.Sink.faults (C.shows clock.now)) (opening_board (start roster.now.settings) (lanes + 1) false)
+    requires listens { DoesListen (D.state door.old) }
+    ensures serves { Serves (watch D.Conn.left D.Conn.held D.Conn.Source.faults D.Conn.Sink.faults (around_of (C.shows clock.now) D.Conn.Peer.asks)) (opening_board (start roster.now.settings) (lanes + 1) false)
         (entering_events roster.now) (D.state door.old) (D.state door.new) (K.held out.old) (K.held out.new) connections result }
     ensures cause { HasCauseEnd (D.faults door.old) (D.faults door.new) (K.faults out.old) (K.faults out.new) result }
     ensures complete { ¬ Rose (D.faults door.old) (D.faults door.new) → ¬ Rose (K.faults out.old) (K.faults out.new)

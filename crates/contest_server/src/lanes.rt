@@ -1,10 +1,11 @@
 ghost use Rattle.std.specs.Prelude.{◌≡◌, ◌≤◌, ◌^◌};
 ghost use Rattle.farm_io.specs.Beside.{side};
 ghost use Rattle.contest_server.specs.Lanes.{start_of, visit_of, IsLane};
+ghost use Rattle.judge_server.specs.Exchanges.{around_of};
 ghost use Rattle.contest_server.specs.Visits.{watch, visit, IsAnswered};
 
 use farm_board::{Admission, Anyone, Board, Pass};
-use farm_io::{Clock, Sink, Source};
+use farm_io::{Clock, Peer, Sink, Source};
 use judge_server::{ConnEnd, Paths, serve_conn};
 use std::alloc::Global;
 use std::snapshot::Snapshot;
@@ -36,14 +37,14 @@ impl<N, P, C> Drop for Promised<N, P, C> {
     }
 }
 
-impl<N: Source + Sink, A: Admission, C: Clock> Promise<Served<N, Pass<A>>>
+impl<N: Source + Sink + Peer, A: Admission, C: Clock> Promise<Served<N, Pass<A>>>
     for Promised<N, Pass<A>, C> {
-    ghost kept_by = { λ p r. IsAnswered (watch N.left N.held N.Source.faults N.Sink.faults (C.shows p.clock.value))
+    ghost kept_by = { λ p r. IsAnswered (watch N.left N.held N.Source.faults N.Sink.faults (around_of (C.shows p.clock.value) N.Peer.asks))
         (visit p.came.value r.conn p.begun.value r.pass r.end.requests r.end.how) };
 }
 
 /// Serves a connection on a pass of its own.
-fn serve_one<W: Wait, A: Admission, C: Clock, N: Source + Sink>(
+fn serve_one<W: Wait, A: Admission, C: Clock, N: Source + Sink + Peer>(
     rt: &W,
     alloc: Global,
     paths: &Paths,
@@ -56,7 +57,7 @@ fn serve_one<W: Wait, A: Admission, C: Clock, N: Source + Sink>(
     requires calls { 2 ^ 42 ≤ pass.left }
     requires source { (n : N) → N.Source.beside n ≡ side (N.held n) (N.Sink.faults n) }
     requires sink { (n : N) → N.Sink.beside n ≡ side (N.left n) (N.Source.faults n) }
-    ensures answered { IsAnswered (watch N.left N.held N.Source.faults N.Sink.faults (C.shows clock.now))
+    ensures answered { IsAnswered (watch N.left N.held N.Source.faults N.Sink.faults (around_of (C.shows clock.now) N.Peer.asks))
         (visit conn result.conn pass result.pass result.end.requests result.end.how) }
 {
     let end = serve_conn(rt, alloc, paths, &mut pass, board, &mut conn, clock);
@@ -80,7 +81,7 @@ pub(crate) fn begin<
     W: Wait + Sync,
     A: Admission + Send + Sync,
     C: Clock + Sync,
-    N: Source + Sink + Send + Drop + 's,
+    N: Source + Sink + Peer + Send + Drop + 's,
 >(
     rt: &'s W,
     alloc: Global,
@@ -96,7 +97,7 @@ pub(crate) fn begin<
     requires source { (n : N) → N.Source.beside n ≡ side (N.held n) (N.Sink.faults n) }
     requires sink { (n : N) → N.Sink.beside n ≡ side (N.left n) (N.Source.faults n) }
     ensures start { start_of result ≡ record { came = conn; begun = pass } }
-    ensures lane { IsLane (watch N.left N.held N.Source.faults N.Sink.faults (C.shows clock.now)) clock.now result }
+    ensures lane { IsLane (watch N.left N.held N.Source.faults N.Sink.faults (around_of (C.shows clock.now) N.Peer.asks)) clock.now result }
 {
     let promise = Promised {
         came: Snapshot::of(&conn),
@@ -111,7 +112,7 @@ pub(crate) fn begin<
             requires calls { 2 ^ 42 ≤ pass.left }
             requires source { (n : N) → N.Source.beside n ≡ side (N.held n) (N.Sink.faults n) }
             requires sink { (n : N) → N.Sink.beside n ≡ side (N.left n) (N.Source.faults n) }
-            ensures answered { IsAnswered (watch N.left N.held N.Source.faults N.Sink.faults (C.shows clock.entry.now))
+            ensures answered { IsAnswered (watch N.left N.held N.Source.faults N.Sink.faults (around_of (C.shows clock.entry.now) N.Peer.asks))
                 (visit conn result.conn pass result.pass result.end.requests result.end.how) }
         { serve_one(rt, alloc, paths, board, clock, pass, conn) },
     );
@@ -126,13 +127,13 @@ pub(crate) fn begin<
 }
 
 /// Waits until the connection was served.
-pub(crate) fn end<R: Threads, N: Source + Sink, A: Admission, C: Clock>(
+pub(crate) fn end<R: Threads, N: Source + Sink + Peer, A: Admission, C: Clock>(
     rt: &R,
     clock: &C,
     lane: Worker<N, A, C>,
 ) -> Served<N, Pass<A>>
-    requires lane { IsLane (watch N.left N.held N.Source.faults N.Sink.faults (C.shows clock.now)) clock.now lane }
-    ensures answered { IsAnswered (watch N.left N.held N.Source.faults N.Sink.faults (C.shows clock.now))
+    requires lane { IsLane (watch N.left N.held N.Source.faults N.Sink.faults (around_of (C.shows clock.now) N.Peer.asks)) clock.now lane }
+    ensures answered { IsAnswered (watch N.left N.held N.Source.faults N.Sink.faults (around_of (C.shows clock.now) N.Peer.asks))
         (visit_of (start_of lane) result) }
 {
     let Lane { work, promise: _ } = lane;

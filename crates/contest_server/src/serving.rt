@@ -2,6 +2,7 @@ ghost use Rattle.std.specs.Prelude.{◌≡◌, ◌+◌, ◌*◌, ◌<◌, ◌≤
 ghost use Rattle.std.specs.VecDeque.{deque_len, deque_capacity};
 ghost use Rattle.farm_io.specs.Streams.{Rose};
 ghost use Rattle.contest_server.specs.Texts.{HasCauseTold};
+ghost use Rattle.judge_server.specs.Exchanges.{around_of};
 ghost use Rattle.contest_server.specs.Visits.{watch};
 ghost use Rattle.contest_server.specs.Lanes.{starts_of, AreLanes};
 ghost use Rattle.contest_server.specs.Serving.{desk, share, IsOrderly, TakesFirst, TellsFirst, TakesAll, TellsAll, AcceptsNext, MakesRoom, ServesNext, HasCauseNext, end_of, EndsWith, ServesAll, ServesLanes, HasCauseEnd};
@@ -43,12 +44,12 @@ fn take_in<R: Threads + Wait, D: Door, A: Admission, C: Clock>(
 ) -> ConnEnd
 where
     D::Conn: Drop,
-    requires orderly { IsOrderly (watch D.Conn.left D.Conn.held D.Conn.Source.faults D.Conn.Sink.faults (C.shows clock.now)) board.now.id (desk (D.state door.old) pass.old (starts_of lanes.old.items)) }
-    requires lanes { AreLanes (watch D.Conn.left D.Conn.held D.Conn.Source.faults D.Conn.Sink.faults (C.shows clock.now)) clock.now lanes.old.items }
+    requires orderly { IsOrderly (watch D.Conn.left D.Conn.held D.Conn.Source.faults D.Conn.Sink.faults (around_of (C.shows clock.now) D.Conn.Peer.asks)) board.now.id (desk (D.state door.old) pass.old (starts_of lanes.old.items)) }
+    requires lanes { AreLanes (watch D.Conn.left D.Conn.held D.Conn.Source.faults D.Conn.Sink.faults (around_of (C.shows clock.now) D.Conn.Peer.asks)) clock.now lanes.old.items }
     requires some { 0 < deque_len lanes.old }
     requires left { 0 < pass.old.left }
-    ensures takes { TakesFirst (watch D.Conn.left D.Conn.held D.Conn.Source.faults D.Conn.Sink.faults (C.shows clock.now)) board.now.id (desk (D.state door.old) pass.old (starts_of lanes.old.items)) (desk (D.state door.new) pass.new (starts_of lanes.new.items)) result }
-    ensures lanes { AreLanes (watch D.Conn.left D.Conn.held D.Conn.Source.faults D.Conn.Sink.faults (C.shows clock.now)) clock.now lanes.new.items }
+    ensures takes { TakesFirst (watch D.Conn.left D.Conn.held D.Conn.Source.faults D.Conn.Sink.faults (around_of (C.shows clock.now) D.Conn.Peer.asks)) board.now.id (desk (D.state door.old) pass.old (starts_of lanes.old.items)) (desk (D.state door.new) pass.new (starts_of lanes.new.items)) result }
+    ensures lanes { AreLanes (watch D.Conn.left D.Conn.held D.Conn.Source.faults D.Conn.Sink.faults (around_of (C.shows clock.now) D.Conn.Peer.asks)) clock.now lanes.new.items }
     ensures later { D.faults door.old ≤ D.faults door.new }
 {
     let Some(lane) = lanes.pop_front() else {
@@ -78,14 +79,14 @@ fn tell_next<R: Threads + Wait, D: Door, K: Sink, A: Admission, C: Clock>(
 ) -> Result<(), TextFault>
 where
     D::Conn: Drop,
-    requires orderly { IsOrderly (watch D.Conn.left D.Conn.held D.Conn.Source.faults D.Conn.Sink.faults (C.shows clock.now)) board.now.id (desk (D.state door.old) pass.old (starts_of lanes.old.items)) }
-    requires lanes { AreLanes (watch D.Conn.left D.Conn.held D.Conn.Source.faults D.Conn.Sink.faults (C.shows clock.now)) clock.now lanes.old.items }
+    requires orderly { IsOrderly (watch D.Conn.left D.Conn.held D.Conn.Source.faults D.Conn.Sink.faults (around_of (C.shows clock.now) D.Conn.Peer.asks)) board.now.id (desk (D.state door.old) pass.old (starts_of lanes.old.items)) }
+    requires lanes { AreLanes (watch D.Conn.left D.Conn.held D.Conn.Source.faults D.Conn.Sink.faults (around_of (C.shows clock.now) D.Conn.Peer.asks)) clock.now lanes.old.items }
     requires some { 0 < deque_len lanes.old }
     requires left { 0 < pass.old.left }
     requires count { deque_len lanes.old ≤ count }
-    ensures tells { TellsFirst (watch D.Conn.left D.Conn.held D.Conn.Source.faults D.Conn.Sink.faults (C.shows clock.now)) board.now.id (desk (D.state door.old) pass.old (starts_of lanes.old.items)) (desk (D.state door.new) pass.new (starts_of lanes.new.items)) (K.held out.old) (K.held out.new) count result }
+    ensures tells { TellsFirst (watch D.Conn.left D.Conn.held D.Conn.Source.faults D.Conn.Sink.faults (around_of (C.shows clock.now) D.Conn.Peer.asks)) board.now.id (desk (D.state door.old) pass.old (starts_of lanes.old.items)) (desk (D.state door.new) pass.new (starts_of lanes.new.items)) (K.held out.old) (K.held out.new) count result }
     ensures cause { HasCauseTold (K.faults out.old) (K.faults out.new) result }
-    ensures lanes { AreLanes (watch D.Conn.left D.Conn.held D.Conn.Source.faults D.Conn.Sink.faults (C.shows clock.now)) clock.now lanes.new.items }
+    ensures lanes { AreLanes (watch D.Conn.left D.Conn.held D.Conn.Source.faults D.Conn.Sink.faults (around_of (C.shows clock.now) D.Conn.Peer.asks)) clock.now lanes.new.items }
     ensures later { D.faults door.old ≤ D.faults door.new }
 {
     let end = take_in(rt, board, clock, door, pass, lanes);
@@ -106,13 +107,13 @@ fn tell_all<R: Threads + Wait, D: Door, K: Sink, A: Admission, C: Clock>(
 ) -> Result<(), TextFault>
 where
     D::Conn: Drop,
-    requires orderly { IsOrderly (watch D.Conn.left D.Conn.held D.Conn.Source.faults D.Conn.Sink.faults (C.shows clock.now)) board.now.id (desk (D.state door.old) pass.old (starts_of lanes.old.items)) }
-    requires lanes { AreLanes (watch D.Conn.left D.Conn.held D.Conn.Source.faults D.Conn.Sink.faults (C.shows clock.now)) clock.now lanes.old.items }
+    requires orderly { IsOrderly (watch D.Conn.left D.Conn.held D.Conn.Source.faults D.Conn.Sink.faults (around_of (C.shows clock.now) D.Conn.Peer.asks)) board.now.id (desk (D.state door.old) pass.old (starts_of lanes.old.items)) }
+    requires lanes { AreLanes (watch D.Conn.left D.Conn.held D.Conn.Source.faults D.Conn.Sink.faults (around_of (C.shows clock.now) D.Conn.Peer.asks)) clock.now lanes.old.items }
     requires left { deque_len lanes.old ≤ pass.old.left }
     requires count { deque_len lanes.old ≤ count }
-    ensures tells { TellsAll (watch D.Conn.left D.Conn.held D.Conn.Source.faults D.Conn.Sink.faults (C.shows clock.now)) board.now.id (desk (D.state door.old) pass.old (starts_of lanes.old.items)) (desk (D.state door.new) pass.new (starts_of lanes.new.items)) (K.held out.old) (K.held out.new) count result }
+    ensures tells { TellsAll (watch D.Conn.left D.Conn.held D.Conn.Source.faults D.Conn.Sink.faults (around_of (C.shows clock.now) D.Conn.Peer.asks)) board.now.id (desk (D.state door.old) pass.old (starts_of lanes.old.items)) (desk (D.state door.new) pass.new (starts_of lanes.new.items)) (K.held out.old) (K.held out.new) count result }
     ensures cause { HasCauseTold (K.faults out.old) (K.faults out.new) result }
-    ensures lanes { AreLanes (watch D.Conn.left D.Conn.held D.Conn.Source.faults D.Conn.Sink.faults (C.shows clock.now)) clock.now lanes.new.items }
+    ensures lanes { AreLanes (watch D.Conn.left D.Conn.held D.Conn.Source.faults D.Conn.Sink.faults (around_of (C.shows clock.now) D.Conn.Peer.asks)) clock.now lanes.new.items }
     ensures later { D.faults door.old ≤ D.faults door.new }
 {
     for _ in 0..lanes.len() {
@@ -132,10 +133,10 @@ fn take_all<R: Threads + Wait, D: Door, A: Admission, C: Clock>(
 )
 where
     D::Conn: Drop,
-    requires orderly { IsOrderly (watch D.Conn.left D.Conn.held D.Conn.Source.faults D.Conn.Sink.faults (C.shows clock.now)) board.now.id (desk (D.state door.old) pass.old (starts_of lanes.old.items)) }
-    requires lanes { AreLanes (watch D.Conn.left D.Conn.held D.Conn.Source.faults D.Conn.Sink.faults (C.shows clock.now)) clock.now lanes.old.items }
+    requires orderly { IsOrderly (watch D.Conn.left D.Conn.held D.Conn.Source.faults D.Conn.Sink.faults (around_of (C.shows clock.now) D.Conn.Peer.asks)) board.now.id (desk (D.state door.old) pass.old (starts_of lanes.old.items)) }
+    requires lanes { AreLanes (watch D.Conn.left D.Conn.held D.Conn.Source.faults D.Conn.Sink.faults (around_of (C.shows clock.now) D.Conn.Peer.asks)) clock.now lanes.old.items }
     requires left { deque_len lanes.old ≤ pass.old.left }
-    ensures takes { TakesAll (watch D.Conn.left D.Conn.held D.Conn.Source.faults D.Conn.Sink.faults (C.shows clock.now)) board.now.id (desk (D.state door.old) pass.old (starts_of lanes.old.items)) (desk (D.state door.new) pass.new (starts_of lanes.new.items)) }
+    ensures takes { TakesAll (watch D.Conn.left D.Conn.held D.Conn.Source.faults D.Conn.Sink.faults (around_of (C.shows clock.now) D.Conn.Peer.asks)) board.now.id (desk (D.state door.old) pass.old (starts_of lanes.old.items)) (desk (D.state door.new) pass.new (starts_of lanes.new.items)) }
     ensures later { D.faults door.old ≤ D.faults door.new }
 {
     for _ in 0..lanes.len() {
@@ -164,13 +165,13 @@ fn accept_next<
 ) -> Coming
 where
     D::Conn: Drop + 's,
-    requires orderly { IsOrderly (watch D.Conn.left D.Conn.held D.Conn.Source.faults D.Conn.Sink.faults (C.shows clock.now)) board.now.id (desk (D.state door.old) pass.old (starts_of lanes.old.items)) }
-    requires lanes { AreLanes (watch D.Conn.left D.Conn.held D.Conn.Source.faults D.Conn.Sink.faults (C.shows clock.now)) clock.now lanes.old.items }
+    requires orderly { IsOrderly (watch D.Conn.left D.Conn.held D.Conn.Source.faults D.Conn.Sink.faults (around_of (C.shows clock.now) D.Conn.Peer.asks)) board.now.id (desk (D.state door.old) pass.old (starts_of lanes.old.items)) }
+    requires lanes { AreLanes (watch D.Conn.left D.Conn.held D.Conn.Source.faults D.Conn.Sink.faults (around_of (C.shows clock.now) D.Conn.Peer.asks)) clock.now lanes.old.items }
     requires room { deque_len lanes.old < deque_capacity lanes.old }
     requires spare { 0 < pass.old.spare }
     requires left { share < pass.old.left }
-    ensures accepts { AcceptsNext (watch D.Conn.left D.Conn.held D.Conn.Source.faults D.Conn.Sink.faults (C.shows clock.now)) board.now.id (desk (D.state door.old) pass.old (starts_of lanes.old.items)) (desk (D.state door.new) pass.new (starts_of lanes.new.items)) result }
-    ensures lanes { AreLanes (watch D.Conn.left D.Conn.held D.Conn.Source.faults D.Conn.Sink.faults (C.shows clock.now)) clock.now lanes.new.items }
+    ensures accepts { AcceptsNext (watch D.Conn.left D.Conn.held D.Conn.Source.faults D.Conn.Sink.faults (around_of (C.shows clock.now) D.Conn.Peer.asks)) board.now.id (desk (D.state door.old) pass.old (starts_of lanes.old.items)) (desk (D.state door.new) pass.new (starts_of lanes.new.items)) result }
+    ensures lanes { AreLanes (watch D.Conn.left D.Conn.held D.Conn.Source.faults D.Conn.Sink.faults (around_of (C.shows clock.now) D.Conn.Peer.asks)) clock.now lanes.new.items }
     ensures later { D.faults door.old ≤ D.faults door.new }
     ensures failed { result ≡ Coming.Failed → Rose (D.faults door.old) (D.faults door.new) }
 {
@@ -200,16 +201,16 @@ fn make_room<R: Threads + Wait, D: Door, K: Sink, A: Admission, C: Clock>(
 ) -> Result<(), TextFault>
 where
     D::Conn: Drop,
-    requires orderly { IsOrderly (watch D.Conn.left D.Conn.held D.Conn.Source.faults D.Conn.Sink.faults (C.shows clock.now)) board.now.id (desk (D.state door.old) pass.old (starts_of lanes.old.items)) }
-    requires lanes { AreLanes (watch D.Conn.left D.Conn.held D.Conn.Source.faults D.Conn.Sink.faults (C.shows clock.now)) clock.now lanes.old.items }
+    requires orderly { IsOrderly (watch D.Conn.left D.Conn.held D.Conn.Source.faults D.Conn.Sink.faults (around_of (C.shows clock.now) D.Conn.Peer.asks)) board.now.id (desk (D.state door.old) pass.old (starts_of lanes.old.items)) }
+    requires lanes { AreLanes (watch D.Conn.left D.Conn.held D.Conn.Source.faults D.Conn.Sink.faults (around_of (C.shows clock.now) D.Conn.Peer.asks)) clock.now lanes.old.items }
     requires some { 0 < most }
     requires few { deque_len lanes.old ≤ most }
     requires left { 0 < pass.old.left }
     requires count { deque_len lanes.old ≤ count }
-    ensures makes { MakesRoom (watch D.Conn.left D.Conn.held D.Conn.Source.faults D.Conn.Sink.faults (C.shows clock.now)) board.now.id (desk (D.state door.old) pass.old (starts_of lanes.old.items)) (desk (D.state door.new) pass.new (starts_of lanes.new.items)) (K.held out.old) (K.held out.new) count result }
+    ensures makes { MakesRoom (watch D.Conn.left D.Conn.held D.Conn.Source.faults D.Conn.Sink.faults (around_of (C.shows clock.now) D.Conn.Peer.asks)) board.now.id (desk (D.state door.old) pass.old (starts_of lanes.old.items)) (desk (D.state door.new) pass.new (starts_of lanes.new.items)) (K.held out.old) (K.held out.new) count result }
     ensures room { deque_len lanes.new < most }
     ensures cause { HasCauseTold (K.faults out.old) (K.faults out.new) result }
-    ensures lanes { AreLanes (watch D.Conn.left D.Conn.held D.Conn.Source.faults D.Conn.Sink.faults (C.shows clock.now)) clock.now lanes.new.items }
+    ensures lanes { AreLanes (watch D.Conn.left D.Conn.held D.Conn.Source.faults D.Conn.Sink.faults (around_of (C.shows clock.now) D.Conn.Peer.asks)) clock.now lanes.new.items }
     ensures later { D.faults door.old ≤ D.faults door.new }
 {
     if lanes.len() < usize::from(most) {
@@ -243,15 +244,15 @@ fn serve_next<
 ) -> Result<Coming, TextFault>
 where
     D::Conn: Drop + 's,
-    requires orderly { IsOrderly (watch D.Conn.left D.Conn.held D.Conn.Source.faults D.Conn.Sink.faults (C.shows clock.now)) board.now.id (desk (D.state door.old) pass.old (starts_of lanes.old.items)) }
-    requires lanes { AreLanes (watch D.Conn.left D.Conn.held D.Conn.Source.faults D.Conn.Sink.faults (C.shows clock.now)) clock.now lanes.old.items }
+    requires orderly { IsOrderly (watch D.Conn.left D.Conn.held D.Conn.Source.faults D.Conn.Sink.faults (around_of (C.shows clock.now) D.Conn.Peer.asks)) board.now.id (desk (D.state door.old) pass.old (starts_of lanes.old.items)) }
+    requires lanes { AreLanes (watch D.Conn.left D.Conn.held D.Conn.Source.faults D.Conn.Sink.faults (around_of (C.shows clock.now) D.Conn.Peer.asks)) clock.now lanes.old.items }
     requires some { 0 < most }
     requires seats { pass.old.spare + deque_len lanes.old ≡ most }
     requires left { share + 1 < pass.old.left }
     requires count { deque_len lanes.old ≤ count }
-    ensures serves { ServesNext (watch D.Conn.left D.Conn.held D.Conn.Source.faults D.Conn.Sink.faults (C.shows clock.now)) board.now.id (desk (D.state door.old) pass.old (starts_of lanes.old.items)) (desk (D.state door.new) pass.new (starts_of lanes.new.items)) (K.held out.old) (K.held out.new) count result }
+    ensures serves { ServesNext (watch D.Conn.left D.Conn.held D.Conn.Source.faults D.Conn.Sink.faults (around_of (C.shows clock.now) D.Conn.Peer.asks)) board.now.id (desk (D.state door.old) pass.old (starts_of lanes.old.items)) (desk (D.state door.new) pass.new (starts_of lanes.new.items)) (K.held out.old) (K.held out.new) count result }
     ensures cause { HasCauseNext (D.faults door.old) (D.faults door.new) (K.faults out.old) (K.faults out.new) result }
-    ensures lanes { AreLanes (watch D.Conn.left D.Conn.held D.Conn.Source.faults D.Conn.Sink.faults (C.shows clock.now)) clock.now lanes.new.items }
+    ensures lanes { AreLanes (watch D.Conn.left D.Conn.held D.Conn.Source.faults D.Conn.Sink.faults (around_of (C.shows clock.now) D.Conn.Peer.asks)) clock.now lanes.new.items }
 {
     make_room(rt, alloc, board, clock, door, out, pass, lanes, most, count)?;
     if lanes.try_reserve(1).is_err() {
@@ -276,12 +277,12 @@ fn end_with<R: Threads + Wait, D: Door, K: Sink, A: Admission, C: Clock>(
 ) -> ServeEnd
 where
     D::Conn: Drop,
-    requires orderly { IsOrderly (watch D.Conn.left D.Conn.held D.Conn.Source.faults D.Conn.Sink.faults (C.shows clock.now)) board.now.id (desk (D.state door.old) pass.old (starts_of lanes.old.items)) }
-    requires lanes { AreLanes (watch D.Conn.left D.Conn.held D.Conn.Source.faults D.Conn.Sink.faults (C.shows clock.now)) clock.now lanes.old.items }
+    requires orderly { IsOrderly (watch D.Conn.left D.Conn.held D.Conn.Source.faults D.Conn.Sink.faults (around_of (C.shows clock.now) D.Conn.Peer.asks)) board.now.id (desk (D.state door.old) pass.old (starts_of lanes.old.items)) }
+    requires lanes { AreLanes (watch D.Conn.left D.Conn.held D.Conn.Source.faults D.Conn.Sink.faults (around_of (C.shows clock.now) D.Conn.Peer.asks)) clock.now lanes.old.items }
     requires left { deque_len lanes.old ≤ pass.old.left }
     requires count { deque_len lanes.old ≤ count }
-    ensures ends { EndsWith (watch D.Conn.left D.Conn.held D.Conn.Source.faults D.Conn.Sink.faults (C.shows clock.now)) board.now.id (desk (D.state door.old) pass.old (starts_of lanes.old.items)) (desk (D.state door.new) pass.new (starts_of lanes.new.items)) (K.held out.old) (K.held out.new) (K.faults out.old) (K.faults out.new) count end result }
-    ensures lanes { AreLanes (watch D.Conn.left D.Conn.held D.Conn.Source.faults D.Conn.Sink.faults (C.shows clock.now)) clock.now lanes.new.items }
+    ensures ends { EndsWith (watch D.Conn.left D.Conn.held D.Conn.Source.faults D.Conn.Sink.faults (around_of (C.shows clock.now) D.Conn.Peer.asks)) board.now.id (desk (D.state door.old) pass.old (starts_of lanes.old.items)) (desk (D.state door.new) pass.new (starts_of lanes.new.items)) (K.held out.old) (K.held out.new) (K.faults out.old) (K.faults out.new) count end result }
+    ensures lanes { AreLanes (watch D.Conn.left D.Conn.held D.Conn.Source.faults D.Conn.Sink.faults (around_of (C.shows clock.now) D.Conn.Peer.asks)) clock.now lanes.new.items }
     ensures later { D.faults door.old ≤ D.faults door.new }
 {
     match tell_all(rt, alloc, board, clock, door, out, pass, lanes, count) {
@@ -326,15 +327,15 @@ fn serve_all<
 ) -> ServeEnd
 where
     D::Conn: Drop + 's,
-    requires orderly { IsOrderly (watch D.Conn.left D.Conn.held D.Conn.Source.faults D.Conn.Sink.faults (C.shows clock.now)) board.now.id (desk (D.state door.old) pass.old (starts_of lanes.old.items)) }
-    requires lanes { AreLanes (watch D.Conn.left D.Conn.held D.Conn.Source.faults D.Conn.Sink.faults (C.shows clock.now)) clock.now lanes.old.items }
+    requires orderly { IsOrderly (watch D.Conn.left D.Conn.held D.Conn.Source.faults D.Conn.Sink.faults (around_of (C.shows clock.now) D.Conn.Peer.asks)) board.now.id (desk (D.state door.old) pass.old (starts_of lanes.old.items)) }
+    requires lanes { AreLanes (watch D.Conn.left D.Conn.held D.Conn.Source.faults D.Conn.Sink.faults (around_of (C.shows clock.now) D.Conn.Peer.asks)) clock.now lanes.old.items }
     requires some { 0 < most }
     requires none { deque_len lanes.old ≡ 0 }
     requires seats { pass.old.spare ≡ most }
     requires left { connections * (share + 2) + most < pass.old.left }
-    ensures serves { ServesAll (watch D.Conn.left D.Conn.held D.Conn.Source.faults D.Conn.Sink.faults (C.shows clock.now)) board.now.id (desk (D.state door.old) pass.old (starts_of lanes.old.items)) (desk (D.state door.new) pass.new (starts_of lanes.new.items)) (K.held out.old) (K.held out.new) connections result }
+    ensures serves { ServesAll (watch D.Conn.left D.Conn.held D.Conn.Source.faults D.Conn.Sink.faults (around_of (C.shows clock.now) D.Conn.Peer.asks)) board.now.id (desk (D.state door.old) pass.old (starts_of lanes.old.items)) (desk (D.state door.new) pass.new (starts_of lanes.new.items)) (K.held out.old) (K.held out.new) connections result }
     ensures cause { HasCauseEnd (D.faults door.old) (D.faults door.new) (K.faults out.old) (K.faults out.new) result }
-    ensures lanes { AreLanes (watch D.Conn.left D.Conn.held D.Conn.Source.faults D.Conn.Sink.faults (C.shows clock.now)) clock.now lanes.new.items }
+    ensures lanes { AreLanes (watch D.Conn.left D.Conn.held D.Conn.Source.faults D.Conn.Sink.faults (around_of (C.shows clock.now) D.Conn.Peer.asks)) clock.now lanes.new.items }
 {
     for i in 0..connections {
         match serve_next(
@@ -410,11 +411,11 @@ pub(crate) fn serve_lanes<
 ) -> ServeEnd
 where
     D::Conn: Drop + 's,
-    requires orderly { IsOrderly (watch D.Conn.left D.Conn.held D.Conn.Source.faults D.Conn.Sink.faults (C.shows clock.now)) board.now.id (desk (D.state door.old) pass.old []) }
+    requires orderly { IsOrderly (watch D.Conn.left D.Conn.held D.Conn.Source.faults D.Conn.Sink.faults (around_of (C.shows clock.now) D.Conn.Peer.asks)) board.now.id (desk (D.state door.old) pass.old []) }
     requires some { 0 < most }
     requires seats { pass.old.spare ≡ most }
     requires left { connections * (share + 2) + 2 * most < pass.old.left }
-    ensures serves { ServesLanes (watch D.Conn.left D.Conn.held D.Conn.Source.faults D.Conn.Sink.faults (C.shows clock.now)) board.now.id (desk (D.state door.old) pass.old []) (desk (D.state door.new) pass.new []) (K.held out.old) (K.held out.new) connections result }
+    ensures serves { ServesLanes (watch D.Conn.left D.Conn.held D.Conn.Source.faults D.Conn.Sink.faults (around_of (C.shows clock.now) D.Conn.Peer.asks)) board.now.id (desk (D.state door.old) pass.old []) (desk (D.state door.new) pass.new []) (K.held out.old) (K.held out.new) connections result }
     ensures cause { HasCauseEnd (D.faults door.old) (D.faults door.new) (K.faults out.old) (K.faults out.new) result }
 {
     let mut lanes = VecDeque::new(alloc);

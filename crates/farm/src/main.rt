@@ -5,7 +5,9 @@ ghost use Rattle.std.specs.Prelude.{◌≡◌, None, refl};
 
 use command_line::{Command, read_command};
 use farm_cli::{Exit, farm_main};
-use farm_io::{Accepted, Door, DoorErr, ReadSource, SystemClock, TcpConn, TcpDoor, WriteSink};
+use farm_io::{
+    Accepted, Door, DoorErr, Listening, ReadSource, SystemClock, TcpConn, TcpDoor, WriteSink,
+};
 use farm_kinds::Task;
 use farm_tree::DiskTree;
 use judgehost::AlwaysOn;
@@ -67,12 +69,12 @@ make makes a contest of NUMBER (0 to 4294967295) with 1 to 50 PROBLEMS and 1 to
 2000 SUBMISSIONS, runs it on two hosts, and writes how many submissions have
 each verdict, and the SHA-256 digest of the table that judge would write.
 
-serve reads the contest in FOLDER, listens at port P of this machine (0 is any
-port that is free) and says on standard error at which, and answers judgehosts
+serve reads the contest in FOLDER, listens at port P of 127.0.0.1 (0 is any port
+that is free) and says on standard error at which, and answers judgehosts
 and the jury by HTTP: up to N connections at the same time, 1 to 16, and up to M
 in all, 1 to 100000. It writes a line conn I requests R END for each of them when
-it ended, and then the board. A connection that says nothing holds its place for
-good: put a proxy that has time-outs before it.
+it ended, and then the board. A connection from which nothing comes for a minute
+is ended. It asks for no passwords: put a proxy before it that does.
 
 Status: 0 done, 2 usage, 3 bad settings or contest, 4 read fault, 5 write
 fault, 6 no memory, 7 file fault, 8 port or connection fault, 9 input limit.
@@ -180,7 +182,7 @@ impl<'a> Announced<'a> {
     {
         Announced {
             rt,
-            door: TcpDoor::new(rt),
+            door: TcpDoor::new(rt, rt.alloc()),
         }
     }
 
@@ -195,31 +197,34 @@ impl<'a> Announced<'a> {
     }
 }
 
-impl Door for Announced<'_> {
-    type Conn = TcpConn;
+impl<'a> Door for Announced<'a> {
+    type Conn = TcpConn<&'a HostRuntime>;
 
-    ghost state = { λ d. record { coming = None; back = None; accepted = d.door.accepted; returned = d.door.returned } };
+    ghost state = { λ d. record { coming = None; back = None; accepted = d.door.accepted; returned = d.door.returned; listens = d.door.listens } };
 
     ghost faults = { λ d. d.door.faults };
 
-    fn listen(&mut self, port: u16) -> Result<(), DoorErr> {
-        let heard = self.door.listen(port);
+    fn listen(&mut self, at: Listening) -> Result<(), DoorErr> {
+        let heard = self.door.listen(at);
         if heard.is_ok() {
             self.announce();
         }
         heard
     }
 
-    fn accept(&mut self) -> Accepted<TcpConn> {
-        let accepted = self.door.accept();
-        if let Accepted::Conn(conn) = &accepted {
-            // A response then never waits for word that the one before it has come.
-            let _ = conn.stream.set_nodelay(true);
-        }
-        accepted
+    fn await_next(&mut self) {
+        self.door.await_next();
     }
 
-    fn give_back(&mut self, conn: TcpConn) {
+    fn accept(&mut self) -> Accepted<TcpConn<&'a HostRuntime>> {
+        self.door.accept()
+    }
+
+    fn ask_to_close(&mut self, before: u64) {
+        self.door.ask_to_close(before);
+    }
+
+    fn give_back(&mut self, conn: TcpConn<&'a HostRuntime>) {
         self.door.give_back(conn);
     }
 

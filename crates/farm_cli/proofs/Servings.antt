@@ -2,6 +2,7 @@
 use Rattle.std.proofs.Common.{◌≡◌, ℕ, List, Option, Some, inr, refl, sym, subst}
 use Rattle.std.specs.Prelude.{◌⊎◌, IfSome}
 use Rattle.farm_tree.specs.declared.reads.TreeFile.{TreeFile}
+use Rattle.farm_io.specs.declared.door.Listening.{Listening}
 use Rattle.farm_cli.specs.declared.exit.Exit.{Exit}
 use Rattle.farm_cli.specs.declared.exit.Exit.TheVariants as exit
 use Rattle.command_line.specs.CommandLine.{CommandValue, Serve}
@@ -18,14 +19,14 @@ serve_complete files folder port lanes connections command left T S K D e is don
     subst (λ (o : Option CommandValue). IfSome o (λ command. CommandIsDone files command left (¬ T × ¬ S × ¬ K × ¬ D) e)) is
     (λ has faultless. done has faultless.0 faultless.3 faultless.2)
 
-pub unserved : {N : Type 0} (files : Option (List TreeFile)) (folder : List ℕ) (lanes connections : ℕ) (door : DoorUse N) (held held' : Option (List ℕ)) (unwritten : Type 0) (e : Exit)
-    → IsUnasked door → NoContestEnds files folder held held' unwritten e → ServeEnds files folder lanes connections door held held' unwritten e
-unserved files folder lanes connections door held held' unwritten exit.Done same h = absurd h
-unserved files folder lanes connections door held held' unwritten exit.Usage same h = h
-unserved files folder lanes connections door held held' unwritten exit.BadContest same h = (same, h)
-unserved files folder lanes connections door held held' unwritten exit.ReadFault same h = h
-unserved files folder lanes connections door held held' unwritten exit.WriteFault same h = inr (same, h)
-unserved files folder lanes connections door held held' unwritten exit.Memory same h = inr (same, h)
-unserved files folder lanes connections door held held' unwritten exit.TreeFault same h = (same, h)
-unserved files folder lanes connections door held held' unwritten exit.DoorFault same h = absurd h
-unserved files folder lanes connections door held held' unwritten exit.InputLimit same h = h
+pub unserved : {N : Type 0} (files : Option (List TreeFile)) (folder : List ℕ) (at : Listening) (lanes connections : ℕ) (door : DoorUse N) (held held' : Option (List ℕ)) (unwritten : Type 0) (e : Exit)
+    → IsUnasked door → NoContestEnds files folder held held' unwritten e → ServeEnds files folder at lanes connections door held held' unwritten e
+unserved files folder at lanes connections door held held' unwritten exit.Done same h = absurd h
+unserved files folder at lanes connections door held held' unwritten exit.Usage same h = h
+unserved files folder at lanes connections door held held' unwritten exit.BadContest same h = (same, h)
+unserved files folder at lanes connections door held held' unwritten exit.ReadFault same h = h
+unserved files folder at lanes connections door held held' unwritten exit.WriteFault same h = inr (same, h)
+unserved files folder at lanes connections door held held' unwritten exit.Memory same h = inr (same, h)
+unserved files folder at lanes connections door held held' unwritten exit.TreeFault same h = (same, h)
+unserved files folder at lanes connections door held held' unwritten exit.DoorFault same h = absurd h
+unserved files folder at lanes connections door held held' unwritten exit.InputLimit same h = h

@@ -16,7 +16,7 @@ use Rattle.farm_cli.specs.declared.exit.Exit.TheVariants as exit
 use Rattle.farm_cli.specs.Config.{config_in, ConfigIs, bad_contest_line}
 use Rattle.farm_cli.specs.Judged.{JudgeEnds, ContestIsDone}
 use Rattle.farm_cli.specs.Making.{MakeEnds, MakeIsDone}
-use Rattle.farm_cli.specs.ServedContest.{DoorUse, ServeEnds}
+use Rattle.farm_cli.specs.ServedContest.{DoorUse, at_loopback, ServeEnds}
 
 -- what the input has left and the output holds, as far as these tell, before a command and after it
 pub record Streams : Type 0 where
@@ -119,7 +119,7 @@ CommandEnds files (Judge folder hosts journal) door old new unread unwritten e =
 CommandEnds files (Make number size) door old new unread unwritten e =
     unread × MakeEnds number size old.held new.held unwritten e
 CommandEnds files (Serve folder port lanes connections) door old new unread unwritten e =
-    unread × ServeEnds files folder lanes connections door old.held new.held unwritten e
+    unread × ServeEnds files folder (at_loopback port) lanes connections door old.held new.held unwritten e
 
 -- the path of the file or the folder that a command reads, where it reads one
 abbrev pub file_of : CommandValue → Option (List ℕ)

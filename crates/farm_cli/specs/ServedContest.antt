@@ -1,7 +1,9 @@
 -- How the serving of a contest ends.
-use Rattle.std.specs.Prelude.{◌≡◌, ◌⊎◌, ◌+◌, ℕ, false, List, Option, Ok}
+use Rattle.std.specs.Prelude.{◌≡◌, ◌⊎◌, ◌+◌, ℕ, false, List, [], ◌∷◌, Option, Ok}
+use Rattle.std.specs.declared.net.ip_addr.IpAddr.TheVariants as ip
 use Rattle.farm_tree.specs.declared.reads.TreeFile.{TreeFile}
-use Rattle.farm_io.specs.Doors.{DoorState}
+use Rattle.farm_io.specs.declared.door.Listening.{Listening}
+use Rattle.farm_io.specs.Doors.{DoorState, listening_at}
 use Rattle.farm_model.specs.State.{start}
 use Rattle.farm_board.specs.Histories.{opening_board}
 use Rattle.contest_folder.specs.RosterValue.{RosterValue}
@@ -21,34 +23,43 @@ pub record DoorUse (N : Type 0) : Type 0 where
   pub old : DoorState N
   pub new : DoorState N
 
--- The folder is a contest, and it was served over the connections that came: one legal history stands behind all that
--- was answered and written.
-pub record IsServed {N : Type 0} (files : Option (List TreeFile)) (folder : List ℕ) (lanes connections : ℕ)
-    (door : DoorUse N) (held held' : Option (List ℕ)) (e : ServeEnd) : Type 0 where
+-- The folder is a contest, and it was served over the connections that came to a door that listened there: one legal
+-- history stands behind all that was answered and written.
+pub record IsServed {N : Type 0} (files : Option (List TreeFile)) (folder : List ℕ) (at : Listening)
+    (lanes connections : ℕ) (door : DoorUse N) (held held' : Option (List ℕ)) (e : ServeEnd) : Type 0 where
   pub roster : RosterValue
   pub read : ContestIs files folder (Ok roster)
   pub serves : Serves door.watch (opening_board (start roster.settings) (lanes + 1) false) (entering_events roster)
-      door.old door.new held held' connections e
+      (listening_at door.old at) door.new held held' connections e
+
+-- at this port of the machine itself, with the patience of a minute
+abbrev pub at_loopback : ℕ → Listening
+at_loopback port = record {
+  address = ip.V4 (record { octets = 127 ∷ 0 ∷ 0 ∷ 1 ∷ [] });
+  port = port;
+  patience = 60;
+  until_input_ends = false;
+}
 
 -- no connection was asked for
 abbrev pub IsUnasked : {N : Type 0} → DoorUse N → Type 0
 IsUnasked door = door.new ≡ door.old
 
 -- How it ends. `unwritten` says that the output is as it was.
-abbrev pub ServeEnds : {N : Type 0} → Option (List TreeFile) → List ℕ → ℕ → ℕ → DoorUse N → Option (List ℕ)
+abbrev pub ServeEnds : {N : Type 0} → Option (List TreeFile) → List ℕ → Listening → ℕ → ℕ → DoorUse N → Option (List ℕ)
     → Option (List ℕ) → Type 0 → Exit → Type 0
-ServeEnds files folder lanes connections door held held' unwritten exit.Done =
-    IsServed files folder lanes connections door held held' end.Done
-ServeEnds files folder lanes connections door held held' unwritten exit.Usage = ⊥
-ServeEnds files folder lanes connections door held held' unwritten exit.BadContest =
+ServeEnds files folder at lanes connections door held held' unwritten exit.Done =
+    IsServed files folder at lanes connections door held held' end.Done
+ServeEnds files folder at lanes connections door held held' unwritten exit.Usage = ⊥
+ServeEnds files folder at lanes connections door held held' unwritten exit.BadContest =
     IsUnasked door × Writes (IsFaultLine files folder) held held'
-ServeEnds files folder lanes connections door held held' unwritten exit.ReadFault = ⊥
-ServeEnds files folder lanes connections door held held' unwritten exit.WriteFault =
-    IsServed files folder lanes connections door held held' end.WriteFault
+ServeEnds files folder at lanes connections door held held' unwritten exit.ReadFault = ⊥
+ServeEnds files folder at lanes connections door held held' unwritten exit.WriteFault =
+    IsServed files folder at lanes connections door held held' end.WriteFault
     ⊎ (IsUnasked door × WritesFront (IsFaultLine files folder) held held')
-ServeEnds files folder lanes connections door held held' unwritten exit.Memory =
-    IsServed files folder lanes connections door held held' end.NoMemory ⊎ (IsUnasked door × unwritten)
-ServeEnds files folder lanes connections door held held' unwritten exit.TreeFault = IsUnasked door × unwritten
-ServeEnds files folder lanes connections door held held' unwritten exit.DoorFault =
-    IsServed files folder lanes connections door held held' end.DoorFault ⊎ (IsUnasked door × unwritten)
-ServeEnds files folder lanes connections door held held' unwritten exit.InputLimit = ⊥
+ServeEnds files folder at lanes connections door held held' unwritten exit.Memory =
+    IsServed files folder at lanes connections door held held' end.NoMemory ⊎ (IsUnasked door × unwritten)
+ServeEnds files folder at lanes connections door held held' unwritten exit.TreeFault = IsUnasked door × unwritten
+ServeEnds files folder at lanes connections door held held' unwritten exit.DoorFault =
+    IsServed files folder at lanes connections door held held' end.DoorFault ⊎ (IsUnasked door × unwritten)
+ServeEnds files folder at lanes connections door held held' unwritten exit.InputLimit = ⊥

@@ -1,27 +1,41 @@
 ghost use Rattle.std.specs.Prelude.{◌≡◌, ◌≢◌, ◌⊎◌, ◌≤◌, ℕ, Option, List, Ok};
 ghost use Rattle.farm_io.specs.Streams.{Rose};
 ghost use Rattle.farm_tree.specs.declared.reads.TreeFile.{TreeFile};
+ghost use Rattle.judge_server.specs.Exchanges.{around_of};
 ghost use Rattle.contest_server.specs.Visits.{watch};
 ghost use Rattle.farm_cli.specs.Judged.{ContestIs, HasContest};
-ghost use Rattle.farm_cli.specs.ServedContest.{DoorUse, ServeEnds};
+ghost use Rattle.farm_cli.specs.ServedContest.{DoorUse, at_loopback, ServeEnds};
 
 use crate::exit::Exit;
 use crate::judging::refuse;
 use contest_folder::{Roster, read_contest};
 use contest_server::{ServeEnd, serve_contest};
-use farm_io::{Clock, Door, Sink};
+use farm_io::{Clock, Door, Listening, Sink};
 use farm_tree::Tree;
 use std::alloc::Global;
+use std::net::{IpAddr, Ipv4Addr};
 use std::sync::Wait;
 use std::thread::Threads;
 
-/// `farm serve`: serves the contest in the folder to at most so many connections that come to this port, at most `lanes`
-/// of them at the same time. A line is written for each connection, and behind them the board.
+/// At this port of the machine itself, with the patience of a minute.
+pub fn at_loopback(port: u16) -> Listening
+    ensures { result ≡ at_loopback port }
+{
+    Listening {
+        address: IpAddr::V4(Ipv4Addr::LOCALHOST),
+        port,
+        patience: 60,
+        until_input_ends: false,
+    }
+}
+
+/// `farm serve`: serves the contest in the folder to at most so many connections that come where the door is to listen,
+/// at most `lanes` of them at the same time. A line is written for each connection, and behind them the board.
 pub fn serve<R: Threads + Wait + Sync, T: Tree, K: Sink, C: Clock + Sync, D: Door>(
     rt: &R,
     alloc: Global,
     folder: &str,
-    port: u16,
+    at: Listening,
     lanes: u16,
     connections: u32,
     tree: &mut T,
@@ -36,8 +50,8 @@ where
     requires door { (D.state door.old).returned ≤ (D.state door.old).accepted }
     ensures command { result ≢ Exit.Usage }
     ensures read_fault { result ≢ Exit.ReadFault }
-    ensures ends { ServeEnds (T.files tree.old) folder.now lanes connections
-        (record { watch = watch D.Conn.left D.Conn.held D.Conn.Source.faults D.Conn.Sink.faults (C.shows clock.now); old = D.state door.old; new = D.state door.new })
+    ensures ends { ServeEnds (T.files tree.old) folder.now at lanes connections
+        (record { watch = watch D.Conn.left D.Conn.held D.Conn.Source.faults D.Conn.Sink.faults (around_of (C.shows clock.now) D.Conn.Peer.asks); old = D.state door.old; new = D.state door.new })
         (K.held out.old) (K.held out.new) (out.new ≡ out.old) result }
     ensures files { T.files tree.new ≡ T.files tree.old }
     ensures write_fault { result ≡ Exit.WriteFault → Rose (K.faults out.old) (K.faults out.new) }
@@ -48,27 +62,17 @@ where
         → (result ≡ Exit.Done) ⊎ (result ≡ Exit.Memory) }
 {
     match read_contest(alloc, tree, folder) {
-        Ok(roster) => serve_roster(
-            rt,
-            alloc,
-            &roster,
-            port,
-            lanes,
-            connections,
-            out,
-            clock,
-            door,
-        ),
+        Ok(roster) => serve_roster(rt, alloc, &roster, at, lanes, connections, out, clock, door),
         Err(fault) => refuse(alloc, &fault, out),
     }
 }
 
-/// Listens at the port, and serves a contest to the connections that come.
+/// Listens, and serves a contest to the connections that come.
 fn serve_roster<R: Threads + Wait + Sync, K: Sink, C: Clock + Sync, D: Door>(
     rt: &R,
     alloc: Global,
     roster: &Roster,
-    port: u16,
+    at: Listening,
     lanes: u16,
     connections: u32,
     out: &mut K,
@@ -81,16 +85,16 @@ where
     requires connections { connections ≤ 100000 }
     requires door { (D.state door.old).returned ≤ (D.state door.old).accepted }
     ensures ends { (files : Option (List TreeFile)) (folder : List ℕ) → ContestIs files folder (Ok roster.now)
-        → ServeEnds files folder lanes connections
-        (record { watch = watch D.Conn.left D.Conn.held D.Conn.Source.faults D.Conn.Sink.faults (C.shows clock.now); old = D.state door.old; new = D.state door.new })
+        → ServeEnds files folder at lanes connections
+        (record { watch = watch D.Conn.left D.Conn.held D.Conn.Source.faults D.Conn.Sink.faults (around_of (C.shows clock.now) D.Conn.Peer.asks); old = D.state door.old; new = D.state door.new })
         (K.held out.old) (K.held out.new) (out.new ≡ out.old) result }
     ensures write_fault { result ≡ Exit.WriteFault → Rose (K.faults out.old) (K.faults out.new) }
     ensures door_fault { result ≡ Exit.DoorFault → Rose (D.faults door.old) (D.faults door.new) }
     ensures all { (result ≡ Exit.Done) ⊎ (result ≡ Exit.DoorFault) ⊎ (result ≡ Exit.WriteFault) ⊎ (result ≡ Exit.Memory) }
 {
-    if door.listen(port).is_err() {
+    let Ok(()) = door.listen(at) else {
         return Exit::DoorFault;
-    }
+    };
     match serve_contest(rt, alloc, roster, lanes, connections, clock, door, out) {
         ServeEnd::Done => Exit::Done,
         ServeEnd::DoorFault => Exit::DoorFault,

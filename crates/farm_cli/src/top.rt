@@ -5,6 +5,7 @@ ghost use Rattle.farm_tree.specs.declared.reads.TreeFile.{TreeFile};
 ghost use Rattle.farm_model.specs.State.{SettingsValue, start};
 ghost use Rattle.script_session.specs.Session.{IsShort};
 ghost use Rattle.command_line.specs.CommandLine.{command_of};
+ghost use Rattle.judge_server.specs.Exchanges.{around_of};
 ghost use Rattle.contest_server.specs.Visits.{watch};
 ghost use Rattle.farm_cli.specs.Config.{ConfigIs};
 ghost use Rattle.farm_cli.specs.Scripted.{file_of, UnlessServing, RunEnds, NoSettingsEnds, ScriptEnds, CommandEnds, ScriptIsDone, CommandIsDone};
@@ -13,7 +14,7 @@ use crate::config::{BadConfig, ConfigEnd, bad_contest_line, read_config};
 use crate::exit::Exit;
 use crate::judging::judge;
 use crate::making::make;
-use crate::serving::serve;
+use crate::serving::{at_loopback, serve};
 use command_line::{Command, read_command};
 use farm_core::Farm;
 use farm_io::{Clock, Door, PutEnd, Sink, Source};
@@ -79,7 +80,7 @@ where
     // that verdict is what running every test in rank order on one thread gives; final stays; each result counts
     // once. A contest's verdicts are the same whatever the number of its hosts, the gate and the schedule.
     ensures ends { IfSome (command_of (map string_bytes words.now)) (λ command. CommandEnds (T.files tree.old) command
-        (record { watch = watch D.Conn.left D.Conn.held D.Conn.Source.faults D.Conn.Sink.faults (C.shows clock.now); old = D.state door.old; new = D.state door.new })
+        (record { watch = watch D.Conn.left D.Conn.held D.Conn.Source.faults D.Conn.Sink.faults (around_of (C.shows clock.now) D.Conn.Peer.asks); old = D.state door.old; new = D.state door.new })
         (record { left = S.left input.old; held = K.held out.old }) (record { left = S.left input.new; held = K.held out.new })
         (input.new ≡ input.old) (out.new ≡ out.old) result) }
 
@@ -132,7 +133,7 @@ where
             rt,
             alloc,
             folder,
-            port,
+            at_loopback(port),
             lanes.get(),
             connections.get(),
             tree,

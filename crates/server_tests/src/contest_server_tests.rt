@@ -1,10 +1,10 @@
-ghost use Rattle.std.specs.Prelude.{◌≡◌, ◌≤◌, [], IfOk};
+ghost use Rattle.std.specs.Prelude.{◌≡◌, ◌≤◌, [], IfOk, IsSome};
 
-use crate::talks::{ROOM, bytes_of, conn_of, said};
+use crate::talks::{ROOM, at_port, bytes_of, conn_of, said};
 use contest_folder::{Roster, read_contest};
 use contest_server::{ServeEnd, serve_contest};
 use farm_io::{
-    Connection, FixedClock, MemoryDoor, MemorySink, MemorySource, ReliableConn, ReliableDoor,
+    Connection, Door, FixedClock, MemoryDoor, MemorySink, MemorySource, ReliableConn, ReliableDoor,
     ReliableSink, Sink,
 };
 use farm_kinds::Text;
@@ -69,13 +69,15 @@ pub(crate) fn one_roster(alloc: Global) -> Result<Roster, Fail> {
 
 /// A door to which two connections come. What they say stands by words on the two sides of `|`.
 fn door_of(alloc: Global, talks: &str) -> Result<ReliableDoor, AllocError>
-    ensures { IfOk result (λ d. (d.back ≡ []) × (d.accepted ≡ 0)) }
+    ensures { IfOk result (λ d. (d.back ≡ []) × (d.accepted ≡ 0) × IsSome d.listens) }
 {
     let (first, second) = talks.split_once('|').unwrap_or((talks, ""));
     let mut coming = Vec::new(alloc);
     coming.push(conn_of(alloc, first)?)?;
     coming.push(conn_of(alloc, second)?)?;
-    ReliableDoor::new(alloc, coming)
+    let mut door = ReliableDoor::new(alloc, coming)?;
+    let _listens = door.listen(at_port(80));
+    Ok(door)
 }
 
 /// How two connections are served, and the door to which they came.
@@ -206,13 +208,17 @@ fn connections_are_given_back_in_order(rt: HostRuntime) -> Result<(), Fail> {
 
 /// A door that may fail, to which a connection comes, and whose second call fails.
 fn failing_door(alloc: Global) -> Result<MemoryDoor, AllocError>
-    ensures { IfOk result (λ d. (d.back ≡ []) × (d.accepted ≡ 0)) }
+    ensures { IfOk result (λ d. (d.back ≡ []) × (d.accepted ≡ 0) × IsSome d.listens) }
 {
     let source = MemorySource::new(said(alloc, "host fetch correct correct")?, Vec::new(alloc));
     let sink = MemorySink::new(Vec::with_capacity(alloc, ROOM)?, Vec::new(alloc));
     let mut coming = Vec::new(alloc);
     coming.push(Connection::new(source, sink))?;
-    MemoryDoor::new(alloc, coming, [1].to_vec(alloc)?)
+    let mut door = MemoryDoor::new(alloc, coming, [2].to_vec(alloc)?)?;
+    if door.listen(at_port(80)).is_err() {
+        return Err(AllocError);
+    }
+    Ok(door)
 }
 
 /// How serving ends at this door, which gives so many connections back.

@@ -1,7 +1,7 @@
-ghost use Rattle.std.specs.Prelude.{◌≡◌, ◌<◌, length, All, IfOk};
+ghost use Rattle.std.specs.Prelude.{◌≡◌, ◌<◌, length, All, IfOk, IfSome, IsSome};
 ghost use Rattle.farm_io.specs.MemoryDoors.{IsNew, IsReliableNew};
 
-use crate::talks::check_bytes;
+use crate::talks::{at_port, check_bytes};
 use farm_io::{
     Accepted, Clock, Connection, Door, DoorErr, FixedClock, MemoryConn, MemoryDoor, MemorySink,
     MemorySource, PutEnd, ReliableConn, ReliableDoor, ReliableSink, ReliableSource, Sink, Source,
@@ -88,7 +88,8 @@ fn first_byte<S: Source>(source: &mut S) -> u8 {
 /// Accepts two connections, and gives them back the other way round, the second one with a byte put on it: what each had
 /// left. Zeros where fewer came.
 fn serve_two(door: &mut ReliableDoor) -> [u8; 2]
-    requires { door.old.accepted ≡ length door.old.back }
+    requires { (door.old.accepted ≡ length door.old.back) × IsSome door.old.listens }
+    ensures { IsSome door.new.listens }
 {
     let Accepted::Conn(mut first) = door.accept() else {
         return [0, 0];
@@ -106,17 +107,19 @@ fn serve_two(door: &mut ReliableDoor) -> [u8; 2]
 
 /// A door to which two connections come, with a byte each.
 fn door_of_two(alloc: Global) -> Result<ReliableDoor, AllocError>
-    ensures { IfOk result (λ door. (door.accepted ≡ 0) × (length door.back ≡ 0)) }
+    ensures { IfOk result (λ door. (door.accepted ≡ 0) × (length door.back ≡ 0) × IsSome door.listens) }
 {
     let mut coming = Vec::new(alloc);
     coming.push(reliable_conn(alloc, b"a")?)?;
     coming.push(reliable_conn(alloc, b"b")?)?;
-    ReliableDoor::new(alloc, coming)
+    let mut door = ReliableDoor::new(alloc, coming)?;
+    let _listens = door.listen(at_port(80));
+    Ok(door)
 }
 
 /// Checks that both connections come and go back, and that no more comes.
 fn check_two(rt: &impl Abort, door: &mut ReliableDoor) -> Result<(), Fail>
-    requires { door.old.accepted ≡ length door.old.back }
+    requires { (door.old.accepted ≡ length door.old.back) × IsSome door.old.listens }
 {
     assert_eq!(rt; serve_two(door), [b'a', b'b']);
     assert!(rt; matches!(door.accept(), Accepted::End));
@@ -136,12 +139,12 @@ fn connections_come_in_order_and_go_back_as_they_are_given(rt: HostRuntime) -> R
 /// often the door had failed.
 fn serve_one(door: &mut MemoryDoor) -> Option<u8>
     requires { door.old.accepted ≡ length door.old.back }
+    ensures { IfSome result (λ _. IsSome door.new.listens) }
 {
-    let refused = door.listen(80);
-    let heard = door.listen(80);
-    if (refused, heard) != (Err(DoorErr::Failed), Ok(()))
-        || !matches!(door.accept(), Accepted::Failed)
-    {
+    if door.listen(at_port(80)).is_ok() || door.listen(at_port(81)).is_err() {
+        return None;
+    }
+    if !matches!(door.accept(), Accepted::Failed) {
         return None;
     }
     let Accepted::Conn(mut conn) = door.accept() else {
@@ -165,9 +168,12 @@ fn failing_door(alloc: Global) -> Result<MemoryDoor, AllocError>
 fn check_one(rt: &impl Abort, door: &mut MemoryDoor)
     requires { door.old.accepted ≡ length door.old.back }
 {
-    assert_eq!(rt; serve_one(door), Some(b'a'));
-    assert!(rt; matches!(door.accept(), Accepted::End));
-    assert_eq!(rt; door.back().len(), 1);
+    let byte = serve_one(door);
+    assert_eq!(rt; byte, Some(b'a'));
+    if let Some(_) = byte {
+        assert!(rt; matches!(door.accept(), Accepted::End));
+        assert_eq!(rt; door.back().len(), 1);
+    }
 }
 
 #[test]
@@ -187,7 +193,7 @@ pub(crate) fn connect(rt: &HostRuntime, door: &TcpDoor<&HostRuntime>) -> Result<
 
 /// Accepts a connection, puts a byte on it and gives it back: what was read of it, and how the put ended.
 fn serve_peer(door: &mut TcpDoor<&HostRuntime>) -> Option<(u8, PutEnd)>
-    requires { door.old.returned ≡ door.old.accepted }
+    requires { (door.old.returned ≡ door.old.accepted) × IsSome door.old.listens }
 {
     let Accepted::Conn(mut conn) = door.accept() else {
         return None;
@@ -213,23 +219,24 @@ fn check_peer(
     door: &mut TcpDoor<&HostRuntime>,
     peer: &mut TcpStream,
 ) -> Result<(), Fail>
-    requires { door.old.returned ≡ door.old.accepted }
+    requires { (door.old.returned ≡ door.old.accepted) × IsSome door.old.listens }
 {
     peer.write_all(b"a")?;
     let served = serve_peer(door);
     let read = read_twice(peer)?;
     assert_eq!(rt;
         (served, read, door.faults),
-        (Some((b'a', PutEnd::Done)), (1, b'b', 0), 1)
+        (Some((b'a', PutEnd::Done)), (1, b'b', 0), 0)
     );
     Ok(())
 }
 
 #[test]
 fn a_listener_accepts_a_stream_and_ends_it(rt: HostRuntime) -> Result<(), Fail> {
-    let mut door = TcpDoor::new(&rt);
-    assert!(rt; matches!(door.accept(), Accepted::Failed));
-    assert_eq!(rt; (door.faults, door.listen(0)), (1, Ok(())));
+    let mut door = TcpDoor::new(&rt, rt.alloc());
+    if door.listen(at_port(0)).is_err() {
+        return Err(Fail::new("no port"));
+    }
     let mut peer = connect(&rt, &door)?;
     check_peer(&rt, &mut door, &mut peer)
 }

@@ -447,7 +447,7 @@ fn check_response(
 ) -> Result<(), Fail> {
     let expected = bytes_of(alloc, response)?;
     let mut sink = ReliableSink::new(Vec::with_capacity(alloc, 200)?);
-    let end = write_response(alloc, &mut sink, status, body);
+    let end = write_response(alloc, &mut sink, false, status, body);
     check_put(rt, end, Ok(()), sink.bytes(), expected.as_slice());
     Ok(())
 }
@@ -460,7 +460,7 @@ fn check_broken_sink(
     body: &[u8],
 ) -> Result<(), Fail> {
     let mut sink = MemorySink::new(Vec::with_capacity(alloc, 200)?, [0].to_vec(alloc)?);
-    let end = write_response(alloc, &mut sink, status, body);
+    let end = write_response(alloc, &mut sink, false, status, body);
     check_put(rt, end, Err(ResponseFault::WriteFault), sink.bytes(), b"");
     Ok(())
 }

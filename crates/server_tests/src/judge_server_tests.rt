@@ -38,7 +38,7 @@ fn shown(alloc: Global, asked: &Asked) -> Result<Text, NoMemory>
         }
         Asked::Refused(fault) => {
             let mut sink = ReliableSink::new(Vec::with_capacity(alloc, 1000)?);
-            let _end = answer_fault(alloc, &mut sink, fault);
+            let _end = answer_fault(alloc, &mut sink, false, fault);
             Ok(Text::from_vec(Vec::from_slice(alloc, sink.bytes())?))
         }
     }
@@ -122,13 +122,19 @@ fn other_requests_are_refused(rt: HostRuntime) -> Result<(), Fail> {
     check_requests(&rt, rt.alloc(), REFUSED)
 }
 
-/// Compares the response to a reply, which stands by a word.
-fn check_reply(rt: &impl Abort, alloc: Global, reply: &Reply, response: &str) -> Result<(), Fail>
+/// Compares the response to a reply, which stands by a word; behind it the server ends the connection or does not.
+fn check_reply(
+    rt: &impl Abort,
+    alloc: Global,
+    closing: bool,
+    reply: &Reply,
+    response: &str,
+) -> Result<(), Fail>
     requires { reply.now ≢ Reply.NoMemory }
 {
     let expected = said(alloc, response)?;
     let mut sink = ReliableSink::new(Vec::with_capacity(alloc, ROOM)?);
-    let _end = answer_reply(alloc, &mut sink, reply);
+    let _end = answer_reply(alloc, &mut sink, closing, reply);
     check_bytes(rt, sink.bytes(), expected.as_slice(), response);
     Ok(())
 }
@@ -140,13 +146,14 @@ fn replies_have_responses(rt: HostRuntime) -> Result<(), Fail> {
         test: 1,
     };
     let handed = Reply::Handed { task, until: 60 };
-    check_reply(&rt, rt.alloc(), &handed, "handed")?;
-    check_reply(&rt, rt.alloc(), &Reply::Counted, "counted")?;
+    check_reply(&rt, rt.alloc(), false, &handed, "handed")?;
+    check_reply(&rt, rt.alloc(), false, &Reply::Counted, "counted")?;
+    check_reply(&rt, rt.alloc(), true, &Reply::Counted, "counted-last")?;
     let differs = Reply::Differs {
         kept: Kind::Correct,
         given: Kind::WrongAnswer,
     };
-    check_reply(&rt, rt.alloc(), &differs, "differs")?;
+    check_reply(&rt, rt.alloc(), false, &differs, "differs")?;
     let none = Reply::NoHost { name: Name::jury() };
-    check_reply(&rt, rt.alloc(), &none, "no-jury")
+    check_reply(&rt, rt.alloc(), false, &none, "no-jury")
 }

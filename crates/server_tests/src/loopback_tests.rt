@@ -1,8 +1,8 @@
-ghost use Rattle.std.specs.Prelude.{◌≡◌, IfOk};
+ghost use Rattle.std.specs.Prelude.{◌≡◌, IfOk, IsSome};
 
 use crate::contest_server_tests::{check_served, one_roster};
 use crate::door_tests::connect;
-use crate::talks::{check_bytes, said};
+use crate::talks::{at_port, check_bytes, said};
 use contest_folder::Roster;
 use contest_server::{ServeEnd, serve_contest};
 use farm_io::{Door, FixedClock, ReliableSink, TcpDoor};
@@ -16,10 +16,10 @@ use std::thread::Threads;
 
 /// A door that listens at a free port of this machine.
 fn open_door(rt: &HostRuntime) -> Result<TcpDoor<&HostRuntime>, Fail>
-    ensures { IfOk result (λ door. (door.accepted ≡ 0) × (door.returned ≡ 0)) }
+    ensures { IfOk result (λ door. (door.accepted ≡ 0) × (door.returned ≡ 0) × IsSome door.listens) }
 {
-    let mut door = TcpDoor::new(rt);
-    if door.listen(0).is_err() {
+    let mut door = TcpDoor::new(rt, rt.alloc());
+    if door.listen(at_port(0)).is_err() {
         return Err(Fail::new("no port"));
     }
     Ok(door)
@@ -40,7 +40,7 @@ fn check_client(
     door: &mut TcpDoor<&HostRuntime>,
     client: &mut TcpStream,
 ) -> Result<(), Fail>
-    requires { (door.old.accepted ≡ 0) × (door.old.returned ≡ 0) }
+    requires { (door.old.accepted ≡ 0) × (door.old.returned ≡ 0) × IsSome door.old.listens }
 {
     let response = said(alloc, "is-up")?;
     let mut out = ReliableSink::new(Vec::with_capacity(alloc, 200)?);

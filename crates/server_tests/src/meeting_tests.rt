@@ -1,12 +1,13 @@
-ghost use Rattle.std.specs.Prelude.{◌<◌, None, refl};
+ghost use Rattle.std.specs.Prelude.{◌<◌, None, false, refl};
 ghost use Rattle.farm_io.specs.Beside.{side};
 
 use crate::contest_server_tests::{check_served, one_roster};
-use crate::talks::said;
+use crate::talks::{at_port, said};
 use contest_folder::Roster;
 use contest_server::{ServeEnd, serve_contest};
 use farm_io::{
-    Accepted, Door, DoorErr, FixedClock, PutEnd, ReliableSink, ReliableSource, Sink, Source, Taken,
+    Accepted, Door, DoorErr, FixedClock, Listening, Peer, PutEnd, ReliableSink, ReliableSource,
+    Sink, Source, Taken,
 };
 use std::alloc::Global;
 use std::process::Abort;
@@ -95,6 +96,16 @@ impl<'a, R: Wait> Sink for MeetingConn<'a, R> {
     }
 }
 
+impl<'a, R: Wait> Peer for MeetingConn<'a, R> {
+    ghost asks = { false };
+
+    fn is_asked_to_close(&self) -> bool {
+        false
+    }
+
+    fn finish(&mut self, _lingers: bool) {}
+}
+
 /// Lets two connections in, the second one once the first one has an answer.
 #[derive(Drop)]
 struct MeetingDoor<'a, R: Wait> {
@@ -103,18 +114,24 @@ struct MeetingDoor<'a, R: Wait> {
     answers: &'a Mutex<Answers>,
     accepted: u64,
     returned: u64,
+    listens: Option<Listening>,
 }
 
 impl<'a, R: Wait + Sync> Door for MeetingDoor<'a, R> {
     type Conn = MeetingConn<'a, R>;
 
-    ghost state = { λ d. record { coming = None; back = None; accepted = d.accepted; returned = d.returned } };
+    ghost state = { λ d. record { coming = None; back = None; accepted = d.accepted; returned = d.returned; listens = d.listens } };
 
     ghost faults = { λ _. 0 };
 
-    fn listen(&mut self, _port: u16) -> Result<(), DoorErr> {
+    fn listen(&mut self, at: Listening) -> Result<(), DoorErr> {
+        self.listens = Some(at);
         Ok(())
     }
+
+    fn await_next(&mut self) {}
+
+    fn ask_to_close(&mut self, _before: u64) {}
 
     fn accept(&mut self) -> Accepted<MeetingConn<'a, R>> {
         if self.accepted >= 2 {
@@ -162,6 +179,7 @@ fn serve_meeting<R: Threads + Wait + Sync>(
         answers: &answers,
         accepted: 0,
         returned: 0,
+        listens: Some(at_port(80)),
     };
     let clock = FixedClock::new(0);
     let end = serve_contest(rt, alloc, roster, 2, 2, &clock, &mut door, out);

@@ -3,9 +3,10 @@
 ghost use Rattle.std.specs.Prelude.{IfOk};
 ghost use Rattle.farm_io.specs.MemoryDoors.{IsReliableNew};
 
-use farm_io::{Connection, ReliableConn, ReliableSink, ReliableSource};
+use farm_io::{Connection, Listening, ReliableConn, ReliableSink, ReliableSource};
 use judge_server::ConnEnd;
 use std::alloc::{AllocError, Global};
+use std::net::{IpAddr, Ipv4Addr};
 use std::process::Abort;
 
 /// Requests, parts of requests and responses, a line each: the word, and the text, in which `^` is a carriage return and
@@ -24,6 +25,7 @@ const TEXTS: &str = concat!(
     "other-is-up => HTTP/1.1 200 OK^~content-length: 28^~content-type: application/json^~^~{\"host\":\"h2\",\"reply\":\"host\"}\n",
     "handed => HTTP/1.1 200 OK^~content-length: 48^~content-type: application/json^~^~{\"judging\":1,\"reply\":\"task\",\"test\":1,\"until\":60}\n",
     "counted => HTTP/1.1 200 OK^~content-length: 19^~content-type: application/json^~^~{\"reply\":\"counted\"}\n",
+    "counted-last => HTTP/1.1 200 OK^~content-length: 19^~content-type: application/json^~connection: close^~^~{\"reply\":\"counted\"}\n",
     "repeat => HTTP/1.1 200 OK^~content-length: 35^~content-type: application/json^~^~{\"kept\":\"correct\",\"reply\":\"repeat\"}\n",
     "differs => HTTP/1.1 409 Conflict^~content-length: 59^~content-type: application/json^~^~{\"given\":\"wrong-answer\",\"kept\":\"correct\",\"reply\":\"differs\"}\n",
     "differs-timelimit => HTTP/1.1 409 Conflict^~content-length: 56^~content-type: application/json^~^~{\"given\":\"timelimit\",\"kept\":\"correct\",\"reply\":\"differs\"}\n",
@@ -32,6 +34,16 @@ const TEXTS: &str = concat!(
     "nothing => HTTP/1.1 200 OK^~content-length: 19^~content-type: application/json^~^~{\"reply\":\"nothing\"}\n",
     "bad-head => HTTP/1.1 400 Bad Request^~content-length: 20^~content-type: application/json^~^~{\"reply\":\"bad-head\"}\n",
 );
+
+/// This port of the machine itself, or any that is free, with the patience of a minute.
+pub(crate) fn at_port(port: u16) -> Listening {
+    Listening {
+        address: IpAddr::V4(Ipv4Addr::LOCALHOST),
+        port,
+        patience: 60,
+        until_input_ends: false,
+    }
+}
 
 /// The text of a word, or `?` if it has none.
 fn text_of(word: &str) -> &'static str {

@@ -1,6 +1,7 @@
 use Rattle.std.proofs.Common.{rules, ◌≡◌, Some, map, ap, refl, sym, ◌∙◌, string_bytes}
 use Rattle.std.specs.Option.{option_map}
 use Rattle.command_line.specs.CommandLine.{command_value, size_value}
+use Rattle.judge_server.specs.Exchanges.{around_of}
 use Rattle.contest_server.specs.Visits.{watch}
 use Rattle.farm_io.specs.Streams.{Rose}
 use Rattle.farm_cli.specs.Scripted.{Streams}
@@ -15,7 +16,7 @@ pub returns-in_default-clause-ends : goal.returns-in_default-clause-ends
 returns-in_default-clause-ends g c =
     let streams : Streams = record { left = g.S.Source.left c.args.input.now; held = g.K.Sink.held c.args.out.now } in
     unread_ends (g.T.Tree.files c.args.tree.now) (map string_bytes c.args.words.now)
-    (record { watch = watch g.D.Conn.Source.left g.D.Conn.Sink.held g.D.Conn.Source.faults g.D.Conn.Sink.faults (g.C.Clock.shows c.args.clock.now); old = g.D.Door.state c.args.door.now; new = g.D.Door.state c.args.door.now })
+    (record { watch = watch g.D.Conn.Source.left g.D.Conn.Sink.held g.D.Conn.Source.faults g.D.Conn.Sink.faults (around_of (g.C.Clock.shows c.args.clock.now) g.D.Conn.Peer.asks); old = g.D.Door.state c.args.door.now; new = g.D.Door.state c.args.door.now })
     streams (c.args.input.now ≡ c.args.input.now) (c.args.out.now ≡ c.args.out.now) refl refl refl
 
 pub returns-in_default-clause-complete : goal.returns-in_default-clause-complete
