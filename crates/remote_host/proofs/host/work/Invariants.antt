@@ -1,0 +1,26 @@
+use Rattle.std.proofs.Common.{◌≡◌, ℕ, ◌+◌, ◌-◌, ◌≤◌, [], ◌∷◌, None}
+use Rattle.judgehost.specs.Benches.{heard_at_claim}
+use Rattle.remote_host.specs.Standing.{IsAt}
+use Rattle.remote_host.specs.Benches.{pending_job}
+use Rattle.remote_host.proofs.host.work.Given as goal
+
+abbrev pub invariant-loop-end : goal.invariant-loop-end
+invariant-loop-end g l =
+    let b = l.bench in
+    record {
+      claims : b.claims ≡ 0;
+      before : b.before ≤ l.fuel;
+      posted : b.posts ≡ b.tasks;
+      silent : heard_at_claim b.heard ≡ None;
+      bare : pending_job b.job ≡ None;
+      sound :
+          (s : g.row.N.Denot) × (b.start.items ≡ (s, tt) ∷ []) × IsAt b.caller
+          (record { held = g.N.Sink.held s; left = g.N.Source.left s; ahead = [] })
+          (record { held = g.N.Sink.held b.talker.conn; left = g.N.Source.left b.talker.conn; ahead = b.talker.reader.ahead })
+          (b.before + b.claims) (pending_job b.job) b.talker.wrong (heard_at_claim b.heard);
+      start : b.start.items ≡ l.fn.bench.start.items;
+      caller : b.caller ≡ l.fn.bench.caller;
+    }
+
+abbrev pub decreases-loop-end : goal.decreases-loop-end
+decreases-loop-end g l = l.fuel - l.bench.before

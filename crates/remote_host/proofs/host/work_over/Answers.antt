@@ -1,0 +1,12 @@
+use Rattle.std.proofs.Common.{◌∙◌, sym}
+use Rattle.remote_host.proofs.Working.{worked_over}
+use Rattle.remote_host.proofs.host.work_over.Goals as goal
+
+pub returns-clause-worked : goal.returns-clause-worked
+returns-clause-worked g c =
+    let e = c.enter_and_work-end.ensures in
+    let b = c.enter_and_work-end.new.bench in (
+      b.talker.reader.ahead,
+      worked_over (λ n. g.N.Sink.held n) (λ n. g.N.Source.left n) _ _ e.worked.0 c.args.conn b.talker.conn c.end.result b.talker.reader.ahead c.args.fuel _
+          (sym e.worked.1 ∙ e.start ∙ c.new-bench.ensures.start) (e.caller ∙ c.new-bench.ensures.talker.1) c.end.ensures e.worked.2,
+    )
