@@ -1,5 +1,5 @@
 -- A turn, by what it heard.
-use Rattle.std.proofs.Common.{ℕ, suc, ◌≡◌, ◌+◌, List, Option, None, Some, Ok, true, refl, sym, subst}
+use Rattle.std.proofs.Common.{ℕ, suc, ◌≡◌, ◌+◌, List, Option, None, Some, Ok, Err, true, refl, sym, subst}
 use Rattle.farm_kinds.specs.declared.outcomes.Task.{Task}
 use Rattle.farm_kinds.specs.declared.kinds.Kind.{Kind}
 use Rattle.farm_kinds.specs.declared.events.Reply.{Reply}
@@ -20,53 +20,60 @@ use Rattle.remote_host.specs.Standing.{Line, Stands, Breaks, FetchedAt, JobAt, P
 use Rattle.remote_host.specs.Benches.{pending_job}
 use Rattle.remote_host.proofs.Talking.{stands_turn, stands_as}
 
-pub plain_refused : (who : Caller) (start now : Line) (claims : ℕ) (w : Option Wrong) (e : BenchFault) → IsPlain e → Breaks who start now claims w → RefusedAt who start now claims w e
-plain_refused who start now claims w fault.Link p b = b
-plain_refused who start now claims w fault.Holding p b = absurd p
-plain_refused who start now claims w fault.NoHost p b = absurd p
-plain_refused who start now claims w (fault.NoCase task) p b = absurd p
-plain_refused who start now claims w fault.NoMemory p b = b
+pub plain_refused : (who : Caller) (start now : Line) (claims fetched posted : ℕ) (w : Option Wrong) (e : BenchFault) → IsPlain e → Breaks who start now claims w → RefusedAt who start now claims fetched posted w e
+plain_refused who start now claims fetched posted w fault.Link p b = b
+plain_refused who start now claims fetched posted w fault.Holding p b = absurd p
+plain_refused who start now claims fetched posted w fault.NoHost p b = absurd p
+plain_refused who start now claims fetched posted w (fault.NoCase task) p b = absurd p
+plain_refused who start now claims fetched posted w fault.NoMemory p b = b
 
 -- what was fetched, by its variant
-pub said_is : (who : Caller) (start now : Line) (claims : ℕ) (w : Option Wrong) (said want : Fetched) → said ≡ want → FetchedAt who start now claims w (Ok said) → FetchedAt who start now claims w (Ok want)
-said_is who start now claims w said want is x = subst (λ (z : Fetched). FetchedAt who start now claims w (Ok z)) is x
+pub said_is : (who : Caller) (start now : Line) (claims fetched posted : ℕ) (w : Option Wrong) (said want : Fetched) → said ≡ want → FetchedAt who start now claims fetched posted w (Ok said) → FetchedAt who start now claims fetched posted w (Ok want)
+said_is who start now claims fetched posted w said want is x = subst (λ (z : Fetched). FetchedAt who start now claims fetched posted w (Ok z)) is x
 
 -- what a turn gave, by whether it gave a job
-pub turned_is : (who : Caller) (start now : Line) (claims : ℕ) (w : Option Wrong) (said want : Option JobValue) → said ≡ want → TurnedAt who start now claims w (Ok said) → TurnedAt who start now claims w (Ok want)
-turned_is who start now claims w said want is x = subst (λ (z : Option JobValue). TurnedAt who start now claims w (Ok z)) is x
+pub turned_is : (who : Caller) (start now : Line) (claims fetched made posted : ℕ) (w : Option Wrong) (said want : Option JobValue) → fetched ≡ made → said ≡ want
+    → TurnedAt who start now claims fetched posted w (Ok said) → TurnedAt who start now claims made posted w (Ok want)
+turned_is who start now claims fetched made posted w said want m is x =
+    subst (λ (z : ℕ). TurnedAt who start now claims z posted w (Ok want)) m (subst (λ (z : Option JobValue). TurnedAt who start now claims fetched posted w (Ok z)) is x)
+
+-- a turn that was refused
+pub turned_refused : (who : Caller) (start now : Line) (claims fetched made posted : ℕ) (w : Option Wrong) (e : BenchFault) → fetched ≡ made
+    → TurnedAt who start now claims fetched posted w (Err e) → RefusedAt who start now claims made posted w e
+turned_refused who start now claims fetched made posted w e m x = subst (λ (z : ℕ). RefusedAt who start now claims z posted w e) m x
 
 -- what a post gave, by whether it gave a reply
-pub posted_is : (who : Caller) (start now : Line) (claims : ℕ) (w : Option Wrong) (said want : Option Reply) → said ≡ want → PostedAt who start now claims w (Ok said) → PostedAt who start now claims w (Ok want)
-posted_is who start now claims w said want is x = subst (λ (z : Option Reply). PostedAt who start now claims w (Ok z)) is x
+pub posted_is : (who : Caller) (start now : Line) (claims fetched posted : ℕ) (w : Option Wrong) (said want : Option Reply) → said ≡ want → PostedAt who start now claims fetched posted w (Ok said) → PostedAt who start now claims fetched posted w (Ok want)
+posted_is who start now claims fetched posted w said want is x = subst (λ (z : Option Reply). PostedAt who start now claims fetched posted w (Ok z)) is x
 
-pub job_turned : (who : Caller) (start now : Line) (claims : ℕ) (task : Task) (j : JobValue) → j.task ≡ task
-    → Stands who start now claims (λ n more. job_next (turns who n) task more (Ok j.case)) → Stands who start now claims (λ n more. job_next (turns who n) j.task more (Ok j.case))
-job_turned who start now claims task j e s =
-    subst (λ (t : Task). Stands who start now claims (λ n more. job_next (turns who n) t more (Ok j.case))) (sym e) s
+pub job_turned : (who : Caller) (start now : Line) (claims fetched posted : ℕ) (task : Task) (j : JobValue) → j.task ≡ task
+    → Stands who start now claims fetched posted (λ n more. job_next (turns who n) task more (Ok j.case)) → Stands who start now claims fetched posted (λ n more. job_next (turns who n) j.task more (Ok j.case))
+job_turned who start now claims fetched posted task j e s =
+    subst (λ (t : Task). Stands who start now claims fetched posted (λ n more. job_next (turns who n) t more (Ok j.case))) (sym e) s
 
 -- before a claim
-pub claim_from : (who : Caller) (start now : Line) (claims next : ℕ) (p : Option (Task × TestCase)) (w : Option Wrong) (h : Option Heard) → next ≡ claims + 1 → IsAt who start now claims p w h → h ≡ None → p ≡ None
-    → (w ≡ None) × Stands who start now next (λ n more. turns who (suc n) more)
-claim_from who start now claims next p w h e s hn pn =
-    let t = subst (IsAt who start now claims p w) hn s in
-    (t.0, subst (λ (z : ℕ). Stands who start now z (λ n more. turns who (suc n) more)) (sym e) (stands_turn who start now claims (subst (GoesOnAt who start now claims) pn t.1)))
+pub claim_from : (who : Caller) (start now : Line) (claims next posts : ℕ) (p : Option (Task × TestCase)) (w : Option Wrong) (h : Option Heard) → next ≡ claims + 1 → IsAt who start now claims posts p w h → h ≡ None → p ≡ None
+    → (w ≡ None) × Stands who start now next claims posts (λ n more. turns who (suc n) more)
+claim_from who start now claims next posts p w h e s hn pn =
+    let t = subst (IsAt who start now claims posts p w) hn s in
+    (t.0, subst (λ (z : ℕ). Stands who start now z claims posts (λ n more. turns who (suc n) more)) (sym e) (stands_turn who start now claims claims posts (subst (GoesOnAt who start now claims claims posts) pn t.1)))
 
 idle_on : (who : Caller) (f : List Answer → Talk) (us : List Answer) → who.waits ≡ true → idle_next who f us ≡ f us
 idle_on who f us h = rw h refl
 
 -- the host that waits asks again
-pub resumed : (who : Caller) (start now : Line) (claims next : ℕ) (p : Option (Task × TestCase)) (w : Option Wrong) (h : Option Heard) → next ≡ claims → who.waits ≡ true → IsAt who start now claims p w h → h ≡ Some Nothing
-    → IsAt who start now next p w None
-resumed who start now claims next p w h e on s is =
-    let t = subst (IsAt who start now claims p w) is s in
-    let g = stands_as who start now claims (λ n more. idle_next who (turns who n) more) (λ n more. turns who n more) (λ n more. idle_on who (turns who n) more on) t.2 in
-    (t.0, subst (λ (z : Option (Task × TestCase)). GoesOnAt who start now next z) (sym t.1) (subst (λ (z : ℕ). Stands who start now z (λ n more. turns who n more)) (sym e) g))
+pub resumed : (who : Caller) (start now : Line) (claims next posts : ℕ) (p : Option (Task × TestCase)) (w : Option Wrong) (h : Option Heard) → next ≡ claims → who.waits ≡ true → IsAt who start now claims posts p w h → h ≡ Some Nothing
+    → IsAt who start now next posts p w None
+resumed who start now claims next posts p w h e on s is =
+    let t = subst (IsAt who start now claims posts p w) is s in
+    let g = stands_as who start now claims claims posts (λ n more. idle_next who (turns who n) more) (λ n more. turns who n more) (λ n more. idle_on who (turns who n) more on) t.2 in
+    (t.0, subst (λ (z : Option (Task × TestCase)). GoesOnAt who start now next next posts z) (sym t.1) (subst (λ (z : ℕ). Stands who start now z z posts (λ n more. turns who n more)) (sym e) g))
 
 -- before a post
-pub post_from : (who : Caller) (start now : Line) (claims : ℕ) (p : Option (Task × TestCase)) (w : Option Wrong) (h : Option Heard) (task : Task) (kind : Kind) (c : TestCase) → IsAt who start now claims p w h → h ≡ None
+pub post_from : (who : Caller) (start now : Line) (claims posts : ℕ) (p : Option (Task × TestCase)) (w : Option Wrong) (h : Option Heard) (task : Task) (kind : Kind) (c : TestCase) → IsAt who start now claims posts p w h → h ≡ None
     → p ≡ Some (task, c) → kind ≡ case_value c
-    → (w ≡ None) × Stands who start now claims (λ n more. onto (ask.Post task kind) (answered (λ a later. post_next (turns who n) later (post_said a.body)) more))
-post_from who start now claims p w h task kind c s hn pn k =
-    let t = subst (IsAt who start now claims p w) hn s in
-    let g = subst (GoesOnAt who start now claims) pn t.1 in
-    (t.0, subst (λ (z : Kind). Stands who start now claims (λ n more. onto (ask.Post task z) (answered (λ a later. post_next (turns who n) later (post_said a.body)) more))) (sym k) g)
+    → (w ≡ None) × Stands who start now claims claims posts (λ n more. onto (ask.Post task kind) (answered (λ a later. post_next (turns who n) later (post_said a.body)) more))
+post_from who start now claims posts p w h task kind c s hn pn k =
+    let t = subst (IsAt who start now claims posts p w) hn s in
+    let g = subst (GoesOnAt who start now claims claims posts) pn t.1 in
+    (t.0, subst (λ (z : Kind). Stands who start now claims claims posts (λ n more. onto (ask.Post task z) (answered (λ a later. post_next (turns who n) later (post_said a.body)) more))) (sym k) g)

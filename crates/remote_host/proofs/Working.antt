@@ -1,5 +1,5 @@
 -- What a host's run put, by how it ended.
-use Rattle.std.proofs.Common.{ℕ, zero, ◌≡◌, ◌+◌, ◌-◌, ◌≤◌, List, [], ◌∷◌, ◌++◌, Option, None, Some, false, refl, sym, ap, ◌∙◌, subst, arith}
+use Rattle.std.proofs.Common.{ℕ, zero, ◌≡◌, ◌+◌, ◌-◌, ◌≤◌, ◌⊎◌, inl, inr, List, [], ◌∷◌, ◌++◌, Option, None, Some, false, refl, sym, ap, ◌∙◌, subst, arith}
 use Rattle.std.specs.Io.KnownBytes.{Appends}
 use Rattle.std.proofs.lemmas.List.{append-nil}
 use Rattle.farm_kinds.specs.declared.outcomes.Task.{Task}
@@ -15,16 +15,17 @@ use Rattle.remote_host.specs.declared.asks.Caller.{Caller}
 use Rattle.remote_host.specs.declared.asks.Wrong.{Wrong}
 use Rattle.remote_host.specs.declared.asks.TalkEnd.{TalkEnd}
 use Rattle.remote_host.specs.declared.asks.TalkEnd.TheVariants as end
-use Rattle.remote_host.specs.Talk.{Talk, talk, turns, ended, after, idle_next, job_next}
+use Rattle.remote_host.specs.Talk.{Talk, talk, turns, ended, after, fetches_in, posts_in, idle_next, job_next}
 use Rattle.remote_host.specs.Requests.{spelled}
-use Rattle.remote_host.specs.Standing.{Line, Stands, Breaks, GoesOnAt, RefusedAt, IsAt, IsPlain}
+use Rattle.remote_host.specs.Standing.{Line, Stands, Breaks, IfWronged, GoesOnAt, RefusedAt, IsAt, IsPlain}
 use Rattle.remote_host.specs.Benches.{is_pending, pending_job}
-use Rattle.remote_host.specs.Ends.{Talked, Fronts, RefusedAs, WorkedAs}
+use Rattle.remote_host.specs.Ends.{Talked, Fronts, Broken, IfWrong, RefusedAs, WorkedAs}
 use Rattle.remote_host.proofs.Talking.{asks_after, end_after, stands_front, stands_as}
 
 -- the talk has ended, and so it is the same for as many turns or more
-talked_by : (who : Caller) (start now : Line) (claims n fuel : ℕ) (f : ℕ → List Answer → Talk) (e : TalkEnd) → (s : Stands who start now claims f) → claims + n ≡ fuel → f n [] ≡ ended e → Talked who start now fuel e
-talked_by who start now claims n fuel f e s is k =
+talked_by : (who : Caller) (start now : Line) (claims fetched posted n fuel : ℕ) (f : ℕ → List Answer → Talk) (e : TalkEnd)
+    → (s : Stands who start now claims fetched posted f) → claims + n ≡ fuel → f n [] ≡ ended e → Talked who start now fuel fetched posted e
+talked_by who start now claims fetched posted n fuel f e s is k =
     let t : talk who fuel s.answers ≡ after s.asks (ended e) =
     ap (λ m. talk who m s.answers) (sym is) ∙ ap (talk who (claims + n)) (sym (append-nil s.answers)) ∙ s.goes n [] ∙ ap (after s.asks) k in
     let asks = ap (λ (z : Talk). z.asks) t ∙ asks_after s.asks (ended e) ∙ append-nil s.asks in
@@ -33,16 +34,27 @@ talked_by who start now claims n fuel f e s is k =
       took = s.took;
       puts = subst (λ z. Appends start.held now.held (spelled who z)) (sym asks) s.puts;
       end = ap (λ (z : Talk). z.end) t ∙ end_after s.asks (ended e);
+      claims_are = ap fetches_in asks ∙ s.fetches_are;
+      posts_are = ap posts_in asks ∙ s.posts_are;
     }
 
-pub stands_talked : (who : Caller) (start now : Line) (claims fuel : ℕ) (e : TalkEnd) → Stands who start now claims (λ n more. ended e) → claims ≤ fuel → Talked who start now fuel e
-stands_talked who start now claims fuel e s le = talked_by who start now claims (fuel - claims) fuel (λ n more. ended e) e s (omega (arith, le)) refl
+pub stands_talked : (who : Caller) (start now : Line) (claims fetched posted fuel : ℕ) (e : TalkEnd) → Stands who start now claims fetched posted (λ n more. ended e) → claims ≤ fuel
+    → Talked who start now fuel fetched posted e
+stands_talked who start now claims fetched posted fuel e s le = talked_by who start now claims fetched posted (fuel - claims) fuel (λ n more. ended e) e s (omega (arith, le)) refl
 
-pub stands_spent : (who : Caller) (start now : Line) (claims fuel : ℕ) → Stands who start now claims (λ n more. turns who n more) → claims ≡ fuel → Talked who start now fuel end.Spent
-stands_spent who start now claims fuel s is = talked_by who start now claims zero fuel (λ n more. turns who n more) end.Spent s (omega (arith, is)) refl
+pub stands_spent : (who : Caller) (start now : Line) (claims fetched posted fuel : ℕ) → Stands who start now claims fetched posted (λ n more. turns who n more) → claims ≡ fuel
+    → Talked who start now fuel fetched posted end.Spent
+stands_spent who start now claims fetched posted fuel s is = talked_by who start now claims fetched posted zero fuel (λ n more. turns who n more) end.Spent s (omega (arith, is)) refl
 
-pub breaks_fronts : (who : Caller) (start now : Line) (claims fuel : ℕ) (w : Option Wrong) → Breaks who start now claims w → claims ≤ fuel → Fronts who start now fuel
-breaks_fronts who start now claims fuel w b le =
+-- the wrong answer of so many claims is the one of as many turns
+wrong_by : (who : Caller) (start now : Line) (claims fuel : ℕ) (w : Option Wrong) (answers : List Answer) → IfWronged who w claims answers now → claims + (fuel - claims) ≡ fuel → IfWrong who fuel w answers now
+wrong_by who start now claims fuel None answers x is = tt
+wrong_by who start now claims fuel (Some w) answers (inl x) is = inl (x.0, ap (λ m. (talk who m answers).end) (sym is) ∙ x.1 (fuel - claims))
+wrong_by who start now claims fuel (Some w) answers (inr x) is =
+    inr (ap (λ m. (talk who m answers).end) (sym is) ∙ ap (λ z. (talk who (claims + (fuel - claims)) z).end) (sym (append-nil answers)) ∙ x (fuel - claims) [])
+
+pub breaks_broken : (who : Caller) (start now : Line) (claims fuel : ℕ) (w : Option Wrong) → Breaks who start now claims w → claims ≤ fuel → Broken who start now fuel w
+breaks_broken who start now claims fuel w b le =
     let is : claims + (fuel - claims) ≡ fuel = omega (arith, le) in
     let f = b.front (fuel - claims) [] in
     record {
@@ -52,40 +64,46 @@ breaks_fronts who start now claims fuel w b le =
       rest = f.0;
       puts = b.puts;
       front = ap (λ m. spelled who (talk who m b.answers).asks) (sym is) ∙ ap (λ z. spelled who (talk who (claims + (fuel - claims)) z).asks) (sym (append-nil b.answers)) ∙ f.1;
+      wrong = wrong_by who start now claims fuel w b.answers b.wronged is;
     }
 
-goes_on_front : (who : Caller) (start now : Line) (claims : ℕ) (p : Option (Task × TestCase)) → GoesOnAt who start now claims p → Breaks who start now claims None
-goes_on_front who start now claims None s = stands_front who start now claims (λ n more. turns who n more) s
-goes_on_front who start now claims (Some p) s = stands_front who start now claims _ s
+pub breaks_fronts : (who : Caller) (start now : Line) (claims fuel : ℕ) (w : Option Wrong) → Breaks who start now claims w → claims ≤ fuel → Fronts who start now fuel
+breaks_fronts who start now claims fuel w b le =
+    let f = breaks_broken who start now claims fuel w b le in
+    record { answers = f.answers; took = f.took; put = f.put; rest = f.rest; puts = f.puts; front = f.front }
 
-refused_front : (who : Caller) (start now : Line) (claims fuel : ℕ) (w : Option Wrong) (e : BenchFault) → RefusedAt who start now claims w e → claims ≤ fuel → Fronts who start now fuel
-refused_front who start now claims fuel w fault.Link s le = breaks_fronts who start now claims fuel w s le
-refused_front who start now claims fuel w fault.Holding s le = breaks_fronts who start now claims fuel None (stands_front who start now claims _ s) le
-refused_front who start now claims fuel w fault.NoHost s le = breaks_fronts who start now claims fuel None (stands_front who start now claims _ s) le
-refused_front who start now claims fuel w (fault.NoCase task) s le = absurd s
-refused_front who start now claims fuel w fault.NoMemory s le = breaks_fronts who start now claims fuel w s le
+goes_on_front : (who : Caller) (start now : Line) (claims fetched posted : ℕ) (p : Option (Task × TestCase)) → GoesOnAt who start now claims fetched posted p → Breaks who start now claims None
+goes_on_front who start now claims fetched posted None s = stands_front who start now claims fetched posted (λ n more. turns who n more) s
+goes_on_front who start now claims fetched posted (Some p) s = stands_front who start now claims fetched posted _ s
 
-at_front : (who : Caller) (start now : Line) (claims fuel : ℕ) (p : Option (Task × TestCase)) (w : Option Wrong) (h : Option Heard) → IsAt who start now claims p w h → claims ≤ fuel → Fronts who start now fuel
-at_front who start now claims fuel p w None s le = breaks_fronts who start now claims fuel None (goes_on_front who start now claims p s.1) le
-at_front who start now claims fuel p w (Some Nothing) s le = breaks_fronts who start now claims fuel None (stands_front who start now claims _ s.2) le
-at_front who start now claims fuel p w (Some (Refused e)) s le = refused_front who start now claims fuel w e s le
+refused_front : (who : Caller) (start now : Line) (claims fetched posted fuel : ℕ) (w : Option Wrong) (e : BenchFault) → RefusedAt who start now claims fetched posted w e → claims ≤ fuel → Fronts who start now fuel
+refused_front who start now claims fetched posted fuel w fault.Link s le = breaks_fronts who start now claims fuel w s le
+refused_front who start now claims fetched posted fuel w fault.Holding s le = breaks_fronts who start now claims fuel None (stands_front who start now claims fetched posted _ s) le
+refused_front who start now claims fetched posted fuel w fault.NoHost s le = breaks_fronts who start now claims fuel None (stands_front who start now claims fetched posted _ s) le
+refused_front who start now claims fetched posted fuel w (fault.NoCase task) s le = absurd s
+refused_front who start now claims fetched posted fuel w fault.NoMemory s le = breaks_fronts who start now claims fuel w s le
 
-refused_as : (who : Caller) (start now : Line) (claims fuel : ℕ) (w : Option Wrong) (e : BenchFault) → RefusedAt who start now claims w e → claims ≤ fuel → RefusedAs who start now fuel e
-refused_as who start now claims fuel w fault.Link s le = breaks_fronts who start now claims fuel w s le
-refused_as who start now claims fuel w fault.Holding s le = stands_talked who start now claims fuel end.Holding s le
-refused_as who start now claims fuel w fault.NoHost s le = stands_talked who start now claims fuel end.NoHost s le
-refused_as who start now claims fuel w (fault.NoCase task) s le = s
-refused_as who start now claims fuel w fault.NoMemory s le = breaks_fronts who start now claims fuel w s le
+at_front : (who : Caller) (start now : Line) (claims posts fuel : ℕ) (p : Option (Task × TestCase)) (w : Option Wrong) (h : Option Heard) → IsAt who start now claims posts p w h → claims ≤ fuel → Fronts who start now fuel
+at_front who start now claims posts fuel p w None s le = breaks_fronts who start now claims fuel None (goes_on_front who start now claims claims posts p s.1) le
+at_front who start now claims posts fuel p w (Some Nothing) s le = breaks_fronts who start now claims fuel None (stands_front who start now claims claims posts _ s.2) le
+at_front who start now claims posts fuel p w (Some (Refused e)) s le = refused_front who start now claims claims posts fuel w e s le
+
+refused_as : (who : Caller) (start now : Line) (claims posts fuel : ℕ) (w : Option Wrong) (e : BenchFault) → RefusedAt who start now claims claims posts w e → claims ≤ fuel → RefusedAs who start now fuel claims posts w e
+refused_as who start now claims posts fuel w fault.Link s le = breaks_broken who start now claims fuel w s le
+refused_as who start now claims posts fuel w fault.Holding s le = stands_talked who start now claims claims posts fuel end.Holding s le
+refused_as who start now claims posts fuel w fault.NoHost s le = stands_talked who start now claims claims posts fuel end.NoHost s le
+refused_as who start now claims posts fuel w (fault.NoCase task) s le = s
+refused_as who start now claims posts fuel w fault.NoMemory s le = breaks_fronts who start now claims fuel w s le
 
 none_pending : (j : Option JobValue) (posts tasks : ℕ) → posts + is_pending j ≤ tasks → posts ≡ tasks → pending_job j ≡ None
 none_pending None posts tasks le e = refl
 none_pending (Some j) posts tasks le e = absurd (omega (arith, le, e))
 
-spent_as : (who : Caller) (start now : Line) (claims fuel : ℕ) (p : Option (Task × TestCase)) (w : Option Wrong) (h : Option Heard) → IsAt who start now claims p w h → h ≡ None → p ≡ None → claims ≡ fuel → Talked who start now fuel end.Spent
-spent_as who start now claims fuel p w h s hn pn is =
-    let t = subst (IsAt who start now claims p w) hn s in
-    let g = subst (GoesOnAt who start now claims) pn t.1 in
-    stands_spent who start now claims fuel g is
+spent_as : (who : Caller) (start now : Line) (claims posts fuel : ℕ) (p : Option (Task × TestCase)) (w : Option Wrong) (h : Option Heard) → IsAt who start now claims posts p w h → h ≡ None → p ≡ None → claims ≡ fuel → Talked who start now fuel claims posts end.Spent
+spent_as who start now claims posts fuel p w h s hn pn is =
+    let t = subst (IsAt who start now claims posts p w) hn s in
+    let g = subst (GoesOnAt who start now claims claims posts) pn t.1 in
+    stands_spent who start now claims claims posts fuel g is
 
 pub first_same : {A B C : Type 0} (x y : A × B × C) → x ≡ y → x.0 ≡ y.0
 first_same x y e = ap (λ z. z.0) e
@@ -100,42 +118,43 @@ idle_ends : (who : Caller) (f : List Answer → Talk) (us : List Answer) → who
 idle_ends who f us h = rw h refl
 
 -- no task was open, and the host does not wait for one
-idle_as : (who : Caller) (start now : Line) (claims fuel : ℕ) (p : Option (Task × TestCase)) (w : Option Wrong) → IsAt who start now claims p w (Some Nothing) → who.waits ≡ false → claims ≤ fuel → Talked who start now fuel end.Idle
-idle_as who start now claims fuel p w s h le =
-    stands_talked who start now claims fuel end.Idle
-    (stands_as who start now claims (λ n more. idle_next who (turns who n) more) (λ n more. ended end.Idle) (λ n more. idle_ends who (turns who n) more h) s.2) le
+idle_as : (who : Caller) (start now : Line) (claims posts fuel : ℕ) (p : Option (Task × TestCase)) (w : Option Wrong) → IsAt who start now claims posts p w (Some Nothing) → who.waits ≡ false → claims ≤ fuel → Talked who start now fuel claims posts end.Idle
+idle_as who start now claims posts fuel p w s h le =
+    stands_talked who start now claims claims posts fuel end.Idle
+    (stands_as who start now claims claims posts (λ n more. idle_next who (turns who n) more) (λ n more. ended end.Idle) (λ n more. idle_ends who (turns who n) more h) s.2) le
 
 -- all that was put, by how the host ended
 pub worked_as : (who : Caller) (start now : Line) (claims fuel posts tasks : ℕ) (j : Option JobValue) (w : Option Wrong) (h : Option Heard) (e : HostEnd)
-    → IsAt who start now claims (pending_job j) w h → claims ≤ fuel → posts + is_pending j ≤ tasks
+    → IsAt who start now claims posts (pending_job j) w h → claims ≤ fuel → posts + is_pending j ≤ tasks
     → (e ≡ host.Idle → who.waits ≡ false) → (e ≡ host.Idle → h ≡ Some Nothing) → ((f : BenchFault) → e ≡ host.Bench f → h ≡ Some (Refused f))
     → (e ≡ host.Fuel → h ≡ None) → (e ≡ host.Fuel → claims ≡ fuel) → (e ≡ host.Fuel → posts ≡ tasks)
-    → WorkedAs who start now fuel e
+    → WorkedAs who start now fuel claims posts w e
 worked_as who start now claims fuel posts tasks j w h host.Idle s le few quits idle refused unheard spent all =
-    idle_as who start now claims fuel (pending_job j) w (subst (IsAt who start now claims (pending_job j) w) (idle refl) s) (quits refl) le
-worked_as who start now claims fuel posts tasks j w h (host.Died p turn) s le few quits idle refused unheard spent all = at_front who start now claims fuel (pending_job j) w h s le
+    idle_as who start now claims posts fuel (pending_job j) w (subst (IsAt who start now claims posts (pending_job j) w) (idle refl) s) (quits refl) le
+worked_as who start now claims fuel posts tasks j w h (host.Died p turn) s le few quits idle refused unheard spent all = at_front who start now claims posts fuel (pending_job j) w h s le
 worked_as who start now claims fuel posts tasks j w h host.Fuel s le few quits idle refused unheard spent all =
-    spent_as who start now claims fuel (pending_job j) w h s (unheard refl) (none_pending j posts tasks few (all refl)) (spent refl)
+    spent_as who start now claims posts fuel (pending_job j) w h s (unheard refl) (none_pending j posts tasks few (all refl)) (spent refl)
 worked_as who start now claims fuel posts tasks j w h (host.Bench f) s le few quits idle refused unheard spent all =
-    refused_as who start now claims fuel w f (subst (IsAt who start now claims (pending_job j) w) (refused f refl) s) le
-worked_as who start now claims fuel posts tasks j w h host.NoMemory s le few quits idle refused unheard spent all = at_front who start now claims fuel (pending_job j) w h s le
+    refused_as who start now claims posts fuel w f (subst (IsAt who start now claims posts (pending_job j) w) (refused f refl) s) le
+worked_as who start now claims fuel posts tasks j w h host.NoMemory s le few quits idle refused unheard spent all = at_front who start now claims posts fuel (pending_job j) w h s le
 
 -- the name was entered, and nothing was claimed yet
-pub entered_at : (who : Caller) (start now : Line) (before claims : ℕ) (j : Option JobValue) (w : Option Wrong) (h : Option Heard)
-    → before ≡ 0 → claims ≡ 0 → j ≡ None → w ≡ None → h ≡ None → Stands who start now 0 (λ n more. turns who n more) → IsAt who start now (before + claims) (pending_job j) w h
-entered_at who start now before claims j w h b c jn wn hn s =
+pub entered_at : (who : Caller) (start now : Line) (before claims posts : ℕ) (j : Option JobValue) (w : Option Wrong) (h : Option Heard)
+    → before ≡ 0 → claims ≡ 0 → posts ≡ 0 → j ≡ None → w ≡ None → h ≡ None → Stands who start now 0 0 0 (λ n more. turns who n more) → IsAt who start now (before + claims) posts (pending_job j) w h
+entered_at who start now before claims posts j w h b c pn jn wn hn s =
     let zero_is : 0 ≡ before + claims = omega (arith, b, c) in
-    let stands = subst (λ (z : ℕ). Stands who start now z (λ n more. turns who n more)) zero_is s in
-    subst (λ (z : Option Heard). IsAt who start now (before + claims) (pending_job j) w z) (sym hn)
-    (subst (λ (z : Option JobValue). (w ≡ None) × GoesOnAt who start now (before + claims) (pending_job z)) (sym jn) (wn, stands))
+    let stands = subst (λ (z : ℕ). Stands who start now (before + claims) (before + claims) z (λ n more. turns who n more)) (sym pn)
+    (subst (λ (z : ℕ). Stands who start now z z 0 (λ n more. turns who n more)) zero_is s) in
+    subst (λ (z : Option Heard). IsAt who start now (before + claims) posts (pending_job j) w z) (sym hn)
+    (subst (λ (z : Option JobValue). (w ≡ None) × GoesOnAt who start now (before + claims) (before + claims) posts (pending_job z)) (sym jn) (wn, stands))
 
 -- the name was not entered
-pub refused_entry : (who : Caller) (start now : Line) (fuel : ℕ) (w : Option Wrong) (e : BenchFault) → IsPlain e → Breaks who start now 0 w → RefusedAs who start now fuel e
-refused_entry who start now fuel w fault.Link p b = breaks_fronts who start now 0 fuel w b (omega arith)
-refused_entry who start now fuel w fault.Holding p b = absurd p
-refused_entry who start now fuel w fault.NoHost p b = absurd p
-refused_entry who start now fuel w (fault.NoCase task) p b = absurd p
-refused_entry who start now fuel w fault.NoMemory p b = breaks_fronts who start now 0 fuel w b (omega arith)
+pub refused_entry : (who : Caller) (start now : Line) (fuel claims posts : ℕ) (w : Option Wrong) (e : BenchFault) → IsPlain e → Breaks who start now 0 w → RefusedAs who start now fuel claims posts w e
+refused_entry who start now fuel claims posts w fault.Link p b = breaks_broken who start now 0 fuel w b (omega arith)
+refused_entry who start now fuel claims posts w fault.Holding p b = absurd p
+refused_entry who start now fuel claims posts w fault.NoHost p b = absurd p
+refused_entry who start now fuel claims posts w (fault.NoCase task) p b = absurd p
+refused_entry who start now fuel claims posts w fault.NoMemory p b = breaks_fronts who start now 0 fuel w b (omega arith)
 
 -- the first of a list of one
 first_in : {A : Type 0} (a : A) → List (A × Unit {0}) → A
@@ -146,11 +165,17 @@ start_same : {A : Type 0} (s t : A) → ◌≡◌ {A = List (A × Unit {0})} ((s
 unfolding first_in
 start_same s t e = ap (first_in s) e
 
--- the same, of the connection as it came and as it goes back
-pub worked_over : {A : Type 0} (held left : A → Option (List ℕ)) (who caller : Caller) (s conn now over : A) (ahead : List ℕ) (fuel : ℕ) (e : HostEnd) → ◌≡◌ {A = List (A × Unit {0})} ((s, tt) ∷ []) ((conn, tt) ∷ []) → who ≡ caller → over ≡ now
-    → WorkedAs who (record { held = held s; left = left s; ahead = [] }) (record { held = held now; left = left now; ahead = ahead }) fuel e
-    → WorkedAs caller (record { held = held conn; left = left conn; ahead = [] }) (record { held = held over; left = left over; ahead = ahead }) fuel e
-worked_over {A} held left who caller s conn now over ahead fuel e is same back w =
-    subst (λ (z : Caller). WorkedAs z (record { held = held conn; left = left conn; ahead = [] }) (record { held = held over; left = left over; ahead = ahead }) fuel e) same
-    (subst (λ (z : A). WorkedAs who (record { held = held conn; left = left conn; ahead = [] }) (record { held = held z; left = left z; ahead = ahead }) fuel e) (sym back)
-    (subst (λ (z : A). WorkedAs who (record { held = held z; left = left z; ahead = [] }) (record { held = held now; left = left now; ahead = ahead }) fuel e) (start_same s conn is) w))
+-- the same, of the connection as it came and as it goes back, and of what is told of the bench
+pub worked_over : {A : Type 0} (held left : A → Option (List ℕ)) (who caller : Caller) (s conn now over : A) (ahead : List ℕ) (fuel claims claims' posts posts' : ℕ) (w w' : Option Wrong) (e : HostEnd)
+    → ◌≡◌ {A = List (A × Unit {0})} ((s, tt) ∷ []) ((conn, tt) ∷ []) → who ≡ caller → over ≡ now → claims ≡ claims' → posts ≡ posts' → w ≡ w'
+    → WorkedAs who (record { held = held s; left = left s; ahead = [] }) (record { held = held now; left = left now; ahead = ahead }) fuel claims posts w e
+    → WorkedAs caller (record { held = held conn; left = left conn; ahead = [] }) (record { held = held over; left = left over; ahead = ahead }) fuel claims' posts' w' e
+worked_over {A} held left who caller s conn now over ahead fuel claims claims' posts posts' w w' e is same back made put met x =
+    let start : Line = record { held = held conn; left = left conn; ahead = [] } in
+    let last : Line = record { held = held over; left = left over; ahead = ahead } in
+    subst (λ (z : ℕ). WorkedAs caller start last fuel z posts' w' e) made
+    (subst (λ (z : ℕ). WorkedAs caller start last fuel claims z w' e) put
+    (subst (λ (z : Option Wrong). WorkedAs caller start last fuel claims posts z e) met
+    (subst (λ (z : Caller). WorkedAs z start last fuel claims posts w e) same
+    (subst (λ (z : A). WorkedAs who start (record { held = held z; left = left z; ahead = ahead }) fuel claims posts w e) (sym back)
+    (subst (λ (z : A). WorkedAs who (record { held = held z; left = left z; ahead = [] }) (record { held = held now; left = left now; ahead = ahead }) fuel claims posts w e) (start_same s conn is) x)))))

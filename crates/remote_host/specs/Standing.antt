@@ -18,7 +18,7 @@ use Rattle.remote_host.specs.declared.asks.Wrong.{Wrong}
 use Rattle.remote_host.specs.declared.asks.Wrong.TheVariants as wrong
 use Rattle.remote_host.specs.declared.asks.TalkEnd.{TalkEnd}
 use Rattle.remote_host.specs.declared.asks.TalkEnd.TheVariants as end
-use Rattle.remote_host.specs.Talk.{Talk, talk, turns, ended, after, idle_next, fetch_next, job_next, post_next}
+use Rattle.remote_host.specs.Talk.{Talk, talk, turns, ended, after, fetches_in, posts_in, idle_next, fetch_next, job_next, post_next}
 use Rattle.remote_host.specs.Requests.{spelled}
 
 -- a connection and what its reader holds
@@ -67,12 +67,15 @@ pub record Stopped (old new : Line) (asked : List ℕ) (w : Option Wrong) : Type
   pub why : IfHeadWrong w new.ahead new.left
 
 -- Since the start these requests were put and these responses taken, and whatever comes, the talk goes on with `next`.
-pub record Stands (who : Caller) (start now : Line) (claims : ℕ) (next : ℕ → List Answer → Talk) : Type 0 where
+-- So many of the requests asked for a task, and so many posted a result.
+pub record Stands (who : Caller) (start now : Line) (claims fetched posted : ℕ) (next : ℕ → List Answer → Talk) : Type 0 where
   pub asks : List Ask
   pub answers : List Answer
   pub puts : Appends start.held now.held (spelled who asks)
   pub took : Took start now answers
   pub goes : (n : ℕ) (more : List Answer) → talk who (claims + n) (answers ++ more) ≡ after asks (next n more)
+  pub fetches_are : fetches_in asks ≡ fetched
+  pub posts_are : posts_in asks ≡ posted
 
 -- the talk has come to a wrong answer
 abbrev pub IfWronged : Caller → Option Wrong → (claims : ℕ) → List Answer → Line → Type 0
@@ -93,50 +96,50 @@ pub record Breaks (who : Caller) (start now : Line) (claims : ℕ) (w : Option W
   pub wronged : IfWronged who w claims answers now
 
 -- a request was asked from where the talk stood, and its response taken
-abbrev pub Asked : Caller → Line → Line → ℕ → (ℕ → Answer → List Answer → Talk) → Option Wrong → List ℕ → Result (Unit {0}) BenchFault → Type 0
-Asked who start now claims f w body (Ok u) = (r : Answer) × (r.body ≡ body) × Stands who start now claims (λ n more. f n r more)
-Asked who start now claims f w body (Err e) = Breaks who start now claims w
+abbrev pub Asked : Caller → Line → Line → ℕ → ℕ → ℕ → (ℕ → Answer → List Answer → Talk) → Option Wrong → List ℕ → Result (Unit {0}) BenchFault → Type 0
+Asked who start now claims fetched posted f w body (Ok u) = (r : Answer) × (r.body ≡ body) × Stands who start now claims fetched posted (λ n more. f n r more)
+Asked who start now claims fetched posted f w body (Err e) = Breaks who start now claims w
 
-abbrev pub EnteredAt : Caller → Line → Line → ℕ → Option Wrong → Result (Unit {0}) BenchFault → Type 0
-EnteredAt who start now claims w (Ok u) = Stands who start now claims (λ n more. turns who n more)
-EnteredAt who start now claims w (Err e) = Breaks who start now claims w
+abbrev pub EnteredAt : Caller → Line → Line → ℕ → ℕ → ℕ → Option Wrong → Result (Unit {0}) BenchFault → Type 0
+EnteredAt who start now claims fetched posted w (Ok u) = Stands who start now claims fetched posted (λ n more. turns who n more)
+EnteredAt who start now claims fetched posted w (Err e) = Breaks who start now claims w
 
-abbrev pub FetchedAt : Caller → Line → Line → ℕ → Option Wrong → Result Fetched BenchFault → Type 0
-FetchedAt who start now claims w (Ok said) = Stands who start now claims (λ n more. fetch_next who (turns who n) more (Some said))
-FetchedAt who start now claims w (Err e) = Breaks who start now claims w
+abbrev pub FetchedAt : Caller → Line → Line → ℕ → ℕ → ℕ → Option Wrong → Result Fetched BenchFault → Type 0
+FetchedAt who start now claims fetched posted w (Ok said) = Stands who start now claims fetched posted (λ n more. fetch_next who (turns who n) more (Some said))
+FetchedAt who start now claims fetched posted w (Err e) = Breaks who start now claims w
 
-abbrev pub JobAt : Caller → Line → Line → ℕ → Option Wrong → Task → Result JobValue BenchFault → Type 0
-JobAt who start now claims w task (Ok j) = Stands who start now claims (λ n more. job_next (turns who n) task more (Ok j.case))
-JobAt who start now claims w task (Err e) = Breaks who start now claims w
+abbrev pub JobAt : Caller → Line → Line → ℕ → ℕ → ℕ → Option Wrong → Task → Result JobValue BenchFault → Type 0
+JobAt who start now claims fetched posted w task (Ok j) = Stands who start now claims fetched posted (λ n more. job_next (turns who n) task more (Ok j.case))
+JobAt who start now claims fetched posted w task (Err e) = Breaks who start now claims w
 
-abbrev pub PostedAt : Caller → Line → Line → ℕ → Option Wrong → Result (Option Reply) BenchFault → Type 0
-PostedAt who start now claims w (Ok said) = Stands who start now claims (λ n more. post_next (turns who n) more (Some said))
-PostedAt who start now claims w (Err e) = Breaks who start now claims w
+abbrev pub PostedAt : Caller → Line → Line → ℕ → ℕ → ℕ → Option Wrong → Result (Option Reply) BenchFault → Type 0
+PostedAt who start now claims fetched posted w (Ok said) = Stands who start now claims fetched posted (λ n more. post_next (turns who n) more (Some said))
+PostedAt who start now claims fetched posted w (Err e) = Breaks who start now claims w
 
 -- how the talk stands where the host was refused so
-abbrev pub RefusedAt : Caller → Line → Line → ℕ → Option Wrong → BenchFault → Type 0
-RefusedAt who start now claims w fault.Link = Breaks who start now claims w
-RefusedAt who start now claims w fault.Holding = Stands who start now claims (λ n more. ended end.Holding)
-RefusedAt who start now claims w fault.NoHost = Stands who start now claims (λ n more. ended end.NoHost)
-RefusedAt who start now claims w (fault.NoCase task) = ⊥
-RefusedAt who start now claims w fault.NoMemory = Breaks who start now claims w
+abbrev pub RefusedAt : Caller → Line → Line → ℕ → ℕ → ℕ → Option Wrong → BenchFault → Type 0
+RefusedAt who start now claims fetched posted w fault.Link = Breaks who start now claims w
+RefusedAt who start now claims fetched posted w fault.Holding = Stands who start now claims fetched posted (λ n more. ended end.Holding)
+RefusedAt who start now claims fetched posted w fault.NoHost = Stands who start now claims fetched posted (λ n more. ended end.NoHost)
+RefusedAt who start now claims fetched posted w (fault.NoCase task) = ⊥
+RefusedAt who start now claims fetched posted w fault.NoMemory = Breaks who start now claims w
 
-abbrev pub TurnedAt : Caller → Line → Line → ℕ → Option Wrong → Result (Option JobValue) BenchFault → Type 0
-TurnedAt who start now claims w (Ok None) = (w ≡ None) × Stands who start now claims (λ n more. idle_next who (turns who n) more)
-TurnedAt who start now claims w (Ok (Some j)) = (w ≡ None) × Stands who start now claims (λ n more. job_next (turns who n) j.task more (Ok j.case))
-TurnedAt who start now claims w (Err e) = RefusedAt who start now claims w e
+abbrev pub TurnedAt : Caller → Line → Line → ℕ → ℕ → ℕ → Option Wrong → Result (Option JobValue) BenchFault → Type 0
+TurnedAt who start now claims fetched posted w (Ok None) = (w ≡ None) × Stands who start now claims fetched posted (λ n more. idle_next who (turns who n) more)
+TurnedAt who start now claims fetched posted w (Ok (Some j)) = (w ≡ None) × Stands who start now claims fetched posted (λ n more. job_next (turns who n) j.task more (Ok j.case))
+TurnedAt who start now claims fetched posted w (Err e) = RefusedAt who start now claims fetched posted w e
 
 -- where nothing was heard: the next turn is to come, or the result of the pending task
-abbrev pub GoesOnAt : Caller → Line → Line → ℕ → Option (Task × TestCase) → Type 0
-GoesOnAt who start now claims None = Stands who start now claims (λ n more. turns who n more)
-GoesOnAt who start now claims (Some p) = Stands who start now claims (λ n more. job_next (turns who n) p.0 more (Ok p.1))
+abbrev pub GoesOnAt : Caller → Line → Line → ℕ → ℕ → ℕ → Option (Task × TestCase) → Type 0
+GoesOnAt who start now claims fetched posted None = Stands who start now claims fetched posted (λ n more. turns who n more)
+GoesOnAt who start now claims fetched posted (Some p) = Stands who start now claims fetched posted (λ n more. job_next (turns who n) p.0 more (Ok p.1))
 
 -- how the talk stands, by what the host has heard
-abbrev pub IsAt : Caller → Line → Line → ℕ → Option (Task × TestCase) → Option Wrong → Option Heard → Type 0
-IsAt who start now claims pending w None = (w ≡ None) × GoesOnAt who start now claims pending
-IsAt who start now claims pending w (Some Nothing) =
-    (w ≡ None) × (pending ≡ None) × Stands who start now claims (λ n more. idle_next who (turns who n) more)
-IsAt who start now claims pending w (Some (Refused e)) = RefusedAt who start now claims w e
+abbrev pub IsAt : Caller → Line → Line → (claims posts : ℕ) → Option (Task × TestCase) → Option Wrong → Option Heard → Type 0
+IsAt who start now claims posts pending w None = (w ≡ None) × GoesOnAt who start now claims claims posts pending
+IsAt who start now claims posts pending w (Some Nothing) =
+    (w ≡ None) × (pending ≡ None) × Stands who start now claims claims posts (λ n more. idle_next who (turns who n) more)
+IsAt who start now claims posts pending w (Some (Refused e)) = RefusedAt who start now claims claims posts w e
 
 -- what the bench met first
 abbrev pub first_wrong : Option Wrong → Wrong → Option Wrong

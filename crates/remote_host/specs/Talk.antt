@@ -1,5 +1,5 @@
 -- The talk of a remote host: what it asks, as a function of the responses that it takes.
-use Rattle.std.specs.Prelude.{◌≡◌, ℕ, zero, suc, List, [], ◌∷◌, ◌++◌, if◌then◌else◌, Option, None, Some, Result, Ok, Err}
+use Rattle.std.specs.Prelude.{◌+◌, ℕ, zero, suc, List, [], ◌∷◌, ◌++◌, if◌then◌else◌, Option, None, Some, Result, Ok, Err}
 use Rattle.farm_kinds.specs.declared.outcomes.Task.{Task}
 use Rattle.farm_kinds.specs.declared.events.Reply.{Reply}
 use Rattle.case_run.specs.Cases.{TestCase}
@@ -20,6 +20,30 @@ use Rattle.remote_host.specs.Bodies.{enters, fetch_said, job_said, post_said}
 pub record Talk : Type 0 where
   pub asks : List Ask
   pub end : TalkEnd
+
+-- one more, where the request asks for a task
+abbrev pub count_fetch : Ask → ℕ → ℕ
+count_fetch ask.Enter n = n
+count_fetch ask.Fetch n = n + 1
+count_fetch (ask.Job task) n = n
+count_fetch (ask.Post task kind) n = n
+
+-- one more, where the request posts a result
+abbrev pub count_post : Ask → ℕ → ℕ
+count_post ask.Enter n = n
+count_post ask.Fetch n = n
+count_post (ask.Job task) n = n
+count_post (ask.Post task kind) n = n + 1
+
+-- how many of the requests ask for a task
+abbrev pub fetches_in : List Ask → ℕ
+fetches_in [] = 0
+fetches_in (a ∷ us) = count_fetch a (fetches_in us)
+
+-- how many of the requests post a result
+abbrev pub posts_in : List Ask → ℕ
+posts_in [] = 0
+posts_in (a ∷ us) = count_post a (posts_in us)
 
 abbrev pub ended : TalkEnd → Talk
 ended e = record { asks = []; end = e }

@@ -91,7 +91,7 @@ impl<N: Source + Sink> RemoteBench<N> {
         ensures entered { (s : N) × (self.new.start.items ≡ (s, tt) ∷ []) × EnteredAt self.new.caller
             (record { held = N.held s; left = N.left s; ahead = [] })
             (record { held = N.held self.new.talker.conn; left = N.left self.new.talker.conn; ahead = self.new.talker.reader.ahead })
-            0 self.new.talker.wrong result }
+            0 0 0 self.new.talker.wrong result }
         ensures fine { OnOk result (self.new.talker.wrong ≡ None) }
         ensures plain { IfErr result IsPlain }
         ensures start { self.new.start ≡ self.old.start }
@@ -178,7 +178,7 @@ impl<N: Source + Sink> Bench for RemoteBench<N> {
     ghost sound = { λ b. (s : N) × (b.start.items ≡ (s, tt) ∷ []) × IsAt b.caller
         (record { held = N.held s; left = N.left s; ahead = [] })
         (record { held = N.held b.talker.conn; left = N.left b.talker.conn; ahead = b.talker.reader.ahead })
-        (b.before + b.claims) (pending_job b.job) b.talker.wrong (heard_at_claim b.heard) };
+        (b.before + b.claims) b.posts (pending_job b.job) b.talker.wrong (heard_at_claim b.heard) };
 
     fn claim(&mut self) -> Claimed {
         self.claims += 1;

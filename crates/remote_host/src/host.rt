@@ -33,16 +33,16 @@ fn round<N: Source + Sink, G: Gate>(
     requires sound { (s : N) × (bench.old.start.items ≡ (s, tt) ∷ []) × IsAt bench.old.caller
         (record { held = N.held s; left = N.left s; ahead = [] })
         (record { held = N.held bench.old.talker.conn; left = N.left bench.old.talker.conn; ahead = bench.old.talker.reader.ahead })
-        (bench.old.before + bench.old.claims) (pending_job bench.old.job) bench.old.talker.wrong (heard_at_claim bench.old.heard) }
+        (bench.old.before + bench.old.claims) bench.old.posts (pending_job bench.old.job) bench.old.talker.wrong (heard_at_claim bench.old.heard) }
     ensures worked { (result ≡ HostEnd.Idle → bench.new.caller.waits ≡ false)
         → (s : N) × (bench.new.start.items ≡ (s, tt) ∷ []) × WorkedAs bench.new.caller
         (record { held = N.held s; left = N.left s; ahead = [] })
         (record { held = N.held bench.new.talker.conn; left = N.left bench.new.talker.conn; ahead = bench.new.talker.reader.ahead })
-        fuel result }
+        fuel (bench.new.before + bench.new.claims) bench.new.posts bench.new.talker.wrong result }
     ensures sound { (s : N) × (bench.new.start.items ≡ (s, tt) ∷ []) × IsAt bench.new.caller
         (record { held = N.held s; left = N.left s; ahead = [] })
         (record { held = N.held bench.new.talker.conn; left = N.left bench.new.talker.conn; ahead = bench.new.talker.reader.ahead })
-        (bench.new.before + bench.new.claims) (pending_job bench.new.job) bench.new.talker.wrong (heard_at_claim bench.new.heard) }
+        (bench.new.before + bench.new.claims) bench.new.posts (pending_job bench.new.job) bench.new.talker.wrong (heard_at_claim bench.new.heard) }
     ensures idle { result ≡ HostEnd.Idle → heard_at_claim bench.new.heard ≡ Some Nothing }
     ensures posted { result ≡ HostEnd.Idle → bench.new.posts ≡ bench.new.tasks }
     ensures asked { result ≡ HostEnd.Idle → 1 ≤ bench.new.claims }
@@ -76,11 +76,11 @@ fn work<N: Source + Sink, G: Gate, P: Pause>(
     requires sound { (s : N) × (bench.old.start.items ≡ (s, tt) ∷ []) × IsAt bench.old.caller
         (record { held = N.held s; left = N.left s; ahead = [] })
         (record { held = N.held bench.old.talker.conn; left = N.left bench.old.talker.conn; ahead = bench.old.talker.reader.ahead })
-        (bench.old.before + bench.old.claims) (pending_job bench.old.job) bench.old.talker.wrong (heard_at_claim bench.old.heard) }
+        (bench.old.before + bench.old.claims) bench.old.posts (pending_job bench.old.job) bench.old.talker.wrong (heard_at_claim bench.old.heard) }
     ensures worked { (s : N) × (bench.new.start.items ≡ (s, tt) ∷ []) × WorkedAs bench.new.caller
         (record { held = N.held s; left = N.left s; ahead = [] })
         (record { held = N.held bench.new.talker.conn; left = N.left bench.new.talker.conn; ahead = bench.new.talker.reader.ahead })
-        fuel result }
+        fuel (bench.new.before + bench.new.claims) bench.new.posts bench.new.talker.wrong result }
     ensures start { bench.new.start.items ≡ bench.old.start.items }
     ensures caller { bench.new.caller ≡ bench.old.caller }
     ensures died { (point : PointValue) (turn : ℕ) → result ≡ HostEnd.Died point turn → G.may_answer gate.now 1 point turn Go.Die ≡ true }
@@ -114,7 +114,7 @@ fn enter_and_work<N: Source + Sink, G: Gate, P: Pause>(
     ensures worked { (s : N) × (bench.new.start.items ≡ (s, tt) ∷ []) × WorkedAs bench.new.caller
         (record { held = N.held s; left = N.left s; ahead = [] })
         (record { held = N.held bench.new.talker.conn; left = N.left bench.new.talker.conn; ahead = bench.new.talker.reader.ahead })
-        fuel result }
+        fuel (bench.new.before + bench.new.claims) bench.new.posts bench.new.talker.wrong result }
     ensures start { bench.new.start.items ≡ bench.old.start.items }
     ensures caller { bench.new.caller ≡ bench.old.caller }
     ensures died { (point : PointValue) (turn : ℕ) → result ≡ HostEnd.Died point turn → G.may_answer gate.now 1 point turn Go.Die ≡ true }
@@ -159,7 +159,7 @@ pub fn work_over<N: Source + Sink, G: Gate, P: Pause>(
     ensures worked { (ahead : List ℕ) × WorkedAs caller
         (record { held = N.held conn; left = N.left conn; ahead = [] })
         (record { held = N.held result.conn; left = N.left result.conn; ahead = ahead })
-        fuel result.end }
+        fuel result.claims result.posts result.wrong result.end }
     ensures died { (point : PointValue) (turn : ℕ) → result.end ≡ HostEnd.Died point turn → G.may_answer gate.now 1 point turn Go.Die ≡ true }
 {
     let mut bench = RemoteBench::new(alloc, conn, caller);

@@ -8,7 +8,7 @@ ghost use Rattle.remote_host.specs.declared.asks.Fetched.TheVariants as said;
 ghost use Rattle.remote_host.specs.Bodies.{post_said};
 ghost use Rattle.remote_host.specs.Halts.{head_wrong};
 ghost use Rattle.remote_host.specs.Requests.{spell};
-ghost use Rattle.remote_host.specs.Talk.{Talk, talk, turns, onto, answered, fetch_next, post_next};
+ghost use Rattle.remote_host.specs.Talk.{Talk, talk, turns, onto, answered, fetch_next, post_next, count_fetch, count_post};
 ghost use Rattle.remote_host.specs.Standing.{Line, Stands, Breaks, Asked, FetchedAt, JobAt, PostedAt, EnteredAt, TurnedAt, first_wrong, IsPlain};
 
 use crate::asks::{Ask, Caller, Fetched, Wrong};
@@ -67,13 +67,13 @@ impl<N: Source + Sink> Talker<N> {
     fn ask(&mut self, caller: &Caller, ask: Ask) -> Result<(), BenchFault>
         requires source { (n : N) → N.Source.beside n ≡ side (N.held n) (N.Sink.faults n) }
         requires sink { (n : N) → N.Sink.beside n ≡ side (N.left n) (N.Source.faults n) }
-        ensures talks { (start : Line) (claims : ℕ) (f : ℕ → Answer → List Answer → Talk) → self.old.wrong ≡ None
+        ensures talks { (start : Line) (claims fetched posted : ℕ) (f : ℕ → Answer → List Answer → Talk) → self.old.wrong ≡ None
             → Stands caller.now start
             (record { held = N.held self.old.conn; left = N.left self.old.conn; ahead = self.old.reader.ahead })
-            claims (λ n more. onto ask (answered (f n) more))
+            claims fetched posted (λ n more. onto ask (answered (f n) more))
             → Asked caller.now start
             (record { held = N.held self.new.conn; left = N.left self.new.conn; ahead = self.new.reader.ahead })
-            claims f self.new.wrong self.new.reader.body result }
+            claims (count_fetch ask fetched) (count_post ask posted) f self.new.wrong self.new.reader.body result }
         ensures fine { OnOk result (self.new.wrong ≡ self.old.wrong) }
         ensures plain { IfErr result IsPlain }
         ensures later { N.Source.faults self.old.conn + N.Sink.faults self.old.conn + self.old.wrongs
@@ -93,13 +93,13 @@ impl<N: Source + Sink> Talker<N> {
         requires source { (n : N) → N.Source.beside n ≡ side (N.held n) (N.Sink.faults n) }
         requires sink { (n : N) → N.Sink.beside n ≡ side (N.left n) (N.Source.faults n) }
         requires request { request.now ≡ spell _caller.now _ask }
-        ensures talks { (start : Line) (claims : ℕ) (f : ℕ → Answer → List Answer → Talk) → self.old.wrong ≡ None
+        ensures talks { (start : Line) (claims fetched posted : ℕ) (f : ℕ → Answer → List Answer → Talk) → self.old.wrong ≡ None
             → Stands _caller.now start
             (record { held = N.held self.old.conn; left = N.left self.old.conn; ahead = self.old.reader.ahead })
-            claims (λ n more. onto _ask (answered (f n) more))
+            claims fetched posted (λ n more. onto _ask (answered (f n) more))
             → Asked _caller.now start
             (record { held = N.held self.new.conn; left = N.left self.new.conn; ahead = self.new.reader.ahead })
-            claims f self.new.wrong self.new.reader.body result }
+            claims (count_fetch _ask fetched) (count_post _ask posted) f self.new.wrong self.new.reader.body result }
         ensures fine { OnOk result (self.new.wrong ≡ self.old.wrong) }
         ensures plain { IfErr result IsPlain }
         ensures later { N.Source.faults self.old.conn + N.Sink.faults self.old.conn + self.old.wrongs
@@ -118,13 +118,13 @@ impl<N: Source + Sink> Talker<N> {
     fn fetch(&mut self, caller: &Caller) -> Result<Fetched, BenchFault>
         requires source { (n : N) → N.Source.beside n ≡ side (N.held n) (N.Sink.faults n) }
         requires sink { (n : N) → N.Sink.beside n ≡ side (N.left n) (N.Source.faults n) }
-        ensures talks { (start : Line) (claims : ℕ) → self.old.wrong ≡ None
+        ensures talks { (start : Line) (claims fetched posted : ℕ) → self.old.wrong ≡ None
             → Stands caller.now start
             (record { held = N.held self.old.conn; left = N.left self.old.conn; ahead = self.old.reader.ahead })
-            claims (λ n more. turns caller.now (suc n) more)
+            claims fetched posted (λ n more. turns caller.now (suc n) more)
             → FetchedAt caller.now start
             (record { held = N.held self.new.conn; left = N.left self.new.conn; ahead = self.new.reader.ahead })
-            claims self.new.wrong result }
+            claims (fetched + 1) posted self.new.wrong result }
         ensures fine { OnOk result (self.new.wrong ≡ self.old.wrong) }
         ensures plain { IfErr result IsPlain }
         ensures later { N.Source.faults self.old.conn + N.Sink.faults self.old.conn + self.old.wrongs
@@ -149,13 +149,13 @@ impl<N: Source + Sink> Talker<N> {
     fn job(&mut self, caller: &Caller, task: Task) -> Result<Job, BenchFault>
         requires source { (n : N) → N.Source.beside n ≡ side (N.held n) (N.Sink.faults n) }
         requires sink { (n : N) → N.Sink.beside n ≡ side (N.left n) (N.Source.faults n) }
-        ensures talks { (start : Line) (claims : ℕ) → self.old.wrong ≡ None
+        ensures talks { (start : Line) (claims fetched posted : ℕ) → self.old.wrong ≡ None
             → Stands caller.now start
             (record { held = N.held self.old.conn; left = N.left self.old.conn; ahead = self.old.reader.ahead })
-            claims (λ n more. fetch_next caller.now (turns caller.now n) more (Some (said.Task task)))
+            claims fetched posted (λ n more. fetch_next caller.now (turns caller.now n) more (Some (said.Task task)))
             → JobAt caller.now start
             (record { held = N.held self.new.conn; left = N.left self.new.conn; ahead = self.new.reader.ahead })
-            claims self.new.wrong task result }
+            claims fetched posted self.new.wrong task result }
         ensures task { IfOk result (λ j. j.task ≡ task) }
         ensures fine { OnOk result (self.new.wrong ≡ self.old.wrong) }
         ensures plain { IfErr result IsPlain }
@@ -186,13 +186,13 @@ impl<N: Source + Sink> Talker<N> {
     ) -> Result<Option<Reply>, BenchFault>
         requires source { (n : N) → N.Source.beside n ≡ side (N.held n) (N.Sink.faults n) }
         requires sink { (n : N) → N.Sink.beside n ≡ side (N.left n) (N.Source.faults n) }
-        ensures talks { (start : Line) (claims : ℕ) → self.old.wrong ≡ None
+        ensures talks { (start : Line) (claims fetched posted : ℕ) → self.old.wrong ≡ None
             → Stands caller.now start
             (record { held = N.held self.old.conn; left = N.left self.old.conn; ahead = self.old.reader.ahead })
-            claims (λ n more. onto (asks.Post task kind) (answered (λ a later. post_next (turns caller.now n) later (post_said a.body)) more))
+            claims fetched posted (λ n more. onto (asks.Post task kind) (answered (λ a later. post_next (turns caller.now n) later (post_said a.body)) more))
             → PostedAt caller.now start
             (record { held = N.held self.new.conn; left = N.left self.new.conn; ahead = self.new.reader.ahead })
-            claims self.new.wrong result }
+            claims fetched (posted + 1) self.new.wrong result }
         ensures no_host { (name : List ℕ) → result ≢ Ok (Some (replies.NoHost name)) }
         ensures no_memory { result ≢ Ok (Some replies.NoMemory) }
         ensures fine { OnOk result (self.new.wrong ≡ self.old.wrong) }
@@ -219,13 +219,13 @@ impl<N: Source + Sink> Talker<N> {
     pub fn enter(&mut self, caller: &Caller) -> Result<(), BenchFault>
         requires source { (n : N) → N.Source.beside n ≡ side (N.held n) (N.Sink.faults n) }
         requires sink { (n : N) → N.Sink.beside n ≡ side (N.left n) (N.Source.faults n) }
-        ensures talks { (start : Line) (claims : ℕ) → self.old.wrong ≡ None
+        ensures talks { (start : Line) (claims fetched posted : ℕ) → self.old.wrong ≡ None
             → Stands caller.now start
             (record { held = N.held self.old.conn; left = N.left self.old.conn; ahead = self.old.reader.ahead })
-            claims (λ n more. talk caller.now n more)
+            claims fetched posted (λ n more. talk caller.now n more)
             → EnteredAt caller.now start
             (record { held = N.held self.new.conn; left = N.left self.new.conn; ahead = self.new.reader.ahead })
-            claims self.new.wrong result }
+            claims fetched posted self.new.wrong result }
         ensures fine { OnOk result (self.new.wrong ≡ self.old.wrong) }
         ensures plain { IfErr result IsPlain }
         ensures later { N.Source.faults self.old.conn + N.Sink.faults self.old.conn + self.old.wrongs
@@ -250,13 +250,13 @@ impl<N: Source + Sink> Talker<N> {
     pub fn turn(&mut self, caller: &Caller) -> Result<Option<Job>, BenchFault>
         requires source { (n : N) → N.Source.beside n ≡ side (N.held n) (N.Sink.faults n) }
         requires sink { (n : N) → N.Sink.beside n ≡ side (N.left n) (N.Source.faults n) }
-        ensures talks { (start : Line) (claims : ℕ) → self.old.wrong ≡ None
+        ensures talks { (start : Line) (claims fetched posted : ℕ) → self.old.wrong ≡ None
             → Stands caller.now start
             (record { held = N.held self.old.conn; left = N.left self.old.conn; ahead = self.old.reader.ahead })
-            claims (λ n more. turns caller.now (suc n) more)
+            claims fetched posted (λ n more. turns caller.now (suc n) more)
             → TurnedAt caller.now start
             (record { held = N.held self.new.conn; left = N.left self.new.conn; ahead = self.new.reader.ahead })
-            claims self.new.wrong result }
+            claims (fetched + 1) posted self.new.wrong result }
         ensures later { N.Source.faults self.old.conn + N.Sink.faults self.old.conn + self.old.wrongs
             ≤ N.Source.faults self.new.conn + N.Sink.faults self.new.conn + self.new.wrongs }
         ensures link { result ≡ Err BenchFault.Link

@@ -17,7 +17,7 @@ invariant-loop-end g l =
           (s : g.row.N.Denot) × (b.start.items ≡ (s, tt) ∷ []) × IsAt b.caller
           (record { held = g.N.Sink.held s; left = g.N.Source.left s; ahead = [] })
           (record { held = g.N.Sink.held b.talker.conn; left = g.N.Source.left b.talker.conn; ahead = b.talker.reader.ahead })
-          (b.before + b.claims) (pending_job b.job) b.talker.wrong (heard_at_claim b.heard);
+          (b.before + b.claims) b.posts (pending_job b.job) b.talker.wrong (heard_at_claim b.heard);
       start : b.start.items ≡ l.fn.bench.start.items;
       caller : b.caller ≡ l.fn.bench.caller;
     }

@@ -7,6 +7,7 @@ returns-clause-worked g c =
     let e = c.enter_and_work-end.ensures in
     let b = c.enter_and_work-end.new.bench in (
       b.talker.reader.ahead,
-      worked_over (λ n. g.N.Sink.held n) (λ n. g.N.Source.left n) _ _ e.worked.0 c.args.conn b.talker.conn c.end.result b.talker.reader.ahead c.args.fuel _
-          (sym e.worked.1 ∙ e.start ∙ c.new-bench.ensures.start) (e.caller ∙ c.new-bench.ensures.talker.1) c.end.ensures e.worked.2,
+      worked_over (λ n. g.N.Sink.held n) (λ n. g.N.Source.left n) _ _ e.worked.0 c.args.conn b.talker.conn c.end.result b.talker.reader.ahead c.args.fuel _ c.claims-claims.result _ c.posts-posts.result _ c.wrong-wrong.result _
+          (sym e.worked.1 ∙ e.start ∙ c.new-bench.ensures.start) (e.caller ∙ c.new-bench.ensures.talker.1) c.end.ensures
+          (sym c.claims-claims.ensures) (sym c.posts-posts.ensures) (sym c.wrong-wrong.ensures) e.worked.2,
     )

@@ -5,11 +5,11 @@ use Rattle.remote_host.proofs.talker.Talker.send.Goals as goal
 
 pub returns-in-Ok-clause-talks : goal.returns-in-Ok-clause-talks
 returns-in-Ok-clause-talks g c =
-    λ start claims f fine s. asked_ok _ start _ _ claims c.args._ask f None _ _ c.in-Ok.ensures.ok.0 _ c.requires.request c.in-Ok.ensures.ok.1 s
+    λ start claims fetched posted f fine s. asked_ok _ start _ _ claims fetched posted c.args._ask f None _ _ c.in-Ok.ensures.ok.0 _ c.requires.request c.in-Ok.ensures.ok.1 s
 
 pub returns-in-Err-clause-talks : goal.returns-in-Err-clause-talks
 returns-in-Err-clause-talks g c =
-    λ start claims f fine s. asked_err _ start _ _ claims c.args._ask f _ (head_wrong c.in-Err.halt) _ c.requires.request c.in-Err.ensures.err (c.refused.ensures.kept fine) s
+    λ start claims fetched posted f fine s. asked_err _ start _ _ claims fetched posted c.args._ask f _ (head_wrong c.in-Err.halt) _ c.requires.request c.in-Err.ensures.err (c.refused.ensures.kept fine) s
 
 pub returns-in-Err-clause-link : goal.returns-in-Err-clause-link
 returns-in-Err-clause-link g c =
