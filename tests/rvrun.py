@@ -64,8 +64,21 @@ USAGES = [
     ["--pages", "+1", "image"],
     ["--pages", "4294967296", "image"],
     ["--instructions", "18446744073709551616", "image"],
-    ["image", "--pages", "1"],
+    ["--pages", "01", "image"],
+    ["--pages=", "image"],
+    ["--pages=-1", "image"],
+    ["--pages", "1", "--pages", "1", "image"],
+    ["--", "image"],
+    [""],
     ["image", "1", "1", "1"],
+]
+
+# Ways in which a run of LOOP is told to cost at most 1000.
+ORDERS = [
+    ["--instructions=1000", "image"],
+    ["image", "--instructions=1000"],
+    ["image", "--instructions", "1000"],
+    ["--pages", "9", "image", "--output=0", "--instructions", "1000"],
 ]
 
 
@@ -86,12 +99,17 @@ def looks():
             said = done.stderr.decode()
             sound = done.returncode == 0 and said.startswith(f"ending {ending} load ") and said.count("\n") == 1
             yield f"0: {ending}", sound, done
+        write(folder, LOOP)
+        for words in ORDERS:
+            done = run(words, folder)
+            sound = done.returncode == 0 and done.stderr.startswith(b"ending time cost 1000 pages 1 load ")
+            yield f"0: {words}", sound, done
         write(folder, [0x00700513, *WRITE_3[:1], 0x00010593, 0x00300613, 0x04000893, 0x00000073, *EXIT_0])
         done = run(["image"], folder)
         yield "0: three zeros are written", done.returncode == 0 and done.stdout == bytes(3), done
         for words in USAGES:
             done = run(words, folder)
-            sound = done.returncode == 2 and done.stderr.startswith(b"usage: rvrun") and not done.stdout
+            sound = done.returncode == 2 and done.stderr.startswith(b"error: ") and b"\nUsage: rvrun" in done.stderr and not done.stdout
             yield f"2: {words}", sound, done
         done = run(["none"], folder)
         yield "1: no image", done.returncode == 1 and b"cannot read the image none" in done.stderr, done

@@ -1,5 +1,5 @@
 #!/usr/bin/env python3
-"""Gives programs words that ask for help or for the version, and words that are wrong, and looks at what they say.
+"""Gives the programs words that ask for help or for the version, and words that are wrong, and looks at what they say.
 
     tests/words.py
 
@@ -17,19 +17,42 @@ sys.dont_write_bytecode = True
 
 from place import TOP  # noqa: E402
 
+RVRUN = "Usage: rvrun [OPTIONS] <IMAGE>"
 VALIDATE = "Usage: validate <INPUT> <ANSWER> <FEEDBACK_FOLDER> [FLAGS]..."
 MORE = "For more information, try '--help'."
 
 # A program, its words, and lines that must stand on standard output.
 HELP = [
+    ("rvrun", ["--help"], [RVRUN, "Arguments:", "Options:"]),
+    ("rvrun", ["-h"], [RVRUN]),
+    ("rvrun", ["image", "--help"], [RVRUN]),
+    ("rvrun", ["--version"], ["rvrun 0.1.0"]),
+    ("rvrun", ["-V"], ["rvrun 0.1.0"]),
     ("validate", ["--help"], [VALIDATE, "Arguments:", "Options:"]),
     ("validate", ["-h"], [VALIDATE]),
     ("validate", ["--version"], ["validate 0.1.0"]),
     ("validate", ["-V"], ["validate 0.1.0"]),
 ]
 
+
+def number(option, value, most):
+    """The line on a number that is not in its range."""
+    return f"error: invalid value '{value}' for '{option}': wanted is a number from 0 to {most}, without a sign or a leading zero"
+
+
 # A program, its words, and lines that must stand on standard error.
 WRONG = [
+    ("rvrun", [], ["error: the following required arguments were not provided:", "  <IMAGE>", "Usage: rvrun <IMAGE>", MORE]),
+    ("rvrun", ["image", "--pages", "x"], [number("--pages <N>", "x", 4294967295), RVRUN, MORE]),
+    ("rvrun", ["image", "--pages=01"], [number("--pages <N>", "01", 4294967295), RVRUN, MORE]),
+    ("rvrun", ["image", "--output=4294967296"], [number("--output <N>", "4294967296", 4294967295), RVRUN, MORE]),
+    ("rvrun", ["image", "--instructions", "18446744073709551616"],
+     [number("--instructions <N>", "18446744073709551616", 18446744073709551615), RVRUN, MORE]),
+    ("rvrun", ["image", "--pages"], ["error: a value is required for '--pages <N>' but none was supplied", RVRUN, MORE]),
+    ("rvrun", ["image", "--pages="], ["error: invalid value '' in '--pages=': a value is not empty and does not begin with '-'", RVRUN, MORE]),
+    ("rvrun", ["image", "--pages", "1", "--pages", "1"], ["error: the argument '--pages <N>' cannot be used multiple times", RVRUN, MORE]),
+    ("rvrun", ["image", "other"], ["error: unexpected argument 'other' found", RVRUN, MORE]),
+    ("rvrun", ["--page", "1", "image"], ["error: unexpected argument '--page' found", "  tip: a similar argument exists: '--pages'"]),
     ("validate", [], ["error: the following required arguments were not provided:", "  <INPUT>", "  <ANSWER>", "  <FEEDBACK_FOLDER>", VALIDATE, MORE]),
     ("validate", ["a", "b"], ["error: the following required arguments were not provided:", "  <FEEDBACK_FOLDER>", VALIDATE, MORE]),
     ("validate", ["a", "", "c"], ["error: an empty word found, and none is taken", VALIDATE, MORE]),

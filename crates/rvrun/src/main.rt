@@ -12,7 +12,7 @@ mod report;
 mod words;
 
 use crate::report::{Report, run_to_end};
-use crate::words::read_words;
+use crate::words::{Asked, read_words};
 use farm_kinds::{Limits, raw_image};
 use rv_machine::{Ending, Files, Machine, Trap};
 use std::alloc::{AllocError, Global};
@@ -20,20 +20,6 @@ use std::io::{Read, Write};
 use std::process::ExitCode;
 use std::time::Instant;
 use std::{env, fs, io};
-
-const USAGE: &str = "usage: rvrun [--instructions N] [--pages N] [--output N] IMAGE < INPUT
-
-Runs a raw RV32IM image (32-bit words, at most 1,048,576 bytes) within limits of
-instructions (10,000,000,000), pages of 4,096 bytes (16,384) and bytes of output
-(16,777,216). Its output goes to standard output. A line on standard error says
-how the run ended:
-  ending WORD cost C pages P load NANOSECONDS run NANOSECONDS
-WORD: exit=CODE, time, memory, output, nomemory, or trap=illegal, jump,
-misaligned, break, call or range.
-
-Status: 0 the image was run, however it ended; 1 it could not be read or run, or
-its output not be written; 2 usage.
-";
 
 fn main(rt: HostRuntime) -> ExitCode {
     match run(&rt) {
@@ -48,10 +34,14 @@ fn main(rt: HostRuntime) -> ExitCode {
 /// Runs the image that the words name, and gives the status.
 fn run(rt: &HostRuntime) -> io::Result<u8> {
     let words = env::args(rt)?.collect::<Vec<String>>(rt.alloc())?;
-    match read_words(words.as_slice()) {
-        Some(command) => run_command(rt, command.image, command.limits),
-        None => {
-            rt.eprint(USAGE)?;
+    match read_words(rt.alloc(), words.as_slice())? {
+        Asked::Run(command) => run_command(rt, command.image, command.limits),
+        Asked::Help(text) => {
+            io::writer(rt).write_all(text.as_bytes())?;
+            Ok(0)
+        }
+        Asked::Wrong(text) => {
+            rt.eprint(text.as_str())?;
             Ok(2)
         }
     }

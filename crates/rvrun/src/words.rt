@@ -1,4 +1,8 @@
+//! The words of `rvrun`.
+use clap::{Arg, ArgMatches, Command};
+use command_line::{ProgramWords, no_number, number_from, read_program};
 use farm_kinds::Limits;
+use std::alloc::{AllocError, Global};
 
 /// What a run may use where no option says it.
 const STANDARD: Limits = Limits {
@@ -9,68 +13,123 @@ const STANDARD: Limits = Limits {
 
 /// What is run: the path of an image, and what it may use.
 #[derive(Clone, Copy)]
-pub struct Command<'a> {
+pub struct Run<'a> {
     pub image: &'a str,
     pub limits: Limits,
 }
 
-/// Reads the program's words: its name, options, each with its value, and the path of an image. None where they are
-/// something else.
-pub fn read_words(words: &[String]) -> Option<Command<'_>> {
-    match words {
-        [_, options @ .., image] => {
-            let limits = read_limits(options)?;
-            if image.as_str().starts_with('-') {
-                return None;
-            }
-            Some(Command {
-                image: image.as_str(),
-                limits,
-            })
-        }
-        _ => None,
+/// What the words ask for.
+#[derive(Drop)]
+pub enum Asked<'a> {
+    /// A run.
+    Run(Run<'a>),
+    /// This text is to be printed.
+    Help(String),
+    /// Nothing, for the reason of this text.
+    Wrong(String),
+}
+
+const REMARKS: &str = "\
+What the program writes to descriptor 1 goes to standard output. A line on
+standard error says how the run ended, and how long loading and running took:
+  ending WORD cost C pages P load NANOSECONDS run NANOSECONDS
+WORD: exit=CODE, time, memory, output, nomemory, or trap=illegal, jump,
+misaligned, break, call or range.
+
+Status: 0 the image was run, however it ended; 1 it could not be read or run, or
+its output not be written; 2 usage.";
+
+/// Reads the program's words: the path of an image, and options.
+pub fn read_words<'a>(alloc: Global, words: &'a [String]) -> Result<Asked<'a>, AllocError> {
+    let mut program = grammar(alloc)?;
+    let found = match read_program(alloc, &mut program, words, words.len())? {
+        ProgramWords::Found(found) => found,
+        ProgramWords::Help(text) => return Ok(Asked::Help(text)),
+        ProgramWords::Wrong(text) => return Ok(Asked::Wrong(text)),
+    };
+    run_of(alloc, &mut program, &found)
+}
+
+/// The run that was found, where its numbers are in range.
+fn run_of<'a>(
+    alloc: Global,
+    program: &mut Command<'a>,
+    found: &ArgMatches<'a>,
+) -> Result<Asked<'a>, AllocError> {
+    let instructions = limit(found, "instructions", STANDARD.instructions, u64::MAX);
+    let pages = small(limit(found, "pages", STANDARD.pages as u64, u32::MAX as u64));
+    let output = small(limit(found, "output", STANDARD.output as u64, u32::MAX as u64));
+    match (found.get_str("image"), instructions, pages, output) {
+        (Some(image), Some(instructions), Some(pages), Some(output)) => Ok(Asked::Run(Run {
+            image,
+            limits: Limits {
+                instructions,
+                pages,
+                output,
+            },
+        })),
+        (_, None, _, _) => refused(alloc, program, found, "instructions", u64::MAX),
+        (_, _, None, _) => refused(alloc, program, found, "pages", u32::MAX as u64),
+        _ => refused(alloc, program, found, "output", u32::MAX as u64),
     }
 }
 
-/// Reads options and their values; of an option that is given again the last value counts.
-fn read_limits(words: &[String]) -> Option<Limits> {
-    let mut limits = STANDARD;
-    let mut option: Option<&str> = None;
-    for word in words {
-        option = match option {
-            None => Some(word.as_str()),
-            Some(name) => {
-                limits = with_limit(limits, name, word.as_str())?;
-                None
-            }
-        };
-    }
-    if option.is_some() { None } else { Some(limits) }
+/// What is said of an option whose value is no number up to the most.
+fn refused<'a>(
+    alloc: Global,
+    program: &mut Command<'a>,
+    found: &ArgMatches<'a>,
+    id: &str,
+    most: u64,
+) -> Result<Asked<'a>, AllocError> {
+    let value = found.get_str(id).unwrap_or("");
+    let option = format!(in alloc; "--{id} <N>")?;
+    let text = no_number(alloc, program, option.as_str(), value, 0, most)?;
+    Ok(Asked::Wrong(text))
 }
 
-/// The limits with the one that this option sets.
-fn with_limit(limits: Limits, option: &str, value: &str) -> Option<Limits> {
-    let value = number(value)?;
-    match option {
-        "--instructions" => Some(Limits {
-            instructions: value,
-            ..limits
-        }),
-        "--pages" => Some(Limits {
-            pages: u32::try_from(value).ok()?,
-            ..limits
-        }),
-        "--output" => Some(Limits {
-            output: u32::try_from(value).ok()?,
-            ..limits
-        }),
-        _ => None,
+/// The number of an option, or the standard one where it is not said. None where it is none up to the most.
+fn limit(found: &ArgMatches<'_>, id: &str, standard: u64, most: u64) -> Option<u64> {
+    match found.get_str(id) {
+        Some(value) => number_from(value, 0, most),
+        None => Some(standard),
     }
 }
 
-fn number(word: &str) -> Option<u64> {
-    if word.starts_with('+') {
-        return None;
-    }
-    word.parse::<u64>().ok()
+/// The number of 32 bits.
+fn small(number: Option<u64>) -> Option<u32> {
+    u32::try_from(number?).ok()
+}
+
+/// `rvrun [--instructions N] [--pages N] [--output N] IMAGE`
+fn grammar<'a>(alloc: Global) -> Result<Command<'a>, AllocError> {
+    let image = Arg::new(alloc, "image")
+        .required(true)
+        .value_name("IMAGE")
+        .help("A raw RV32IM image: 32-bit words, at most 1048576 bytes");
+    Command::new(alloc, "rvrun")
+        .version("0.1.0")
+        .about("Runs an RV32IM image on standard input, within limits")
+        .after_help(REMARKS)
+        .arg(image)?
+        .arg(option(
+            alloc,
+            "instructions",
+            "How many instructions it may cost, 0 to 18446744073709551615; standard 10000000000",
+        ))?
+        .arg(option(
+            alloc,
+            "pages",
+            "How many pages of 4096 bytes it may touch, 0 to 4294967295; standard 16384",
+        ))?
+        .arg(option(
+            alloc,
+            "output",
+            "How many bytes it may write, 0 to 4294967295; standard 16777216",
+        ))
+}
+
+/// `--NAME N`
+fn option<'a>(alloc: Global, name: &'a str, help: &'a str) -> Arg<'a> {
+    Arg::new(alloc, name).long(name).value_name("N").help(help)
 }
