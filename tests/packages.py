@@ -150,7 +150,7 @@ def looks():
         done = run(os.path.join(EXAMPLES, name))
         yield f"examples/packages/{name}", done.returncode == status and said in done.stdout, done
     done = run()
-    yield "usage", done.returncode == 2 and done.stderr.startswith(b"usage: package_info"), done
+    yield "usage", done.returncode == 2 and b"\nUsage: package_info" in done.stderr, done
 
 
 def main():

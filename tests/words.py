@@ -19,6 +19,7 @@ from place import TOP  # noqa: E402
 
 RVRUN = "Usage: rvrun [OPTIONS] <IMAGE>"
 VALIDATE = "Usage: validate <INPUT> <ANSWER> <FEEDBACK_FOLDER> [FLAGS]..."
+PACKAGE_INFO = "Usage: package_info <FOLDER>"
 MORE = "For more information, try '--help'."
 
 # A program, its words, and lines that must stand on standard output.
@@ -32,6 +33,10 @@ HELP = [
     ("validate", ["-h"], [VALIDATE]),
     ("validate", ["--version"], ["validate 0.1.0"]),
     ("validate", ["-V"], ["validate 0.1.0"]),
+    ("package_info", ["--help"], [PACKAGE_INFO, "Arguments:", "Options:"]),
+    ("package_info", ["-h"], [PACKAGE_INFO]),
+    ("package_info", ["--version"], ["package_info 0.1.0"]),
+    ("package_info", ["-V"], ["package_info 0.1.0"]),
 ]
 
 
@@ -58,6 +63,10 @@ WRONG = [
     ("validate", ["a", "", "c"], ["error: an empty word found, and none is taken", VALIDATE, MORE]),
     ("validate", ["a", "-", "c"], ["error: unexpected argument '-' found", VALIDATE, MORE]),
     ("validate", ["--helps"], ["error: unexpected argument '--helps' found", "  tip: a similar argument exists: '--help'"]),
+    ("package_info", [], ["error: the following required arguments were not provided:", "  <FOLDER>", PACKAGE_INFO, MORE]),
+    ("package_info", [""], ["error: an empty word found, and none is taken", PACKAGE_INFO, MORE]),
+    ("package_info", ["a", "b"], ["error: unexpected argument 'b' found", PACKAGE_INFO, MORE]),
+    ("package_info", ["--notes", "a"], ["error: unexpected argument '--notes' found", PACKAGE_INFO, MORE]),
 ]
 
 

@@ -3,9 +3,11 @@
 
 mod faults;
 mod report;
+mod words;
 
 use crate::faults::fault_text;
 use crate::report::report;
+use crate::words::{Asked, read_words};
 use farm_tree::DiskTree;
 use package_folder::{Package, PackageFault, read_package};
 use std::io::Write;
@@ -14,16 +16,6 @@ use std::{env, io};
 
 /// How many instructions a second of time limit stands for, by the standard settings of a contest.
 const INSTRUCTIONS_PER_SECOND: u32 = 10_000_000;
-
-const USAGE: &str = "usage: package_info FOLDER
-
-Reads a problem package (Kattis problem package format, legacy) and prints its
-name, its limits, how outputs are checked, and its tests in order, each with the
-bytes of its input and its answer. A folder that is no package is told on
-standard error, by its first fault.
-
-Status: 0 a package, 1 no package, or it could not be read or printed, 2 usage.
-";
 
 fn main(rt: HostRuntime) -> ExitCode {
     match run(&rt) {
@@ -38,10 +30,14 @@ fn main(rt: HostRuntime) -> ExitCode {
 /// Reads the package that the words name, and gives the status.
 fn run(rt: &HostRuntime) -> io::Result<u8> {
     let words = env::args(rt)?.collect::<Vec<String>>(rt.alloc())?;
-    match words.as_slice() {
-        [_, folder] => tell(rt, folder.as_str()),
-        _ => {
-            rt.eprint(USAGE)?;
+    match read_words(rt.alloc(), words.as_slice())? {
+        Asked::Package(folder) => tell(rt, folder),
+        Asked::Help(text) => {
+            io::writer(rt).write_all(text.as_bytes())?;
+            Ok(0)
+        }
+        Asked::Wrong(text) => {
+            rt.eprint(text.as_str())?;
             Ok(2)
         }
     }
