@@ -381,24 +381,59 @@ def silent(program, folder):
 
 
 def lanes(program, folder):
-    """Where all lanes are taken, the next connection waits for the first."""
-    with Server(program, folder, lanes=2, connections=3) as server:
-        first, second, third = server.connect(), server.connect(), server.connect()
-        third.sendall(BOARD)
-        third.settimeout(0.5)
-        try:
-            early = third.recv(4096)
-        except TimeoutError:
-            early = b""
-        second.sendall(BOARD)
-        yield "the second is answered while the first says nothing", statuses_in(second.recv(4096)) == {200: 1}, None
-        yield "the third waits", early == b"", early
-        first.close()
-        third.settimeout(10)
-        yield "until the first has gone", statuses_in(third.recv(4096)) == {200: 1}, None
-        for conn in (second, third):
+    """Where all lanes are taken and others wait, a client that says nothing is let go."""
+    with Server(program, folder, lanes=2, connections=4) as server:
+        first, second = server.client(), server.client()
+        both = is_answered(first) and is_answered(second)
+        third = server.client()
+        yield "two that keep their connections, and a third one", both and is_answered(third), None
+        yield "for which the first was let go", first.sock.recv(10) == b"", None
+        silent = server.connect()
+        yield "the second goes on, and is let go behind its answer", is_answered(second), None
+        for conn in (first, second, third, silent):
             conn.close()
-        yield "three lines and the board", server.ended()[1].count("\n") == 6, None
+        lines = server.ended()[1].splitlines()
+        wanted = ["conn 1 requests 1 end", "conn 2 requests 2 closed"]
+        yield "their lines", [lines[0], lines[1].replace(" end", " closed")] == wanted and len(lines) == 7, lines
+
+
+def slowest(server, count):
+    """How long the slowest of so many clients waited, each of which comes, asks once and goes."""
+    worst = 0
+    for _ in range(count):
+        begun = time.monotonic()
+        client = server.client()
+        if not is_answered(client):
+            return float("inf")
+        client.close()
+        worst = max(worst, time.monotonic() - begun)
+    return worst
+
+
+def crowds(program, folder):
+    """One that says nothing, and many that keep their connections, beside those that ask."""
+    with Server(program, folder, lanes=16, connections=2000) as server:
+        silent = server.client()
+        yield "one asks and then says nothing", is_answered(silent), None
+        worst = slowest(server, 1000)
+        yield f"1,000 others wait {worst:.3f} s at the most", worst < 1, worst
+        yield "the silent one is still there", is_answered(silent), None
+    with Server(program, folder, lanes=4, connections=2000) as server:
+        kept = []
+        worst = 0
+        for _ in range(1000):
+            begun = time.monotonic()
+            kept.append(server.client())
+            if not is_answered(kept[-1]):
+                worst = float("inf")
+            worst = max(worst, time.monotonic() - begun)
+        yield f"1,000 that keep their connections on 4 lanes wait {worst:.3f} s at the most", worst < 1, worst
+        worst = slowest(server, 100)
+        yield f"and so do 100 behind them: {worst:.3f} s", worst < 1, worst
+        kib = memory_of(server)
+        yield f"all take {kib} KiB", kib < 30_000, kib
+        for client in kept:
+            client.close()
 
 
 def ends(program, folder):
@@ -430,7 +465,7 @@ def main():
     sound = True
     with tempfile.TemporaryDirectory() as folder:
         write(folder, FILES)
-        looks = [look(program, folder) for look in (talks, whole_connections, exact_bytes, batches, cut_anywhere, hostile, silent, lanes, ends)]
+        looks = [look(program, folder) for look in (talks, whole_connections, exact_bytes, batches, cut_anywhere, hostile, silent, lanes, crowds, ends)]
         for some in [*looks, page(program)]:
             for name, good, got in some:
                 print(f"{'ok  ' if good else 'NOT '} {name}{'' if good else f': {got!r}'}")

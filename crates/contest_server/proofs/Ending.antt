@@ -12,7 +12,7 @@ use Rattle.contest_server.specs.declared.serving.Coming.{Coming}
 use Rattle.contest_server.specs.declared.serving.Coming.TheVariants as coming
 use Rattle.contest_server.specs.Visits.{Watch, Start, Visit, conn_lines}
 use Rattle.contest_server.specs.Texts.{WritesFront}
-use Rattle.contest_server.specs.Serving.{Desk, share, StaysOrderly, Opening, Tells, TellsFront, TellsAll, TakesAll, AcceptsNext, MakesRoom, with_coming, ServesNext, IsUnderWay, Wrote, IfWhole, end_of, end_after, EndsWith, Rests, ServesAll, ServesLanes}
+use Rattle.contest_server.specs.Serving.{Desk, share, StaysOrderly, Opening, Tells, TellsFront, TellsAll, TellsSome, TellsFirst, TakesAll, AcceptsNext, MakesRoom, with_coming, ServesNext, IsUnderWay, Wrote, IfWhole, end_of, end_after, EndsWith, Rests, ServesAll, ServesLanes}
 use Rattle.contest_server.proofs.Telling.{whole_front, front_of_more, lines_both}
 
 stays_through : {N : Type 0} (w : Watch N) (board : BoardId) (a b c : Desk N) → StaysOrderly w board a b → StaysOrderly w board b c → StaysOrderly w board a c
@@ -22,6 +22,25 @@ front_told : {N : Type 0} (w : Watch N) (o : Opening N) (d : Desk N) (held : Opt
 front_told {N} w o d held n t = record { visits = t.visits; stands = t.stands; count = t.count; wrote = whole_front o.held held (conn_lines 1 t.visits) t.wrote }
 
 -- The next one
+
+-- there was room, once those were told that have ended
+pub room_at_once : {N : Type 0} (w : Watch N) (board : BoardId) (old new : Desk N) (held held' : Option (List ℕ)) (n : ℕ) (result : Result (Unit {0}) TextFault) → TellsSome w board old new held held' n result → MakesRoom w board old new held held' n result
+room_at_once {N} w board old new held held' n result t = record { stays = t.stays; fewer = t.fewer; left = t.left; told = t.told }
+
+-- there was room once the first one was told too
+pub room_behind : {N : Type 0} (w : Watch N) (board : BoardId) (old mid new : Desk N) (held held' held'' : Option (List ℕ)) (n : ℕ) (u : Unit {0}) (result : Result (Unit {0}) TextFault)
+    → TellsSome w board old mid held held' n (Ok u) → TellsFirst w board mid new held' held'' n result → MakesRoom w board old new held held'' n result
+room_behind {N} w board old mid new held held' held'' n u result t f =
+    let fewer_before = t.fewer in
+    let fewer_now = f.fewer in
+    let left_before = t.left in
+    let left_now = f.left in
+    record {
+      stays = stays_through w board old mid new t.stays f.stays;
+      fewer = omega (arith, fewer_before, fewer_now);
+      left = omega (arith, left_before, left_now, fewer_now);
+      told = λ o h. f.told o (t.told o h);
+    }
 
 coming_up : (c : Coming) (n m : ℕ) → n ≤ m → with_coming n c ≤ with_coming m c
 coming_up coming.Conn n m le = omega (arith, le)
@@ -85,7 +104,7 @@ whole_end end.NoMemory starts none = tt
 pub record Before {N : Type 0} (w : Watch N) (board : BoardId) (first now : Desk N) (held held' : Option (List ℕ)) (n most : ℕ) (e : ServeEnd) : Type 0 where
   pub stays : StaysOrderly w board first now
   pub within : n ≤ most
-  pub left : first.pass.left ≤ now.pass.left + most * (share + 2)
+  pub left : first.pass.left + length now.starts ≤ now.pass.left + length first.starts + most * (share + 2)
   pub told : (o : Opening N) → Tells w o first held 0 → Tells w o now held' n
   pub done : e ≡ end.Done → (n ≡ most) ⊎ IsEmpty now.door.coming
 
@@ -161,7 +180,7 @@ pub before_all : {N : Type 0} (w : Watch N) (board : BoardId) (first now : Desk 
 before_all {N} w board first now held held' n most all u = record {
   stays = u.stays;
   within = omega arith;
-  left = subst (λ (k : ℕ). first.pass.left ≤ now.pass.left + k * (share + 2)) all u.left;
+  left = subst (λ (k : ℕ). first.pass.left + length now.starts ≤ now.pass.left + length first.starts + k * (share + 2)) all u.left;
   told = λ o t. subst (λ (k : ℕ). Tells w o now held' k) all (u.told o t);
   done = λ is. inl refl;
 }

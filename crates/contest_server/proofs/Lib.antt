@@ -6,3 +6,4 @@ pub mod Ending
 pub mod Whole
 pub mod Finishing
 mod Sending
+mod Settling

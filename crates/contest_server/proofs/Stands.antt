@@ -1,6 +1,6 @@
 -- What stands once a connection was accepted, and once one was taken in.
-use Rattle.std.proofs.Common.{◌≡◌, ◌+◌, List, [], ◌∷◌, ◌++◌, Option, None, Some, map, length, refl, sym, ap, ◌∙◌, subst, arith, append_assoc}
-use Rattle.std.specs.Prelude.{All, IsSome}
+use Rattle.std.proofs.Common.{◌≡◌, List, [], ◌∷◌, ◌++◌, Option, None, Some, map, refl, sym, ap, ◌∙◌, subst, arith, append_assoc}
+use Rattle.std.specs.Prelude.{IsSome}
 use Rattle.std.proofs.lemmas.List.{map-append, length-append}
 use Rattle.std.proofs.lemmas.List.Elements.{All-head, All-tail}
 use Rattle.farm_io.specs.declared.door.Listening.{Listening}
@@ -86,7 +86,7 @@ accepts {N} w board door door' pass pass' starts s orderly fresh l split =
         seats = omega (arith, len, spare);
       };
       more = omega (arith, len);
-      left = omega (arith, left);
+      left = omega (arith, left, len);
       ended = tt;
       told = λ o held n t. let count = t.count in record {
         visits = t.visits;

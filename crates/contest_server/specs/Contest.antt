@@ -1,5 +1,5 @@
 -- How a contest enters the farm that is served.
-use Rattle.std.specs.Prelude.{List, ◌++◌, map}
+use Rattle.std.specs.Prelude.{ℕ, ◌+◌, List, ◌++◌, map}
 use Rattle.farm_kinds.specs.declared.events.Event.{Event}
 use Rattle.contest_folder.specs.RosterValue.{RosterValue}
 use Rattle.parallel_judge.specs.Entering.{problem_event, submission_event}
@@ -10,3 +10,12 @@ abbrev pub entering_events : RosterValue → List Event
 entering_events roster =
     map problem_event (map named_problem roster.problems)
     ++ map submission_event (map named_submission roster.submissions)
+
+-- how many connections that came may not be given back yet, where so many are served at the same time: beside these,
+-- those that have ended and wait for their line, because one that came before them is still being served
+abbrev pub open_limit : ℕ → ℕ
+open_limit lanes = 8192 + lanes
+
+-- how many passes of the board may be out: one for each of them, and the one by which the contest enters
+abbrev pub seats : ℕ → ℕ
+seats lanes = open_limit lanes + 1

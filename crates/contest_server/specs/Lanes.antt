@@ -1,5 +1,5 @@
 -- What workers are given, and what they give back.
-use Rattle.std.specs.Prelude.{◌≡◌, List, map, All, IfOk, IfErr}
+use Rattle.std.specs.Prelude.{◌≡◌, List, map, All, None, IfSome, IsSome}
 use Rattle.farm_board.specs.Passes.{PassValue}
 use Rattle.contest_server.specs.declared.lanes.Lane.{Lane}
 use Rattle.contest_server.specs.declared.lanes.Promised.{Promised}
@@ -24,12 +24,13 @@ visit_of s served = record {
   how = served.end.how;
 }
 
--- the lane's worker has promised what is known of its lane, or the caller has served the connection
+-- the lane's worker has promised what is known of its lane, or the connection was served
 pub record IsLane {N C : Type 0} (w : Watch N) (clock : C) (lane : Lane (Served N PassValue) (Promised N PassValue C))
     : Type 0 where
   pub clock_is : lane.promise.value.clock.value ≡ clock
-  pub there : IfOk lane.work (λ handle. handle.promise ≡ lane.promise.value)
-  pub here : IfErr lane.work (λ served. IsAnswered w (visit_of (start_of lane) served))
+  pub there : IfSome lane.worker (λ handle. handle.promise ≡ lane.promise.value)
+  pub here : IfSome lane.served (λ served. IsAnswered w (visit_of (start_of lane) served))
+  pub known : lane.worker ≡ None → IsSome lane.served
 
 abbrev pub AreLanes : {N C : Type 0} → Watch N → C → List (Lane (Served N PassValue) (Promised N PassValue C)) → Type 0
 AreLanes w clock lanes = All (IsLane w clock) lanes

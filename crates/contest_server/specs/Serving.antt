@@ -165,14 +165,24 @@ pub record TellsAll {N : Type 0} (w : Watch N) (board : BoardId) (old new : Desk
   pub coming : new.door.coming ≡ old.door.coming
   pub told : (o : Opening N) → Tells w o old held n → Told w o new held' n result
 
+-- some of them were, the first ones first, up to a line that was not written whole
+pub record TellsSome {N : Type 0} (w : Watch N) (board : BoardId) (old new : Desk N) (held held' : Option (List ℕ))
+    (n : ℕ) (result : Result (Unit {0}) TextFault) : Type 0 where
+  pub stays : StaysOrderly w board old new
+  pub fewer : length new.starts ≤ length old.starts
+  pub left : old.pass.left + length new.starts ≤ new.pass.left + length old.starts
+  pub coming : new.door.coming ≡ old.door.coming
+  pub told : (o : Opening N) → Tells w o old held n → Told w o new held' n result
+
 -- The next one
 
--- there is room for one more: where there was none, the connection that was accepted first was taken in and told
+-- there is room for one more: those that have ended were taken in and told as far as their turn had come, and where there
+-- was no room yet, the connection that was accepted first was waited for
 pub record MakesRoom {N : Type 0} (w : Watch N) (board : BoardId) (old new : Desk N) (held held' : Option (List ℕ))
     (n : ℕ) (result : Result (Unit {0}) TextFault) : Type 0 where
   pub stays : StaysOrderly w board old new
   pub fewer : length new.starts ≤ length old.starts
-  pub left : old.pass.left ≤ new.pass.left + 1
+  pub left : old.pass.left + length new.starts ≤ new.pass.left + length old.starts
   pub told : (o : Opening N) → Tells w o old held n → Told w o new held' n result
 
 abbrev pub with_coming : ℕ → Coming → ℕ
@@ -190,7 +200,7 @@ IfEnded left coming.Failed = Unit {0}
 pub record AcceptsNext {N : Type 0} (w : Watch N) (board : BoardId) (old new : Desk N) (result : Coming) : Type 0 where
   pub stays : StaysOrderly w board old new
   pub more : length new.starts ≤ with_coming (length old.starts) result
-  pub left : old.pass.left ≤ new.pass.left + (share + 1)
+  pub left : old.pass.left + length new.starts ≤ new.pass.left + length old.starts + (share + 2)
   pub ended : IfEnded new.door.coming result
   pub told : (o : Opening N) (held : Option (List ℕ)) (n : ℕ) → Tells w o old held n
       → Tells w o new held (with_coming n result)
@@ -213,7 +223,7 @@ pub record ServesNext {N : Type 0} (w : Watch N) (board : BoardId) (old new : De
     (n : ℕ) (result : Result Coming TextFault) : Type 0 where
   pub stays : StaysOrderly w board old new
   pub more : length new.starts ≤ with_next (length old.starts) result
-  pub left : old.pass.left ≤ new.pass.left + (share + 2)
+  pub left : old.pass.left + length new.starts ≤ new.pass.left + length old.starts + (share + 2)
   pub ended : IfNextEnded new.door.coming result
   pub told : (o : Opening N) → Tells w o old held n → ToldNext w o new held' n result
 
@@ -230,7 +240,7 @@ pub record IsUnderWay {N : Type 0} (w : Watch N) (board : BoardId) (first now : 
     (n : ℕ) : Type 0 where
   pub stays : StaysOrderly w board first now
   pub few : length now.starts ≤ length first.starts + n
-  pub left : first.pass.left ≤ now.pass.left + n * (share + 2)
+  pub left : first.pass.left + length now.starts ≤ now.pass.left + length first.starts + n * (share + 2)
   pub told : (o : Opening N) → Tells w o first held 0 → Tells w o now held' n
 
 -- The end

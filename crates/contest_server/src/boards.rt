@@ -9,6 +9,7 @@ ghost use Rattle.contest_server.specs.Visits.{watch};
 ghost use Rattle.contest_server.specs.Serving.{desk, share, IsOrderly, ServesLanes, HasCauseEnd};
 ghost use Rattle.contest_server.specs.Served.{HasServed, ShowsBoard};
 
+use crate::bell::Bell;
 use crate::ends::ServeEnd;
 use crate::lines::put_text;
 use crate::serving::{end_of, serve_lanes};
@@ -35,9 +36,11 @@ fn serve_in_scope<
     paths: &Paths,
     board: &Board<Anyone, A>,
     clock: &C,
+    bell: &Bell,
     door: &mut D,
     out: &mut K,
     pass: Pass<A>,
+    workers: u16,
     most: u16,
     connections: u32,
 ) -> (Pass<A>, ServeEnd)
@@ -69,10 +72,12 @@ where
                 paths,
                 board,
                 clock,
+                bell,
                 scope,
                 door,
                 out,
                 &mut pass,
+                workers,
                 most,
                 connections,
             );
@@ -135,28 +140,32 @@ pub(crate) fn serve_board<
     out: &mut K,
     pass: Pass<A>,
     lanes: u16,
+    untold: u16,
     connections: u32,
 ) -> ServeEnd
 where
     D::Conn: Drop,
     requires orderly { IsOrderly (watch D.Conn.left D.Conn.held D.Conn.Source.faults D.Conn.Sink.faults (around_of (C.shows clock.now) D.Conn.Peer.asks)) board.now.id (desk (D.state door.old) pass []) }
-    requires some { 0 < lanes }
-    requires seats { pass.spare ≡ lanes }
-    requires left { connections * (share + 2) + 4 * lanes < pass.left }
+    requires some { 0 < untold }
+    requires seats { pass.spare ≡ untold }
+    requires left { connections * (share + 2) + 4 * untold < pass.left }
     ensures served { (start : BoardState) (events : List EventValue) → IsOpening start → HasEntered start events pass
         → HasServed (watch D.Conn.left D.Conn.held D.Conn.Source.faults D.Conn.Sink.faults (around_of (C.shows clock.now) D.Conn.Peer.asks)) start events (D.state door.old) (D.state door.new) (K.held out.old) (K.held out.new) connections result }
     ensures cause { HasCauseEnd (D.faults door.old) (D.faults door.new) (K.faults out.old) (K.faults out.new) result }
 {
+    let bell = Bell::new();
     let (mut pass, end) = serve_in_scope(
         rt,
         alloc,
         paths,
         board,
         clock,
+        &bell,
         door,
         out,
         pass,
         lanes,
+        untold,
         connections,
     );
     if is_done(end) {

@@ -4,7 +4,7 @@ ghost use Rattle.farm_io.specs.Streams.{Rose};
 ghost use Rattle.farm_model.specs.State.{start};
 ghost use Rattle.farm_board.specs.Histories.{opening_board};
 ghost use Rattle.parallel_judge.specs.Hosts.{HasEntered};
-ghost use Rattle.contest_server.specs.Contest.{entering_events};
+ghost use Rattle.contest_server.specs.Contest.{entering_events, open_limit, seats};
 ghost use Rattle.judge_server.specs.Exchanges.{around_of};
 ghost use Rattle.contest_server.specs.Visits.{watch};
 ghost use Rattle.contest_server.specs.Serving.{HasCauseEnd};
@@ -24,10 +24,15 @@ use std::marker::Brand;
 use std::sync::Wait;
 use std::thread::Threads;
 
+/// How many connections may wait for their line to be written, because one that came before them is still being served.
+const UNTOLD: u16 = 8192;
+
 /// Serves a contest to the connections of a door, `connections` at the most. Each is served by a worker of its own as
 /// soon as it was accepted, or by the caller where none can be started, and at most `lanes` at the same time: then the
-/// one that was accepted first is waited for before the next is accepted. Whoever was waited for is given back to the
-/// door, and its line written; behind the lines stands the text of `board`.
+/// one that was accepted first is asked to close, and whichever ends first is waited for before the next is accepted.
+/// Connections are given back to the door and their lines written in the order in which they came, each as soon as it and
+/// all before it have ended and another one comes; behind the lines stands the text of `board`. Where 8,192 wait for
+/// that, the one that was accepted first is waited for.
 ///
 /// Where the door fails, the connections that were accepted are served and their lines written, but no board. Where a
 /// text can't be written, they are served and given back.
@@ -47,7 +52,7 @@ where
     requires connections { connections ≤ 100000 }
     requires door { (D.state door.old).returned ≤ (D.state door.old).accepted }
     requires listens { DoesListen (D.state door.old) }
-    ensures serves { Serves (watch D.Conn.left D.Conn.held D.Conn.Source.faults D.Conn.Sink.faults (around_of (C.shows clock.now) D.Conn.Peer.asks)) (opening_board (start roster.now.settings) (lanes + 1) false)
+    ensures serves { Serves (watch D.Conn.left D.Conn.held D.Conn.Source.faults D.Conn.Sink.faults (around_of (C.shows clock.now) D.Conn.Peer.asks)) (opening_board (start roster.now.settings) (seats lanes) false)
         (entering_events roster.now) (D.state door.old) (D.state door.new) (K.held out.old) (K.held out.new) connections result }
     ensures cause { HasCauseEnd (D.faults door.old) (D.faults door.new) (K.faults out.old) (K.faults out.new) result }
     ensures complete { ¬ Rose (D.faults door.old) (D.faults door.new) → ¬ Rose (K.faults out.old) (K.faults out.new)
@@ -69,6 +74,7 @@ where
         out,
         pass,
         lanes,
+        UNTOLD + lanes,
         connections,
     );
     drop(board);
@@ -85,12 +91,18 @@ fn open_board<W: Wait, A: Admission>(
     requires named { A.admits ≡ (λ task kind. true) }
     requires lanes { lanes ≤ 16 }
     ensures board { IfOk result (λ opened. opened.1.board ≡ opened.0.id) }
-    ensures spare { IfOk result (λ opened. opened.1.spare ≡ lanes) }
+    ensures spare { IfOk result (λ opened. opened.1.spare ≡ open_limit lanes) }
     ensures left { IfOk result (λ opened. 2 ^ 62 ≤ opened.1.left + 2 * 2 ^ 32) }
-    ensures entered { IfOk result (λ opened. HasEntered (opening_board (start roster.now.settings) (lanes + 1) false) (entering_events roster.now) opened.1) }
+    ensures entered { IfOk result (λ opened. HasEntered (opening_board (start roster.now.settings) (seats lanes) false) (entering_events roster.now) opened.1) }
 {
     let farm = Farm::new(alloc, roster.settings().copy()?);
-    let (board, mut pass) = Board::<Anyone, A>::new(alloc, farm, Anyone, lanes + 1, false)?;
+    let (board, mut pass) = Board::<Anyone, A>::new(
+        alloc,
+        farm,
+        Anyone,
+        UNTOLD + lanes + 1,
+        false,
+    )?;
     enter_problems(rt, &board, &mut pass, roster)?;
     enter_submissions(rt, &board, &mut pass, roster)?;
     Ok((board, pass))

@@ -1,13 +1,16 @@
 ghost use Rattle.std.specs.Prelude.{◌≡◌, ◌≤◌, ◌^◌};
+ghost use Rattle.std.specs.VecDeque.{deque_len};
 ghost use Rattle.farm_io.specs.Beside.{side};
-ghost use Rattle.contest_server.specs.Lanes.{start_of, visit_of, IsLane};
+ghost use Rattle.contest_server.specs.Lanes.{start_of, starts_of, visit_of, IsLane, AreLanes};
 ghost use Rattle.judge_server.specs.Exchanges.{around_of};
 ghost use Rattle.contest_server.specs.Visits.{watch, visit, IsAnswered};
 
+use crate::bell::Bell;
 use farm_board::{Admission, Anyone, Board, Pass};
 use farm_io::{Clock, Peer, Sink, Source};
 use judge_server::{ConnEnd, Paths, serve_conn};
 use std::alloc::Global;
+use std::collections::VecDeque;
 use std::snapshot::Snapshot;
 use std::sync::Wait;
 use std::thread::{Promise, PromisedHandle, Scope, Threads};
@@ -43,13 +46,15 @@ impl<N: Source + Sink + Peer, A: Admission, C: Clock> Promise<Served<N, Pass<A>>
         (visit p.came.value r.conn p.begun.value r.pass r.end.requests r.end.how) };
 }
 
-/// Serves a connection on a pass of its own.
+/// Serves a connection on a pass of its own, in this place.
 fn serve_one<W: Wait, A: Admission, C: Clock, N: Source + Sink + Peer>(
     rt: &W,
     alloc: Global,
     paths: &Paths,
     board: &Board<Anyone, A>,
     clock: &C,
+    bell: &Bell,
+    place: usize,
     mut pass: Pass<A>,
     mut conn: N,
 ) -> Served<N, Pass<A>>
@@ -61,13 +66,15 @@ fn serve_one<W: Wait, A: Admission, C: Clock, N: Source + Sink + Peer>(
         (visit conn result.conn pass result.pass result.end.requests result.end.how) }
 {
     let end = serve_conn(rt, alloc, paths, &mut pass, board, &mut conn, clock);
+    bell.ring(rt, place);
     Served { conn, pass, end }
 }
 
-/// A connection that is being served by a worker, or that the caller has served.
+/// A connection that is being served by a worker, or that was served.
 #[derive(Drop)]
 pub(crate) struct Lane<T, P: Promise<T>> {
-    work: Result<PromisedHandle<T, P>, T>,
+    worker: Option<PromisedHandle<T, P>>,
+    served: Option<T>,
     promise: Snapshot<P>,
 }
 
@@ -88,7 +95,9 @@ pub(crate) fn begin<
     paths: &'s Paths,
     board: &'s Board<Anyone, A>,
     clock: &'s C,
+    bell: &'s Bell,
     scope: &Scope<'s, E>,
+    place: usize,
     pass: Pass<A>,
     conn: N,
 ) -> Worker<N, A, C>
@@ -114,20 +123,24 @@ pub(crate) fn begin<
             requires sink { (n : N) → N.Sink.beside n ≡ side (N.left n) (N.Source.faults n) }
             ensures answered { IsAnswered (watch N.left N.held N.Source.faults N.Sink.faults (around_of (C.shows clock.entry.now) N.Peer.asks))
                 (visit conn result.conn pass result.pass result.end.requests result.end.how) }
-        { serve_one(rt, alloc, paths, board, clock, pass, conn) },
+        { serve_one(rt, alloc, paths, board, clock, bell, place, pass, conn) },
     );
-    let work = match started {
-        Ok(handle) => Ok(handle),
-        Err(refused) => Err((refused.value)()),
-    };
-    Lane {
-        work,
-        promise: promised,
+    match started {
+        Ok(handle) => Lane {
+            worker: Some(handle),
+            served: None,
+            promise: promised,
+        },
+        Err(refused) => Lane {
+            worker: None,
+            served: Some((refused.value)()),
+            promise: promised,
+        },
     }
 }
 
 /// Waits until the connection was served.
-pub(crate) fn end<R: Threads, N: Source + Sink + Peer, A: Admission, C: Clock>(
+pub(crate) fn end<R: Threads, N: Source + Sink + Peer + Drop, A: Admission, C: Clock>(
     rt: &R,
     clock: &C,
     lane: Worker<N, A, C>,
@@ -136,9 +149,56 @@ pub(crate) fn end<R: Threads, N: Source + Sink + Peer, A: Admission, C: Clock>(
     ensures answered { IsAnswered (watch N.left N.held N.Source.faults N.Sink.faults (around_of (C.shows clock.now) N.Peer.asks))
         (visit_of (start_of lane) result) }
 {
-    let Lane { work, promise: _ } = lane;
-    match work {
-        Ok(handle) => handle.join(rt),
-        Err(served) => served,
+    let Lane {
+        worker,
+        served,
+        promise: _,
+    } = lane;
+    if let Some(handle) = worker {
+        return handle.join(rt);
     }
+    let Some(served) = served else {
+        // Where there is no worker, the connection was served.
+        unreachable!()
+    };
+    served
+}
+
+/// Waits until the connection was served, and keeps what came of it: no thread is left.
+pub(crate) fn settle<R: Threads, N: Source + Sink + Peer + Drop, A: Admission, C: Clock>(
+    rt: &R,
+    clock: &C,
+    lane: &mut Worker<N, A, C>,
+)
+    requires lane { IsLane (watch N.left N.held N.Source.faults N.Sink.faults (around_of (C.shows clock.now) N.Peer.asks)) clock.now lane.old }
+    ensures start { start_of lane.new ≡ start_of lane.old }
+    ensures lane { IsLane (watch N.left N.held N.Source.faults N.Sink.faults (around_of (C.shows clock.now) N.Peer.asks)) clock.now lane.new }
+{
+    if let Some(handle) = lane.worker.take() {
+        lane.served = Some(handle.join(rt));
+    }
+}
+
+/// Waits until the connection at this index was served.
+pub(crate) fn settle_at<R: Threads, N: Source + Sink + Peer + Drop, A: Admission, C: Clock>(
+    rt: &R,
+    clock: &C,
+    lanes: &mut VecDeque<Worker<N, A, C>>,
+    index: usize,
+)
+    requires lanes { AreLanes (watch N.left N.held N.Source.faults N.Sink.faults (around_of (C.shows clock.now) N.Peer.asks)) clock.now lanes.old.items }
+    ensures starts { starts_of lanes.new.items ≡ starts_of lanes.old.items }
+    ensures lanes { AreLanes (watch N.left N.held N.Source.faults N.Sink.faults (around_of (C.shows clock.now) N.Peer.asks)) clock.now lanes.new.items }
+    ensures len { deque_len lanes.new ≡ deque_len lanes.old }
+{
+    if index < lanes.len() {
+        settle(rt, clock, &mut lanes[index]);
+    }
+}
+
+/// Whether the connection was served, and no thread is left.
+pub(crate) fn is_settled<N: Source + Sink + Peer, A: Admission, C: Clock>(
+    lane: &Worker<N, A, C>,
+) -> bool {
+    lane.worker.is_none()
 }

@@ -1,17 +1,18 @@
-ghost use Rattle.std.specs.Prelude.{◌≡◌, ◌+◌, ◌*◌, ◌<◌, ◌≤◌, Ok, []};
+ghost use Rattle.std.specs.Prelude.{◌≡◌, ◌+◌, ◌*◌, ◌<◌, ◌≤◌, IfOk, Ok, []};
 ghost use Rattle.std.specs.VecDeque.{deque_len, deque_capacity};
 ghost use Rattle.farm_io.specs.Streams.{Rose};
 ghost use Rattle.contest_server.specs.Texts.{HasCauseTold};
 ghost use Rattle.judge_server.specs.Exchanges.{around_of};
 ghost use Rattle.contest_server.specs.Visits.{watch};
 ghost use Rattle.contest_server.specs.Lanes.{starts_of, AreLanes};
-ghost use Rattle.contest_server.specs.Serving.{desk, share, IsOrderly, TakesFirst, TellsFirst, TakesAll, TellsAll, AcceptsNext, MakesRoom, ServesNext, HasCauseNext, end_of, EndsWith, ServesAll, ServesLanes, HasCauseEnd};
+ghost use Rattle.contest_server.specs.Serving.{desk, share, IsOrderly, TakesFirst, TellsFirst, TakesAll, TellsAll, TellsSome, AcceptsNext, MakesRoom, ServesNext, HasCauseNext, end_of, EndsWith, ServesAll, ServesLanes, HasCauseEnd};
 
+use crate::bell::{Bell, PLACES, Places};
 use crate::ends::ServeEnd;
-use crate::lanes::{Served, Worker, begin, end};
+use crate::lanes::{Served, Worker, begin, end, is_settled, settle_at};
 use crate::lines::{TextFault, write_line};
 use farm_board::{Admission, Anyone, Board, Pass};
-use farm_io::{Accepted, Clock, Door, Sink};
+use farm_io::{Accepted, Clock, Door, Peer, Sink, Source};
 use judge_server::{ConnEnd, Paths};
 use std::alloc::Global;
 use std::collections::VecDeque;
@@ -93,6 +94,105 @@ where
     write_line(alloc, out, count - lanes.len() as u64, end)
 }
 
+/// Joins the workers that are done.
+fn settle_done<R: Threads, N: Source + Sink + Peer + Drop, A: Admission, C: Clock>(
+    rt: &R,
+    clock: &C,
+    places: &mut Places,
+    lanes: &mut VecDeque<Worker<N, A, C>>,
+    count: u64,
+    done: [bool; PLACES],
+)
+    requires lanes { AreLanes (watch N.left N.held N.Source.faults N.Sink.faults (around_of (C.shows clock.now) N.Peer.asks)) clock.now lanes.old.items }
+    ensures starts { starts_of lanes.new.items ≡ starts_of lanes.old.items }
+    ensures lanes { AreLanes (watch N.left N.held N.Source.faults N.Sink.faults (around_of (C.shows clock.now) N.Peer.asks)) clock.now lanes.new.items }
+    ensures len { deque_len lanes.new ≡ deque_len lanes.old }
+{
+    for place in 0..PLACES {
+        if done[place]
+            && let Some(before) = places.leave(place)
+        {
+            let told = count.saturating_sub(lanes.len() as u64);
+            let index = before.saturating_sub(told);
+            settle_at(rt, clock, lanes, index as usize);
+        }
+    }
+}
+
+/// Joins the workers that are done. Where `most` are at work, one of them is waited for, and the first one's connection
+/// is asked to close.
+fn free_place<R: Threads + Wait, D: Door, A: Admission, C: Clock>(
+    rt: &R,
+    clock: &C,
+    bell: &Bell,
+    door: &mut D,
+    places: &mut Places,
+    lanes: &mut VecDeque<Worker<D::Conn, A, C>>,
+    most: u16,
+    count: u64,
+)
+where
+    D::Conn: Drop,
+    requires lanes { AreLanes (watch D.Conn.left D.Conn.held D.Conn.Source.faults D.Conn.Sink.faults (around_of (C.shows clock.now) D.Conn.Peer.asks)) clock.now lanes.old.items }
+    ensures kept { D.state door.new ≡ D.state door.old }
+    ensures later { D.faults door.old ≤ D.faults door.new }
+    ensures starts { starts_of lanes.new.items ≡ starts_of lanes.old.items }
+    ensures lanes { AreLanes (watch D.Conn.left D.Conn.held D.Conn.Source.faults D.Conn.Sink.faults (around_of (C.shows clock.now) D.Conn.Peer.asks)) clock.now lanes.new.items }
+    ensures len { deque_len lanes.new ≡ deque_len lanes.old }
+{
+    settle_done(rt, clock, places, lanes, count, bell.heard(rt));
+    if places.count() < usize::from(most) {
+        return;
+    }
+    if let Some(first) = places.first() {
+        door.ask_to_close(first);
+    }
+    settle_done(rt, clock, places, lanes, count, bell.await_any(rt));
+}
+
+/// Whether the connection that came first was served.
+fn is_first_settled<N: Source + Sink + Peer, A: Admission, C: Clock>(
+    lanes: &VecDeque<Worker<N, A, C>>,
+) -> bool {
+    match lanes.front() {
+        Some(lane) => is_settled(lane),
+        None => false,
+    }
+}
+
+/// Takes in the connections that have ended and that no other one came before which is still being served, and writes
+/// their lines, where so many connections came.
+fn tell_ended<R: Threads + Wait, D: Door, K: Sink, A: Admission, C: Clock>(
+    rt: &R,
+    alloc: Global,
+    board: &Board<Anyone, A>,
+    clock: &C,
+    door: &mut D,
+    out: &mut K,
+    pass: &mut Pass<A>,
+    lanes: &mut VecDeque<Worker<D::Conn, A, C>>,
+    count: u64,
+) -> Result<(), TextFault>
+where
+    D::Conn: Drop,
+    requires orderly { IsOrderly (watch D.Conn.left D.Conn.held D.Conn.Source.faults D.Conn.Sink.faults (around_of (C.shows clock.now) D.Conn.Peer.asks)) board.now.id (desk (D.state door.old) pass.old (starts_of lanes.old.items)) }
+    requires lanes { AreLanes (watch D.Conn.left D.Conn.held D.Conn.Source.faults D.Conn.Sink.faults (around_of (C.shows clock.now) D.Conn.Peer.asks)) clock.now lanes.old.items }
+    requires left { deque_len lanes.old ≤ pass.old.left }
+    requires count { deque_len lanes.old ≤ count }
+    ensures tells { TellsSome (watch D.Conn.left D.Conn.held D.Conn.Source.faults D.Conn.Sink.faults (around_of (C.shows clock.now) D.Conn.Peer.asks)) board.now.id (desk (D.state door.old) pass.old (starts_of lanes.old.items)) (desk (D.state door.new) pass.new (starts_of lanes.new.items)) (K.held out.old) (K.held out.new) count result }
+    ensures cause { HasCauseTold (K.faults out.old) (K.faults out.new) result }
+    ensures lanes { AreLanes (watch D.Conn.left D.Conn.held D.Conn.Source.faults D.Conn.Sink.faults (around_of (C.shows clock.now) D.Conn.Peer.asks)) clock.now lanes.new.items }
+    ensures later { D.faults door.old ≤ D.faults door.new }
+{
+    for _ in 0..lanes.len() {
+        if !is_first_settled(lanes) {
+            return Ok(());
+        }
+        tell_next(rt, alloc, board, clock, door, out, pass, lanes, count)?;
+    }
+    Ok(())
+}
+
 /// Takes in all connections that are being served, and writes their lines, where so many connections came.
 fn tell_all<R: Threads + Wait, D: Door, K: Sink, A: Admission, C: Clock>(
     rt: &R,
@@ -158,10 +258,13 @@ fn accept_next<
     paths: &'s Paths,
     board: &'s Board<Anyone, A>,
     clock: &'s C,
+    bell: &'s Bell,
     scope: &Scope<'s, E>,
     door: &mut D,
     pass: &mut Pass<A>,
+    places: &mut Places,
     lanes: &mut VecDeque<Worker<D::Conn, A, C>>,
+    count: u64,
 ) -> Coming
 where
     D::Conn: Drop + 's,
@@ -178,7 +281,11 @@ where
     match door.accept() {
         Accepted::Conn(conn) => {
             let own = board.split(rt, pass, SHARE);
-            lanes.push_back_reserved(begin(rt, alloc, paths, board, clock, scope, own, conn));
+            let place = places.take(count);
+            let lane = begin(
+                rt, alloc, paths, board, clock, bell, scope, place, own, conn,
+            );
+            lanes.push_back_reserved(lane);
             Coming::Conn
         }
         Accepted::End => Coming::End,
@@ -186,7 +293,8 @@ where
     }
 }
 
-/// Takes in the connection that was accepted first, and writes its line, where `most` are being served.
+/// Takes in the connections that have ended, as far as their turn has come, and writes their lines. Where `most` wait for
+/// that, the one that was accepted first is waited for.
 fn make_room<R: Threads + Wait, D: Door, K: Sink, A: Admission, C: Clock>(
     rt: &R,
     alloc: Global,
@@ -205,21 +313,69 @@ where
     requires lanes { AreLanes (watch D.Conn.left D.Conn.held D.Conn.Source.faults D.Conn.Sink.faults (around_of (C.shows clock.now) D.Conn.Peer.asks)) clock.now lanes.old.items }
     requires some { 0 < most }
     requires few { deque_len lanes.old ≤ most }
-    requires left { 0 < pass.old.left }
+    requires left { deque_len lanes.old ≤ pass.old.left }
     requires count { deque_len lanes.old ≤ count }
     ensures makes { MakesRoom (watch D.Conn.left D.Conn.held D.Conn.Source.faults D.Conn.Sink.faults (around_of (C.shows clock.now) D.Conn.Peer.asks)) board.now.id (desk (D.state door.old) pass.old (starts_of lanes.old.items)) (desk (D.state door.new) pass.new (starts_of lanes.new.items)) (K.held out.old) (K.held out.new) count result }
-    ensures room { deque_len lanes.new < most }
+    ensures room { IfOk result (λ _. deque_len lanes.new < most) }
     ensures cause { HasCauseTold (K.faults out.old) (K.faults out.new) result }
     ensures lanes { AreLanes (watch D.Conn.left D.Conn.held D.Conn.Source.faults D.Conn.Sink.faults (around_of (C.shows clock.now) D.Conn.Peer.asks)) clock.now lanes.new.items }
     ensures later { D.faults door.old ≤ D.faults door.new }
 {
+    tell_ended(rt, alloc, board, clock, door, out, pass, lanes, count)?;
     if lanes.len() < usize::from(most) {
         return Ok(());
     }
+    door.ask_to_close(count.saturating_sub(lanes.len() as u64));
     tell_next(rt, alloc, board, clock, door, out, pass, lanes, count)
 }
 
 /// Makes room for a connection, and begins to serve the next one, where so many came.
+fn serve_ready<
+    's,
+    E,
+    R: Threads + Wait + Sync,
+    D: Door,
+    K: Sink,
+    A: Admission + Send + Sync,
+    C: Clock + Sync,
+>(
+    rt: &'s R,
+    alloc: Global,
+    paths: &'s Paths,
+    board: &'s Board<Anyone, A>,
+    clock: &'s C,
+    bell: &'s Bell,
+    scope: &Scope<'s, E>,
+    door: &mut D,
+    out: &mut K,
+    pass: &mut Pass<A>,
+    places: &mut Places,
+    lanes: &mut VecDeque<Worker<D::Conn, A, C>>,
+    most: u16,
+    count: u64,
+) -> Result<Coming, TextFault>
+where
+    D::Conn: Drop + 's,
+    requires orderly { IsOrderly (watch D.Conn.left D.Conn.held D.Conn.Source.faults D.Conn.Sink.faults (around_of (C.shows clock.now) D.Conn.Peer.asks)) board.now.id (desk (D.state door.old) pass.old (starts_of lanes.old.items)) }
+    requires lanes { AreLanes (watch D.Conn.left D.Conn.held D.Conn.Source.faults D.Conn.Sink.faults (around_of (C.shows clock.now) D.Conn.Peer.asks)) clock.now lanes.old.items }
+    requires some { 0 < most }
+    requires seats { pass.old.spare + deque_len lanes.old ≡ most }
+    requires left { share + deque_len lanes.old + 1 < pass.old.left }
+    requires count { deque_len lanes.old ≤ count }
+    ensures serves { ServesNext (watch D.Conn.left D.Conn.held D.Conn.Source.faults D.Conn.Sink.faults (around_of (C.shows clock.now) D.Conn.Peer.asks)) board.now.id (desk (D.state door.old) pass.old (starts_of lanes.old.items)) (desk (D.state door.new) pass.new (starts_of lanes.new.items)) (K.held out.old) (K.held out.new) count result }
+    ensures cause { HasCauseNext (D.faults door.old) (D.faults door.new) (K.faults out.old) (K.faults out.new) result }
+    ensures lanes { AreLanes (watch D.Conn.left D.Conn.held D.Conn.Source.faults D.Conn.Sink.faults (around_of (C.shows clock.now) D.Conn.Peer.asks)) clock.now lanes.new.items }
+{
+    make_room(rt, alloc, board, clock, door, out, pass, lanes, most, count)?;
+    if lanes.try_reserve(1).is_err() {
+        return Err(TextFault::NoMemory);
+    }
+    Ok(accept_next(
+        rt, alloc, paths, board, clock, bell, scope, door, pass, places, lanes, count,
+    ))
+}
+
+/// Waits until a connection can be accepted and a worker is free, and serves it, where so many came.
 fn serve_next<
     's,
     E,
@@ -234,11 +390,14 @@ fn serve_next<
     paths: &'s Paths,
     board: &'s Board<Anyone, A>,
     clock: &'s C,
+    bell: &'s Bell,
     scope: &Scope<'s, E>,
     door: &mut D,
     out: &mut K,
     pass: &mut Pass<A>,
+    places: &mut Places,
     lanes: &mut VecDeque<Worker<D::Conn, A, C>>,
+    workers: u16,
     most: u16,
     count: u64,
 ) -> Result<Coming, TextFault>
@@ -248,17 +407,17 @@ where
     requires lanes { AreLanes (watch D.Conn.left D.Conn.held D.Conn.Source.faults D.Conn.Sink.faults (around_of (C.shows clock.now) D.Conn.Peer.asks)) clock.now lanes.old.items }
     requires some { 0 < most }
     requires seats { pass.old.spare + deque_len lanes.old ≡ most }
-    requires left { share + 1 < pass.old.left }
+    requires left { share + deque_len lanes.old + 1 < pass.old.left }
     requires count { deque_len lanes.old ≤ count }
     ensures serves { ServesNext (watch D.Conn.left D.Conn.held D.Conn.Source.faults D.Conn.Sink.faults (around_of (C.shows clock.now) D.Conn.Peer.asks)) board.now.id (desk (D.state door.old) pass.old (starts_of lanes.old.items)) (desk (D.state door.new) pass.new (starts_of lanes.new.items)) (K.held out.old) (K.held out.new) count result }
     ensures cause { HasCauseNext (D.faults door.old) (D.faults door.new) (K.faults out.old) (K.faults out.new) result }
     ensures lanes { AreLanes (watch D.Conn.left D.Conn.held D.Conn.Source.faults D.Conn.Sink.faults (around_of (C.shows clock.now) D.Conn.Peer.asks)) clock.now lanes.new.items }
 {
-    make_room(rt, alloc, board, clock, door, out, pass, lanes, most, count)?;
-    if lanes.try_reserve(1).is_err() {
-        return Err(TextFault::NoMemory);
-    }
-    Ok(accept_next(rt, alloc, paths, board, clock, scope, door, pass, lanes))
+    door.await_next();
+    free_place(rt, clock, bell, door, places, lanes, workers, count);
+    serve_ready(
+        rt, alloc, paths, board, clock, bell, scope, door, out, pass, places, lanes, most, count,
+    )
 }
 
 /// Takes in the connections that are being served, and writes their lines; then the serving ends so, unless a line was
@@ -317,11 +476,13 @@ fn serve_all<
     paths: &'s Paths,
     board: &'s Board<Anyone, A>,
     clock: &'s C,
+    bell: &'s Bell,
     scope: &Scope<'s, E>,
     door: &mut D,
     out: &mut K,
     pass: &mut Pass<A>,
     lanes: &mut VecDeque<Worker<D::Conn, A, C>>,
+    workers: u16,
     most: u16,
     connections: u32,
 ) -> ServeEnd
@@ -337,9 +498,24 @@ where
     ensures cause { HasCauseEnd (D.faults door.old) (D.faults door.new) (K.faults out.old) (K.faults out.new) result }
     ensures lanes { AreLanes (watch D.Conn.left D.Conn.held D.Conn.Source.faults D.Conn.Sink.faults (around_of (C.shows clock.now) D.Conn.Peer.asks)) clock.now lanes.new.items }
 {
+    let mut places = Places::new();
     for i in 0..connections {
         match serve_next(
-            rt, alloc, paths, board, clock, scope, door, out, pass, lanes, most, i as u64,
+            rt,
+            alloc,
+            paths,
+            board,
+            clock,
+            bell,
+            scope,
+            door,
+            out,
+            pass,
+            &mut places,
+            lanes,
+            workers,
+            most,
+            i as u64,
         ) {
             Ok(Coming::Conn) => {}
             Ok(Coming::End) => {
@@ -402,10 +578,12 @@ pub(crate) fn serve_lanes<
     paths: &'s Paths,
     board: &'s Board<Anyone, A>,
     clock: &'s C,
+    bell: &'s Bell,
     scope: &Scope<'s, E>,
     door: &mut D,
     out: &mut K,
     pass: &mut Pass<A>,
+    workers: u16,
     most: u16,
     connections: u32,
 ) -> ServeEnd
@@ -425,11 +603,13 @@ where
         paths,
         board,
         clock,
+        bell,
         scope,
         door,
         out,
         pass,
         &mut lanes,
+        workers,
         most,
         connections,
     );

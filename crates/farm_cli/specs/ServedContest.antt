@@ -9,7 +9,7 @@ use Rattle.farm_board.specs.Histories.{opening_board}
 use Rattle.contest_folder.specs.RosterValue.{RosterValue}
 use Rattle.contest_server.specs.declared.ends.ServeEnd.{ServeEnd}
 use Rattle.contest_server.specs.declared.ends.ServeEnd.TheVariants as end
-use Rattle.contest_server.specs.Contest.{entering_events}
+use Rattle.contest_server.specs.Contest.{entering_events, seats}
 use Rattle.contest_server.specs.Visits.{Watch}
 use Rattle.contest_server.specs.Served.{Serves}
 use Rattle.farm_cli.specs.declared.exit.Exit.{Exit}
@@ -29,7 +29,7 @@ pub record IsServed {N : Type 0} (files : Option (List TreeFile)) (folder : List
     (lanes connections : ℕ) (door : DoorUse N) (held held' : Option (List ℕ)) (e : ServeEnd) : Type 0 where
   pub roster : RosterValue
   pub read : ContestIs files folder (Ok roster)
-  pub serves : Serves door.watch (opening_board (start roster.settings) (lanes + 1) false) (entering_events roster)
+  pub serves : Serves door.watch (opening_board (start roster.settings) (seats lanes) false) (entering_events roster)
       (listening_at door.old at) door.new held held' connections e
 
 -- at this port of the machine itself, with the patience of a minute

@@ -5,24 +5,32 @@ use denote.RattleType.{RattleType}
 use denote.Param.{param}
 use denote.Param.Send.{IsSend, IsSync, sendable, param_send, arg_send, recorded_send, struct_send, shr_send}
 use denote.Struct.Declared as declared
+use denote.Struct.Field.{usize-field}
 use denote.Struct.Tuple.{TupleAt, type_at}
 use Rattle.std.proofs.Crossing.{crosses}
 use Rattle.std.specs.contracts.alloc.Global as heap
 use Rattle.farm_board.specs.contracts.trust.Anyone as anyone
 use Rattle.farm_board.proofs.Sending.{pass_sends, board_sync}
+use Rattle.contest_server.specs.contracts.bell.Bell as bell
 use Rattle.contest_server.specs.contracts.lanes.Served as served
 use Rattle.contest_server.proofs.Sending.{paths_sync}
 use Rattle.contest_server.proofs.lanes.begin.Goals as goal
 
 -- what a worker holds goes to a thread with it
-seven_send : (name : List ℕ) (P Q R S T U V : RattleType) → IsSend P → IsSend Q → IsSend R → IsSend S → IsSend T → IsSend U → IsSend V
-    → IsSend (TupleAt name (P ∷ Q ∷ R ∷ S ∷ T ∷ U ∷ V ∷ []))
-seven_send name P Q R S T U V p q r s t u v =
-    recorded_send _ _ _ (type_at name (P ∷ Q ∷ R ∷ S ∷ T ∷ U ∷ V ∷ [])).to_one
-    (struct_send (declared.shape (type_at name (P ∷ Q ∷ R ∷ S ∷ T ∷ U ∷ V ∷ []))) (p, (q, (r, (s, (t, (u, (v, tt))))))))
+nine_send : (name : List ℕ) (P Q R S T U V X Y : RattleType) → IsSend P → IsSend Q → IsSend R → IsSend S → IsSend T → IsSend U → IsSend V → IsSend X → IsSend Y
+    → IsSend (TupleAt name (P ∷ Q ∷ R ∷ S ∷ T ∷ U ∷ V ∷ X ∷ Y ∷ []))
+nine_send name P Q R S T U V X Y p q r s t u v x y =
+    recorded_send _ _ _ (type_at name (P ∷ Q ∷ R ∷ S ∷ T ∷ U ∷ V ∷ X ∷ Y ∷ [])).to_one
+    (struct_send (declared.shape (type_at name (P ∷ Q ∷ R ∷ S ∷ T ∷ U ∷ V ∷ X ∷ Y ∷ []))) (p, (q, (r, (s, (t, (u, (v, (x, (y, tt))))))))))
 
 heap_send : IsSend heap.the_row
 heap_send = search (sendable, crosses) depth 60 fits 100000
+
+bell_sync : IsSync bell.the_row
+bell_sync = search (sendable, crosses) depth 60 fits 100000
+
+place_send : IsSend (usize-field).row
+place_send = search sendable
 
 anyone_sync : IsSync anyone.the_row
 anyone_sync = search sendable
@@ -32,9 +40,9 @@ served_send N P n p = search (sendable, crosses) depth 60 fits 100000
 
 pub spawn_with-started-requires-send-F : goal.spawn_with-started-requires-send-F
 spawn_with-started-requires-send-F g c κs within =
-    param_send _ _ (arg_send _ no _ (seven_send _ _ _ _ _ _ _ _ (shr_send _ _ _ c.type_bounds.sync-W) heap_send (shr_send _ _ _ paths_sync)
+    param_send _ _ (arg_send _ no _ (nine_send _ _ _ _ _ _ _ _ _ _ (shr_send _ _ _ c.type_bounds.sync-W) heap_send (shr_send _ _ _ paths_sync)
     (shr_send _ _ _ (board_sync _ (param 2 g.row.A) _ g.A.Admission anyone_sync c.type_bounds.sync-A c.type_bounds.send-A))
-    (shr_send _ _ _ c.type_bounds.sync-C) (pass_sends (param 2 g.row.A) g.A.Admission c.type_bounds.send-A) c.type_bounds.send-N))
+    (shr_send _ _ _ c.type_bounds.sync-C) (shr_send _ _ _ bell_sync) place_send (pass_sends (param 2 g.row.A) g.A.Admission c.type_bounds.send-A) c.type_bounds.send-N))
 
 pub spawn_with-started-requires-send-T : goal.spawn_with-started-requires-send-T
 spawn_with-started-requires-send-T g c κs within =

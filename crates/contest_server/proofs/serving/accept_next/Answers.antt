@@ -17,7 +17,7 @@ returns-in-Conn-clause-accepts g c =
     let lanes = c.args.lanes.now.items in
     let s : Start g.row.D-Conn.Denot = record { came = c.in-Conn.conn; begun = c.split-own.result } in
     let more : starts_of c.push_back_reserved.new.self.items ≡ starts_of lanes ++ s ∷ [] =
-    ap starts_of c.push_back_reserved.ensures.items ∙ map-append start_of lanes (c.begin.result ∷ []) ∙ ap (λ x. starts_of lanes ++ x ∷ []) c.begin.ensures.start in
+    ap starts_of c.push_back_reserved.ensures.items ∙ map-append start_of lanes (c.begin-lane.result ∷ []) ∙ ap (λ x. starts_of lanes ++ x ∷ []) c.begin-lane.ensures.start in
     subst (λ starts. AcceptsNext w board (desk (g.D.Door.state c.args.door.now) c.args.pass.now (starts_of lanes)) (desk (g.D.Door.state c.accept.new.self) c.split-own.new.pass starts) coming.Conn) (sym more)
     (accepts w board (g.D.Door.state c.args.door.now) (g.D.Door.state c.accept.new.self) c.args.pass.now c.split-own.new.pass (starts_of lanes) s c.requires.orderly c.in-Conn.ensures.fresh c.in-Conn.ensures.accepts c.split-own.ensures.split)
 
@@ -25,4 +25,4 @@ pub returns-in-Conn-clause-lanes : goal.returns-in-Conn-clause-lanes
 returns-in-Conn-clause-lanes g c =
     let w = watch g.D.Conn.Source.left g.D.Conn.Sink.held g.D.Conn.Source.faults g.D.Conn.Sink.faults (around_of (g.C.Clock.shows c.args.clock.now) g.D.Conn.Peer.asks) in
     subst (λ lanes. All (IsLane w c.args.clock.now) lanes) (sym c.push_back_reserved.ensures.items)
-    (all_more (IsLane w c.args.clock.now) c.args.lanes.now.items c.begin.result c.requires.lanes c.begin.ensures.lane)
+    (all_more (IsLane w c.args.clock.now) c.args.lanes.now.items c.begin-lane.result c.requires.lanes c.begin-lane.ensures.lane)

@@ -70,3 +70,58 @@ returns-clause-serves g c =
     let over = c.loop-i-test.false in
     let b = before_all w c.args.board.now.id _ _ _ _ c.loop-i.i c.args.connections (omega (arith, within, over)) c.loop-i.invariant.under_way in
     ends w c.args.board.now.id _ _ _ _ _ _ _ _ c.args.connections c.args.connections end.Done c.end_with-2.result b c.end_with-2.ensures.ends
+
+pub serve_next-requires-clause-left : goal.serve_next-requires-clause-left
+serve_next-requires-clause-left g c =
+    let left = c.loop-i.invariant.under_way.left in
+    let enough = c.requires.left in
+    let none = c.requires.none in
+    let first = length-map c.args.lanes.now.items start_of in
+    let first_ok = c.args.lanes.now.ok.0 in
+    let now = length-map c.loop-i.lanes.items start_of in
+    let now_ok = c.loop-i.lanes.ok.0 in
+    let within = c.loop-i-test.true in
+    omega (arith, left, enough, none, first, first_ok, now, now_ok, within)
+
+pub end_with-requires-clause-left : goal.end_with-requires-clause-left
+end_with-requires-clause-left g c =
+    let left = c.loop-i.invariant.under_way.left in
+    let enough = c.requires.left in
+    let none = c.requires.none in
+    let first = length-map c.args.lanes.now.items start_of in
+    let first_ok = c.args.lanes.now.ok.0 in
+    let now = length-map c.loop-i.lanes.items start_of in
+    let now_ok = c.loop-i.lanes.ok.0 in
+    let within = c.loop-i-test.true in
+    let next = c.in-Ok-End.ensures.serves.left in
+    let last = length-map c.serve_next.new.lanes.items start_of in
+    let last_ok = c.serve_next.new.lanes.ok.0 in
+    omega (arith, left, enough, none, first, first_ok, now, now_ok, within, next, last, last_ok)
+
+pub end_with-requires-in-Ok-Failed-clause-left : goal.end_with-requires-in-Ok-Failed-clause-left
+end_with-requires-in-Ok-Failed-clause-left g c =
+    let left = c.loop-i.invariant.under_way.left in
+    let enough = c.requires.left in
+    let none = c.requires.none in
+    let first = length-map c.args.lanes.now.items start_of in
+    let first_ok = c.args.lanes.now.ok.0 in
+    let now = length-map c.loop-i.lanes.items start_of in
+    let now_ok = c.loop-i.lanes.ok.0 in
+    let within = c.loop-i-test.true in
+    let next = c.in-Ok-Failed.ensures.serves.left in
+    let last = length-map c.serve_next.new.lanes.items start_of in
+    let last_ok = c.serve_next.new.lanes.ok.0 in
+    omega (arith, left, enough, none, first, first_ok, now, now_ok, within, next, last, last_ok)
+
+pub end_with-requires-2-clause-left : goal.end_with-requires-2-clause-left
+end_with-requires-2-clause-left g c =
+    let left = c.loop-i.invariant.under_way.left in
+    let enough = c.requires.left in
+    let none = c.requires.none in
+    let first = length-map c.args.lanes.now.items start_of in
+    let first_ok = c.args.lanes.now.ok.0 in
+    let now = length-map c.loop-i.lanes.items start_of in
+    let now_ok = c.loop-i.lanes.ok.0 in
+    let over = c.loop-i-test.false in
+    let within = c.loop-i.auto.i-end in
+    omega (arith, left, enough, none, first, first_ok, now, now_ok, over, within)

@@ -1,19 +1,36 @@
-use Rattle.std.proofs.Common.{Err, sym, ap, subst}
-use Rattle.contest_server.specs.declared.lines.TextFault.TheVariants as fault
+use Rattle.std.proofs.Common.{List, sym, ◌∙◌, subst, arith}
+use Rattle.farm_io.specs.Doors.{DoorState}
 use Rattle.judge_server.specs.Exchanges.{around_of}
-use Rattle.contest_server.specs.Visits.{watch}
+use Rattle.contest_server.specs.Visits.{watch, Start}
 use Rattle.contest_server.specs.Lanes.{starts_of}
-use Rattle.contest_server.specs.Serving.{desk, ServesNext}
-use Rattle.contest_server.proofs.Ending.{no_memory_next}
+use Rattle.contest_server.specs.Serving.{desk, IsOrderly, ServesNext}
+use Rattle.contest_server.proofs.Telling.{rose_since}
 use Rattle.contest_server.proofs.serving.serve_next.Goals as goal
 
-pub returns-then-is_err-clause-serves : goal.returns-then-is_err-clause-serves
-returns-then-is_err-clause-serves g c =
+pub serve_ready-requires-clause-orderly : goal.serve_ready-requires-clause-orderly
+serve_ready-requires-clause-orderly g c κs within =
     let w = watch g.D.Conn.Source.left g.D.Conn.Sink.held g.D.Conn.Source.faults g.D.Conn.Sink.faults (around_of (g.C.Clock.shows c.args.clock.now) g.D.Conn.Peer.asks) in
-    let board = c.args.board.now.id in
-    let old = desk (g.D.Door.state c.args.door.now) c.args.pass.now (starts_of c.args.lanes.now.items) in
-    let door = g.D.Door.state c.make_room.new.door in
-    let held = g.K.Sink.held c.args.out.now in
-    let held' = g.K.Sink.held c.make_room.new.out in
-    subst (λ starts. ServesNext w board old (desk door c.make_room.new.pass starts) held held' c.args.count (Err fault.NoMemory)) (sym (ap starts_of c.try_reserve.ensures.items))
-    (no_memory_next w board old (desk door c.make_room.new.pass (starts_of c.make_room.new.lanes.items)) held held' c.args.count _ c.in_ok-make_room.ensures.makes)
+    let door = c.free_place.ensures.kept ∙ c.await_next.ensures.kept in
+    subst (λ (z : DoorState g.row.D-Conn.Denot × List (Start g.row.D-Conn.Denot)). IsOrderly w c.args.board.now.id (desk z.0 c.args.pass.now z.1))
+    (λ i. (sym door i, sym c.free_place.ensures.starts i)) c.requires.orderly
+
+pub returns-clause-serves : goal.returns-clause-serves
+returns-clause-serves g c =
+    let w = watch g.D.Conn.Source.left g.D.Conn.Sink.held g.D.Conn.Source.faults g.D.Conn.Sink.faults (around_of (g.C.Clock.shows c.args.clock.now) g.D.Conn.Peer.asks) in
+    let door = c.free_place.ensures.kept ∙ c.await_next.ensures.kept in
+    subst (λ (z : DoorState g.row.D-Conn.Denot × List (Start g.row.D-Conn.Denot)). ServesNext w c.args.board.now.id (desk z.0 c.args.pass.now z.1)
+    (desk (g.D.Door.state c.serve_ready.new.door) c.serve_ready.new.pass (starts_of c.serve_ready.new.lanes.items)) (g.K.Sink.held c.args.out.now) (g.K.Sink.held c.serve_ready.new.out) c.args.count c.serve_ready.result)
+    (λ i. (door i, c.free_place.ensures.starts i)) c.serve_ready.ensures.serves
+
+pub returns-clause-cause : goal.returns-clause-cause
+returns-clause-cause g c =
+    let cause = c.serve_ready.ensures.cause in
+    let before = c.await_next.ensures.later in
+    let between = c.free_place.ensures.later in
+    let behind = cause.door_later in
+    record {
+      door_later = omega (arith, before, between, behind);
+      out_later = cause.out_later;
+      door_failed = λ is. rose_since _ _ _ (omega (arith, before, between)) (cause.door_failed is);
+      out_failed = cause.out_failed;
+    }
