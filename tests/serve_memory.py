@@ -6,7 +6,8 @@
 PROGRAM is the built program, `crates/farm/out/farm` of this repository if none is given. A host comes up, asks for a task and
 gives its result, over one connection, with the n-th allocation refused in the n-th run, until a run asks for fewer. Wanted
 is, each time, one of these: all goes as without; the connection ends with `memory` behind a front of the responses, and the
-board is written; or the program ends with status 6 and a front of what it would have written.
+board is written; the program ends with status 6 and a front of what it would have written; or it ends with status 8, since
+there is no memory for the connection.
 """
 
 import os
@@ -48,6 +49,8 @@ def named_end(run, whole):
         return "the connection ends"
     if status == 6 and (whole[1].startswith(written) or "memory" in written):
         return "the program ends"
+    if (status, written, got) == (8, "", b""):
+        return "no connection"
     return None
 
 
