@@ -5,7 +5,7 @@
 
 PROGRAM is the built program, `crates/farm/out/farm` of this repository if none is given. One line is printed for each
 look, and the status is 1 where one shows something else than is wanted. Every end but the first says one line on
-standard error, which names the contest's folder where it lies in it, and a faulty command line the usage.
+standard error, which names the contest's folder where it lies in it, and a faulty command line which word is wrong.
 """
 
 import os
@@ -191,7 +191,7 @@ USAGES = [
     ["judge", "c", "--hosts", ""], ["judge", "c", "--hosts", "0", "--hosts", "0"], ["judge", "c", "--hosts=0", "--hosts", "0"],
     ["judge", "c", "d", "--hosts", "0"], ["judge", "", "--hosts", "0"], ["judge", "-", "--hosts", "0"], ["judge", "--", "c", "--hosts", "0"],
     ["judge", "c", "--hosts", "0", "--config", "x"], ["judge", "c", "--hosts", "0", "-x"], ["judge", "c", "--hosts", "4294967296"],
-    ["judge", "--help"], ["judge", "c", "--host", "0"], ["judges", "c", "--hosts", "0"], ["script", "c", "--hosts", "0"],
+    ["judge", "c", "--host", "0"], ["judges", "c", "--hosts", "0"], ["script", "c", "--hosts", "0"],
 ]
 
 
@@ -266,8 +266,8 @@ class Looks:
             yield f"0: {[word.replace(folder, 'c') for word in words]}", fault_of(ended(self.program, ["judge", *words]), 0, TABLE)
         yield "0: a path from here", fault_of(ended(self.program, ["judge", ".", "--hosts", "0"], cwd=folder), 0, TABLE)
         for words in USAGES:
-            yield f"2: {words}", fault_of(ended(self.program, words, cwd=self.top), 2, b"", b"usage")
-        yield "2: a name that is no UTF-8", fault_of(ended(self.program, ["judge", b"\xff", "--hosts", "0"]), 2, b"", b"usage")
+            yield f"2: {words}", fault_of(ended(self.program, words, cwd=self.top), 2, b"", b"Usage: farm")
+        yield "2: a name that is no UTF-8", fault_of(ended(self.program, ["judge", b"\xff", "--hosts", "0"]), 2, b"", b"Usage: farm")
 
     def streams(self):
         folder = self.contest({})

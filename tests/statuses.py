@@ -5,7 +5,7 @@
 
 PROGRAM is the built program, `crates/farm/out/farm` of this repository if none is given. One line is printed for each
 look, and the status is 1 where one shows something else than is wanted. Every end but the first says one line on
-standard error, and a faulty command line the usage.
+standard error, and a faulty command line which word is wrong, and the usage.
 """
 
 import os
@@ -52,11 +52,13 @@ def looks(program, folder):
         file.truncate((1 << 24) + 1)
     script = ["script"]
 
+    for words in [["--help"], ["help", "judge"], ["serve", "-h"], ["--version"]]:
+        yield f"0: {words}", fault_of(ended(program, words), 0, None, [])
     yield "0: done", fault_of(ended(program, script, text=LINES), 0, REPLIES, [])
     yield "0: with settings", fault_of(ended(program, script + ["--config", path("good.json")], text=LINES), 0, REPLIES, [])
     serve = ["serve", "c", "--port", "0", "--lanes", "17", "--connections", "1"]
-    for words in [[], ["scripts"], ["script", "more"], ["script", "--config"], ["script", "--config", ""], ["--help"], serve]:
-        yield f"2: words {words}", fault_of(ended(program, words), 2, b"", [b"usage"])
+    for words in [[], ["scripts"], ["script", "more"], ["script", "--config"], ["script", "--config", ""], serve]:
+        yield f"2: words {words}", fault_of(ended(program, words), 2, b"", [b"error: ", b"\nUsage: farm"])
     yield "3: no file", fault_of(
         ended(program, script + ["--config", path("none")], text=LINES), 3, b"bad contest: no config\n", [path("none").encode()])
     yield "3: a folder", fault_of(
@@ -71,6 +73,7 @@ def looks(program, folder):
     yield "4: input that cannot be read", fault_of(ended(program, script, stdin=place), 4, b"", [b"standard input"])
     os.close(place)
     with open("/dev/full", "wb") as full:
+        yield "5: help on a full device", fault_of(ended(program, ["--help"], stdout=full), 5, None, [b"standard output"])
         yield "5: a full device", fault_of(ended(program, script, stdout=full, text=LINES), 5, None, [b"standard output"])
     reader, writer = os.pipe()
     os.close(reader)

@@ -17,6 +17,11 @@ sys.dont_write_bytecode = True
 
 from place import TOP  # noqa: E402
 
+FARM = "Usage: farm <COMMAND>"
+JUDGE = "Usage: farm judge [OPTIONS] --hosts <N> <FOLDER>"
+SCRIPT = "Usage: farm script [OPTIONS]"
+MAKE = "Usage: farm make <NUMBER> <PROBLEMS> <SUBMISSIONS>"
+SERVE = "Usage: farm serve --port <P> --lanes <N> --connections <M> <FOLDER>"
 RVRUN = "Usage: rvrun [OPTIONS] <IMAGE>"
 VALIDATE = "Usage: validate <INPUT> <ANSWER> <FEEDBACK_FOLDER> [FLAGS]..."
 PACKAGE_INFO = "Usage: package_info <FOLDER>"
@@ -24,6 +29,18 @@ MORE = "For more information, try '--help'."
 
 # A program, its words, and lines that must stand on standard output.
 HELP = [
+    ("farm", ["--help"], [FARM, "Commands:", "Options:"]),
+    ("farm", ["-h"], [FARM, "Commands:"]),
+    ("farm", ["help"], [FARM, "Commands:"]),
+    ("farm", ["help", "judge"], [JUDGE, "Arguments:", "Options:"]),
+    ("farm", ["judge", "--help"], [JUDGE, "Arguments:", "Options:"]),
+    ("farm", ["judge", "-h"], [JUDGE]),
+    ("farm", ["judge", "c", "--hosts", "99", "--help"], [JUDGE]),
+    ("farm", ["script", "--help"], [SCRIPT, "Lines:", "  audit                          the audit log's length and last digest"]),
+    ("farm", ["make", "--help"], [MAKE]),
+    ("farm", ["help", "serve"], [SERVE]),
+    ("farm", ["--version"], ["farm 0.1.0"]),
+    ("farm", ["-V"], ["farm 0.1.0"]),
     ("rvrun", ["--help"], [RVRUN, "Arguments:", "Options:"]),
     ("rvrun", ["-h"], [RVRUN]),
     ("rvrun", ["image", "--help"], [RVRUN]),
@@ -40,19 +57,42 @@ HELP = [
 ]
 
 
-def number(option, value, most):
+def number(option, value, least, most):
     """The line on a number that is not in its range."""
-    return f"error: invalid value '{value}' for '{option}': wanted is a number from 0 to {most}, without a sign or a leading zero"
+    return f"error: invalid value '{value}' for '{option}': wanted is a number from {least} to {most}, without a sign or a leading zero"
 
 
 # A program, its words, and lines that must stand on standard error.
 WRONG = [
+    ("farm", [], ["error: 'farm' requires a subcommand but one was not provided", FARM, MORE]),
+    ("farm", ["scripts"], ["error: unrecognized subcommand 'scripts'", "  tip: a similar subcommand exists: 'script'", FARM, MORE]),
+    ("farm", ["judge"], ["error: the following required arguments were not provided:", "  --hosts <N>", "  <FOLDER>", MORE]),
+    ("farm", ["judge", "c"], ["error: the following required arguments were not provided:", "  --hosts <N>"]),
+    ("farm", ["judge", "c", "--host", "1"], ["error: unexpected argument '--host' found", "  tip: a similar argument exists: '--hosts'"]),
+    ("farm", ["judge", "c", "--hosts", "17"], [number("--hosts <N>", "17", 0, 16), JUDGE, MORE]),
+    ("farm", ["judge", "c", "--hosts=01"], [number("--hosts <N>", "01", 0, 16), JUDGE]),
+    ("farm", ["judge", "c", "--hosts", "x"], [number("--hosts <N>", "x", 0, 16), JUDGE]),
+    ("farm", ["judge", "c", "--hosts"], ["error: a value is required for '--hosts <N>' but none was supplied", JUDGE]),
+    ("farm", ["judge", "c", "d", "--hosts", "1"], ["error: unexpected argument 'd' found", JUDGE]),
+    ("farm", ["judge", "c", "--hosts", "1", "--hosts", "1"], ["error: the argument '--hosts <N>' cannot be used multiple times", JUDGE]),
+    ("farm", ["judge", "", "--hosts", "1"], ["error: an empty word found, and none is taken", JUDGE]),
+    ("farm", ["judge", "-", "--hosts", "1"], ["error: unexpected argument '-' found", JUDGE]),
+    ("farm", ["script", "--config="], ["error: invalid value '' in '--config=': a value is not empty and does not begin with '-'", SCRIPT]),
+    ("farm", ["script", "--"], ["error: unexpected argument '--' found", SCRIPT]),
+    ("farm", ["make", "1", "51", "3"], [number("<PROBLEMS>", "51", 1, 50), MAKE]),
+    ("farm", ["make", "1", "50", "2001"], [number("<SUBMISSIONS>", "2001", 1, 2000), MAKE]),
+    ("farm", ["make", "4294967296", "5", "2"], [number("<NUMBER>", "4294967296", 0, 4294967295), MAKE]),
+    ("farm", ["serve", "c", "--port", "65536", "--lanes", "1", "--connections", "1"], [number("--port <P>", "65536", 0, 65535), SERVE]),
+    ("farm", ["serve", "c", "--port", "0", "--lanes", "0", "--connections", "1"], [number("--lanes <N>", "0", 1, 16), SERVE]),
+    ("farm", ["serve", "c", "--port", "0", "--lanes", "1", "--connections", "100001"], [number("--connections <M>", "100001", 1, 100000), SERVE]),
+    ("farm", ["judge", b"\xff", "--hosts", "1"], ["error: a word of the command line is no UTF-8", FARM, MORE]),
+    ("farm", ["help", "juge"], ["error: unrecognized subcommand 'juge'"]),
     ("rvrun", [], ["error: the following required arguments were not provided:", "  <IMAGE>", "Usage: rvrun <IMAGE>", MORE]),
-    ("rvrun", ["image", "--pages", "x"], [number("--pages <N>", "x", 4294967295), RVRUN, MORE]),
-    ("rvrun", ["image", "--pages=01"], [number("--pages <N>", "01", 4294967295), RVRUN, MORE]),
-    ("rvrun", ["image", "--output=4294967296"], [number("--output <N>", "4294967296", 4294967295), RVRUN, MORE]),
+    ("rvrun", ["image", "--pages", "x"], [number("--pages <N>", "x", 0, 4294967295), RVRUN, MORE]),
+    ("rvrun", ["image", "--pages=01"], [number("--pages <N>", "01", 0, 4294967295), RVRUN, MORE]),
+    ("rvrun", ["image", "--output=4294967296"], [number("--output <N>", "4294967296", 0, 4294967295), RVRUN, MORE]),
     ("rvrun", ["image", "--instructions", "18446744073709551616"],
-     [number("--instructions <N>", "18446744073709551616", 18446744073709551615), RVRUN, MORE]),
+     [number("--instructions <N>", "18446744073709551616", 0, 18446744073709551615), RVRUN, MORE]),
     ("rvrun", ["image", "--pages"], ["error: a value is required for '--pages <N>' but none was supplied", RVRUN, MORE]),
     ("rvrun", ["image", "--pages="], ["error: invalid value '' in '--pages=': a value is not empty and does not begin with '-'", RVRUN, MORE]),
     ("rvrun", ["image", "--pages", "1", "--pages", "1"], ["error: the argument '--pages <N>' cannot be used multiple times", RVRUN, MORE]),
