@@ -46,7 +46,7 @@ pub(crate) fn described(id: &str) -> Description<'static> {
         "port" => number(
             "P",
             (0, 65535),
-            "The port of this machine, 0 to 65535; 0 is any port that is free",
+            "The port of 127.0.0.1, 0 to 65535; 0 is any port that is free",
         ),
         "lanes" => number(
             "N",
@@ -118,8 +118,8 @@ write. They are the same in every run.";
 const SERVE: &str = "\
 Standard error says at which port it listens. Standard output gets a line
 'conn I requests R END' for each connection when it ended, and then the board. A
-connection that says nothing holds its place for good: put a proxy that has
-time-outs before it.";
+connection from which nothing comes for a minute is ended. It asks for no
+passwords: put a proxy before it that does.";
 
 const SCRIPT: &str = "\
 Lines:
