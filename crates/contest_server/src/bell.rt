@@ -11,6 +11,7 @@ pub(crate) struct Bell {
 }
 
 impl Bell {
+    /// A bell that nobody has rung.
     pub fn new() -> Bell {
         Bell {
             rung: Mutex::new([false; PLACES]),
@@ -55,6 +56,7 @@ pub(crate) struct Places {
 }
 
 impl Places {
+    /// Places that are all free.
     pub fn new() -> Places {
         Places {
             served: [None; PLACES],

@@ -31,6 +31,7 @@ pub(crate) struct Talk {
 }
 
 impl Talk {
+    /// A stream that nobody has asked to close, and that has not ended.
     pub fn new(stream: TcpStream) -> Talk {
         Talk {
             stream,
@@ -40,14 +41,17 @@ impl Talk {
         }
     }
 
+    /// The stream, which its connection writes to.
     pub fn stream(&self) -> &TcpStream {
         &self.stream
     }
 
+    /// Whether the door has asked the connection to close.
     pub fn is_asked(&self) -> bool {
         self.asked.load(Ordering::SeqCst)
     }
 
+    /// Whether the stream has ended, so that the door need not ask it any more.
     pub fn has_ended(&self) -> bool {
         self.ended.load(Ordering::SeqCst)
     }
