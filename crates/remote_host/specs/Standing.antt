@@ -96,8 +96,10 @@ pub record Breaks (who : Caller) (start now : Line) (claims : ℕ) (w : Option W
   pub wronged : IfWronged who w claims answers now
 
 -- a request was asked from where the talk stood, and its response taken
-abbrev pub Asked : Caller → Line → Line → ℕ → ℕ → ℕ → (ℕ → Answer → List Answer → Talk) → Option Wrong → List ℕ → Result (Unit {0}) BenchFault → Type 0
-Asked who start now claims fetched posted f w body (Ok u) = (r : Answer) × (r.body ≡ body) × Stands who start now claims fetched posted (λ n more. f n r more)
+abbrev pub Asked : Caller → Line → Line → ℕ → ℕ → ℕ → (ℕ → Answer → List Answer → Talk) → Option Wrong → List ℕ
+    → Result (Unit {0}) BenchFault → Type 0
+Asked who start now claims fetched posted f w body (Ok u) =
+    (r : Answer) × (r.body ≡ body) × Stands who start now claims fetched posted (λ n more. f n r more)
 Asked who start now claims fetched posted f w body (Err e) = Breaks who start now claims w
 
 abbrev pub EnteredAt : Caller → Line → Line → ℕ → ℕ → ℕ → Option Wrong → Result (Unit {0}) BenchFault → Type 0
@@ -105,15 +107,18 @@ EnteredAt who start now claims fetched posted w (Ok u) = Stands who start now cl
 EnteredAt who start now claims fetched posted w (Err e) = Breaks who start now claims w
 
 abbrev pub FetchedAt : Caller → Line → Line → ℕ → ℕ → ℕ → Option Wrong → Result Fetched BenchFault → Type 0
-FetchedAt who start now claims fetched posted w (Ok said) = Stands who start now claims fetched posted (λ n more. fetch_next who (turns who n) more (Some said))
+FetchedAt who start now claims fetched posted w (Ok said) =
+    Stands who start now claims fetched posted (λ n more. fetch_next who (turns who n) more (Some said))
 FetchedAt who start now claims fetched posted w (Err e) = Breaks who start now claims w
 
 abbrev pub JobAt : Caller → Line → Line → ℕ → ℕ → ℕ → Option Wrong → Task → Result JobValue BenchFault → Type 0
-JobAt who start now claims fetched posted w task (Ok j) = Stands who start now claims fetched posted (λ n more. job_next (turns who n) task more (Ok j.case))
+JobAt who start now claims fetched posted w task (Ok j) =
+    Stands who start now claims fetched posted (λ n more. job_next (turns who n) task more (Ok j.case))
 JobAt who start now claims fetched posted w task (Err e) = Breaks who start now claims w
 
 abbrev pub PostedAt : Caller → Line → Line → ℕ → ℕ → ℕ → Option Wrong → Result (Option Reply) BenchFault → Type 0
-PostedAt who start now claims fetched posted w (Ok said) = Stands who start now claims fetched posted (λ n more. post_next (turns who n) more (Some said))
+PostedAt who start now claims fetched posted w (Ok said) =
+    Stands who start now claims fetched posted (λ n more. post_next (turns who n) more (Some said))
 PostedAt who start now claims fetched posted w (Err e) = Breaks who start now claims w
 
 -- how the talk stands where the host was refused so
@@ -125,14 +130,17 @@ RefusedAt who start now claims fetched posted w (fault.NoCase task) = ⊥
 RefusedAt who start now claims fetched posted w fault.NoMemory = Breaks who start now claims w
 
 abbrev pub TurnedAt : Caller → Line → Line → ℕ → ℕ → ℕ → Option Wrong → Result (Option JobValue) BenchFault → Type 0
-TurnedAt who start now claims fetched posted w (Ok None) = (w ≡ None) × Stands who start now claims fetched posted (λ n more. idle_next who (turns who n) more)
-TurnedAt who start now claims fetched posted w (Ok (Some j)) = (w ≡ None) × Stands who start now claims fetched posted (λ n more. job_next (turns who n) j.task more (Ok j.case))
+TurnedAt who start now claims fetched posted w (Ok None) =
+    (w ≡ None) × Stands who start now claims fetched posted (λ n more. idle_next who (turns who n) more)
+TurnedAt who start now claims fetched posted w (Ok (Some j)) =
+    (w ≡ None) × Stands who start now claims fetched posted (λ n more. job_next (turns who n) j.task more (Ok j.case))
 TurnedAt who start now claims fetched posted w (Err e) = RefusedAt who start now claims fetched posted w e
 
 -- where nothing was heard: the next turn is to come, or the result of the pending task
 abbrev pub GoesOnAt : Caller → Line → Line → ℕ → ℕ → ℕ → Option (Task × TestCase) → Type 0
 GoesOnAt who start now claims fetched posted None = Stands who start now claims fetched posted (λ n more. turns who n more)
-GoesOnAt who start now claims fetched posted (Some p) = Stands who start now claims fetched posted (λ n more. job_next (turns who n) p.0 more (Ok p.1))
+GoesOnAt who start now claims fetched posted (Some p) =
+    Stands who start now claims fetched posted (λ n more. job_next (turns who n) p.0 more (Ok p.1))
 
 -- how the talk stands, by what the host has heard
 abbrev pub IsAt : Caller → Line → Line → (claims posts : ℕ) → Option (Task × TestCase) → Option Wrong → Option Heard → Type 0
