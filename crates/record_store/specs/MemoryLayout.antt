@@ -19,7 +19,7 @@ past_of m = state_of m.0
 abbrev pub disk_value : Inside → DiskValue
 disk_value d = record {
   time = record { now = state_of d.state; past = turned [] (map past_of d.past.items) };
-  opened = option_map string_bytes d.path;
+  opened = option_map (λ path. record { path = string_bytes path; access = d.access }) d.path;
   faults = d.faults;
   failing = d.failing.items;
   calls = length d.calls.items;

@@ -1,10 +1,10 @@
 -- What a disk in memory is seen as.
 use Rattle.std.specs.Prelude.{ℕ, List, [], ◌∷◌, Option}
-use Rattle.record_store.specs.Model.{DiskTime}
+use Rattle.record_store.specs.Model.{DiskTime, Opening}
 
 pub record DiskValue : Type 0 where
   pub time : DiskTime
-  pub opened : Option (List ℕ)
+  pub opened : Option Opening
   pub faults : ℕ
   -- the numbers of the calls that fail, from 0 on
   pub failing : List ℕ

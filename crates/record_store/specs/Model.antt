@@ -2,6 +2,12 @@
 use Rattle.std.specs.Prelude.{◌≡◌, ◌≤◌, ◌<◌, ◌⊎◌, ℕ, ◌+◌, ◌-◌, ◌^◌, min, max, List, [], ◌∷◌, ◌++◌, length, take, drop, slice_index, Result, Ok, OnOk, OnErr}
 use Rattle.std.specs.List.{AllByRecursion}
 use Rattle.record_store.specs.declared.disk.DiskErr.{DiskErr}
+use Rattle.record_store.specs.declared.disk.Access.{Access}
+
+-- A file that was opened.
+pub record Opening : Type 0 where
+  pub path : List ℕ
+  pub access : Access
 
 -- So many bytes from this offset on were written.
 pub record Range : Type 0 where

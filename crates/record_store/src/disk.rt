@@ -1,12 +1,21 @@
 //! A disk that holds one file.
 ghost use Rattle.std.specs.Prelude.{◌≡◌, ◌≤◌, ◌+◌, Bool, IsTrue, ℕ, List, Option, Some, length, take, drop, IfOk, OnOk};
-ghost use Rattle.record_store.specs.Model.{DiskTime, IsImage, Writes, Syncs, Passes, HasCause};
+ghost use Rattle.record_store.specs.Model.{DiskTime, Opening, IsImage, Writes, Syncs, Passes, HasCause};
 
 /// Why a call of a disk failed.
 #[derive(Clone, Copy, Debug, PartialEq, Eq)]
 pub enum DiskErr {
     /// The disk failed, and its count of faults rose.
     Failed,
+}
+
+/// What a file is opened for.
+#[derive(Clone, Copy, Debug, PartialEq, Eq)]
+pub enum Access {
+    /// It may be read and written. A missing file is made, with no bytes.
+    Change,
+    /// It is only read, so it has to be there. A disk need not write it.
+    Read,
 }
 
 /// A disk that holds one file, which is opened by its path.
@@ -20,14 +29,14 @@ pub trait Disk {
     ghost tells: { Self → Bool };
     /// Its moments, where it tells them. Each write and each sync is one; no other call is.
     ghost time: { Self → DiskTime };
-    /// The path that was opened last.
-    ghost opened: { Self → Option (List ℕ) };
+    /// The path that was opened last, and what for.
+    ghost opened: { Self → Option Opening };
     /// How often it has failed.
     ghost faults: { Self → ℕ };
 
-    /// Opens the file at the path. A missing file is made, with no bytes.
-    fn open(&mut self, path: &str) -> Result<(), DiskErr>
-        ensures path { OnOk result (opened self.new ≡ Some path.now) }
+    /// Opens the file at the path.
+    fn open(&mut self, path: &str, access: Access) -> Result<(), DiskErr>
+        ensures path { OnOk result (opened self.new ≡ Some (record { path = path.now; access = access })) }
         ensures tells { tells self.new ≡ tells self.old }
         ensures still { IsTrue (tells self.old) → time self.new ≡ time self.old }
         ensures cause { HasCause (faults self.old) (faults self.new) result };

@@ -4,11 +4,11 @@ ghost use Rattle.std.specs.Option.{option_map};
 ghost use Rattle.record_store.specs.Model.{HasCause, Rose};
 ghost use Rattle.record_store.specs.MemoryValue.{quiet_time};
 
-use crate::disk::{Disk, DiskErr};
+use crate::disk::{Access, Disk, DiskErr};
 use std::alloc::{AllocError, Global};
 use std::fs::{File, Files, OpenFile, OpenOptions};
-use std::io;
 use std::os::unix::fs::FileExt;
+use std::{fs, io};
 
 /// A file of the system, which is locked while it is open: a second one at the same path fails to open. It tells nothing.
 ///
@@ -20,6 +20,7 @@ pub struct FileDisk<R> {
     files: R,
     file: Option<File>,
     path: Option<String>,
+    access: Access,
     lost: bool,
     /// How often it has failed.
     pub faults: u64,
@@ -35,6 +36,7 @@ impl<R> FileDisk<R> {
             files,
             file: None,
             path: None,
+            access: Access::Change,
             lost: false,
             faults: 0,
         }
@@ -46,17 +48,18 @@ impl<R: Files<File = File> + Drop> Disk for FileDisk<R> {
 
     ghost time = { λ _. quiet_time [] };
 
-    ghost opened = { λ d. option_map string_bytes d.path };
+    ghost opened = { λ d. option_map (λ path. record { path = string_bytes path; access = d.access }) d.path };
 
     ghost faults = { λ d. d.faults };
 
-    fn open(&mut self, path: &str) -> Result<(), DiskErr> {
+    fn open(&mut self, path: &str, access: Access) -> Result<(), DiskErr> {
         if let (Ok(copied), Ok(file)) = (
             String::from_str(self.alloc, path),
-            open_file(&self.files, path),
+            open_file(&self.files, path, access),
         ) {
             self.file = Some(file);
             self.path = Some(copied);
+            self.access = access;
             return Ok(());
         }
         Err(count(&mut self.faults))
@@ -103,20 +106,43 @@ fn count(faults: &mut u64) -> DiskErr
     DiskErr::Failed
 }
 
+/// The file at the path, opened and locked for this.
+fn open_file<R: Files<File = File>>(files: &R, path: &str, access: Access) -> io::Result<File> {
+    match access {
+        Access::Change => open_to_change(files, path),
+        Access::Read => open_to_read(files, path),
+    }
+}
+
 /// The file at the path, which is made where it is missing, and which no other open file of the system has locked: so two
 /// programs never write one store. Of an empty one, which may be new, the folder is synced: the name of a new file is on
-/// the disk only then.
-fn open_file<R: Files<File = File>>(files: &R, path: &str) -> io::Result<File> {
+/// the disk only then. A device is no such file.
+fn open_to_change<R: Files<File = File>>(files: &R, path: &str) -> io::Result<File> {
     let file = OpenOptions::new()
         .read(true)
         .write(true)
         .create(true)
         .open(files, path)?;
     file.try_lock()?;
-    if file.metadata()?.len() == 0 {
+    let about = file.metadata()?;
+    if !about.is_file() {
+        return Err(io::ErrorKind::InvalidInput.into());
+    }
+    if about.len() == 0 {
         let folder = OpenOptions::new().read(true).open(files, folder_of(path))?;
         folder.sync_all()?;
     }
+    Ok(file)
+}
+
+/// The file at the path, which no program that locks it changes while it is read. A folder, a pipe or a device is no such
+/// file, and is not opened.
+fn open_to_read<R: Files<File = File>>(files: &R, path: &str) -> io::Result<File> {
+    if !fs::metadata(files, path)?.is_file() {
+        return Err(io::ErrorKind::InvalidInput.into());
+    }
+    let file = OpenOptions::new().read(true).open(files, path)?;
+    file.try_lock_shared()?;
     Ok(file)
 }
 

@@ -12,7 +12,7 @@ mod file;
 mod memory;
 mod records;
 
-pub use disk::{Disk, DiskErr};
+pub use disk::{Access, Disk, DiskErr};
 pub use file::FileDisk;
 pub use memory::{Call, MemoryDisk};
 pub use records::{ReadFault, append_records, close_records, push_record, read_record};

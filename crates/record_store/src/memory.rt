@@ -3,7 +3,7 @@ ghost use Rattle.std.specs.Prelude.{◌≡◌, ◌≤◌, ◌<◌, ◌+◌, ◌^
 ghost use Rattle.record_store.specs.Model.{Rose, overlaid, Writes, Syncs, Passes, HasCause};
 ghost use Rattle.record_store.specs.MemoryValue.{quiet_time};
 
-use crate::disk::{Disk, DiskErr};
+use crate::disk::{Access, Disk, DiskErr};
 use http_server::Log;
 use std::alloc::{AllocError, Global};
 use std::marker::Model;
@@ -43,6 +43,7 @@ pub struct MemoryDisk {
     /// The moments so far, which take no bytes: contracts see them.
     past: Log<Moment, ()>,
     path: Option<String>,
+    access: Access,
     calls: Vec<Call>,
     failing: Vec<u64>,
     faults: u64,
@@ -75,6 +76,7 @@ impl MemoryDisk {
             },
             past: Log::new(),
             path: None,
+            access: Access::Change,
             calls: Vec::new(alloc),
             failing,
             faults: 0,
@@ -133,10 +135,11 @@ impl Disk for MemoryDisk {
 
     ghost faults = { λ d. d.faults };
 
-    fn open(&mut self, path: &str) -> Result<(), DiskErr> {
+    fn open(&mut self, path: &str, access: Access) -> Result<(), DiskErr> {
         if begin(&mut self.calls, &self.failing, Call::Open) {
             if let Ok(copied) = String::from_str(self.alloc, path) {
                 self.path = Some(copied);
+                self.access = access;
                 return Ok(());
             }
         }
