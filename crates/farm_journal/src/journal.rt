@@ -113,6 +113,7 @@ impl Journal {
         ensures fits { OnOk result (self.old.end + 3 + length (event_text event.now) ≤ self.old.limit) }
         ensures fits_disk { IsErrOf result AddFault.Disk → self.old.end + 3 + length (event_text event.now) ≤ self.old.limit }
         ensures unwritten { OnErr result (self.new.end ≡ self.old.end) }
+        ensures still { ¬ (IsErrOf result AddFault.Disk) → OnErr result (disk.new ≡ disk.old) }
         ensures limit { self.new.limit ≡ self.old.limit }
         ensures cause { IsErrOf result AddFault.Disk → Rose (Y.faults disk.old) (Y.faults disk.new) }
         ensures later { Y.faults disk.old ≤ Y.faults disk.new }

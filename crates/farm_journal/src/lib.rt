@@ -11,4 +11,5 @@ mod player;
 
 pub use faults::AddFault;
 pub use journal::{Journal, STORE_LIMIT};
+pub use opening::is_unborn;
 pub use player::Player;

@@ -208,7 +208,7 @@ fn go_on_as<Y: Disk, P: Player>(
 }
 
 /// Whether a crash of a first opening leaves such a file, of so many bytes.
-fn is_unborn<Y: Disk>(disk: &mut Y, len: u64) -> Result<bool, OpenFault>
+pub fn is_unborn<Y: Disk>(disk: &mut Y, len: u64) -> Result<bool, OpenFault>
     requires { IsTrue (Y.tells disk.old) → len ≡ length (Y.time disk.old).now.seen }
     ensures answer { IsTrue (Y.tells disk.old) → IfOk result (λ unborn. unborn ≡ is_unborn (Y.time disk.old).now.seen) }
     ensures told { IfErr result (λ f. ¬ IsOfFile f) }
