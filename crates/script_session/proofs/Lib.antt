@@ -1,2 +1,5 @@
 pub mod Sessions
+pub mod Keepings
+pub mod Storings
+pub mod Endings
 pub mod Completing

@@ -19,50 +19,43 @@ use Rattle.farm_model.specs.Script.{output_from, after_line}
 use Rattle.farm_laws.specs.Output.{events_in, EachLineIsWritten}
 use Rattle.farm_laws.proofs.Outputs.{state_behind, state_behind-append, state_behind-one, output_from-append}
 use Rattle.farm_laws.proofs.Promised.{prefix_keeps_promise, whole_is_written}
-use Rattle.script_session.specs.declared.end.ScriptEnd.{ScriptEnd}
-use Rattle.script_session.specs.declared.end.ScriptEnd.TheVariants as end
-use Rattle.script_session.specs.Session.{Turned, SessionState, KeepsPromiseFrom, AnswersEachFrom, Answers, AllAnswered, LinesAnswered, PrefixAnswered, IsShort, TookLimit, Standing, session_of, EndsWell, HasLines, IsUnderWay, PutsPending}
+use Rattle.script_session.specs.Session.{SessionState, KeepsPromiseFrom, AnswersEachFrom, Answers, AllAnswered, LinesAnswered, PrefixAnswered, IsShort, TookLimit, Standing, EndsWell, HasLines, IsUnderWay, PutsPending}
 
 -- Before the first line
 
-none_taken : (left : Option (List ℕ)) → Consumes left left []
+pub none_taken : (left : Option (List ℕ)) → Consumes left left []
 none_taken None = tt
 none_taken (Some bytes) = refl
 
-none_put : (held : Option (List ℕ)) → Appends held held []
+pub none_put : (held : Option (List ℕ)) → Appends held held []
 none_put None = tt
 none_put (Some bytes) = sym (append-nil bytes)
 
 pub first_readable : IsReadable (record { ahead = []; taken = 0; stop = None; text = [] })
 first_readable = record { few = lit≤ tt; short = lit≤ tt; end = λ e. cc; fault = λ e. cc; limit = λ e. cc }
 
-pub under_way_first : (b : SessionState) (reader : ReaderValue) (pending : List ℕ) → reader ≡ record { ahead = []; taken = 0; stop = None; text = [] } → pending ≡ []
-    → IsUnderWay b (record { farm = b.farm; left = b.left; held = b.held; reader = reader; pending = pending })
-under_way_first b reader pending fresh none =
-    let first : ReaderValue = record { ahead = []; taken = 0; stop = None; text = [] } in
-    let at : IsUnderWay b (record { farm = b.farm; left = b.left; held = b.held; reader = first; pending = [] }) = record {
-      piece = [];
-      lines = [];
-      text = [];
-      took = none_taken b.left;
-      count = refl;
-      cut = λ more m. refl;
-      farm = refl;
-      wrote = none_put b.held;
-      replies = refl;
-      fed = λ open_. inl refl;
-      going = (λ e. cc, λ e. cc);
-      ended = λ e. cc;
-      readable = first_readable;
-    } in
-    subst (λ (r : ReaderValue). IsUnderWay b (record { farm = b.farm; left = b.left; held = b.held; reader = r; pending = pending })) (sym fresh)
-    (subst (λ (w : List ℕ). IsUnderWay b (record { farm = b.farm; left = b.left; held = b.held; reader = first; pending = w })) (sym none) at)
+unfoldable pub under_way_start : (b : SessionState) → IsUnderWay b (record { farm = b.farm; left = b.left; held = b.held; reader = record { ahead = []; taken = 0; stop = None; text = [] }; pending = [] })
+under_way_start b = record {
+  piece = [];
+  lines = [];
+  text = [];
+  took = none_taken b.left;
+  count = refl;
+  cut = λ more m. refl;
+  farm = refl;
+  wrote = none_put b.held;
+  replies = refl;
+  fed = λ open_. inl refl;
+  going = (λ e. cc, λ e. cc);
+  ended = λ e. cc;
+  readable = first_readable;
+}
 
 -- the standing after some of what is pending was put
 abbrev pub with_put : Standing → Option (List ℕ) → List ℕ → Standing
 with_put p held pending = record p { held = held; pending = pending }
 
-pub put_goes_on : (b : SessionState) (p : Standing) (held : Option (List ℕ)) (pending : List ℕ) → PutsPending p.held held p.pending pending put.Done → IsUnderWay b p → IsUnderWay b (with_put p held pending)
+unfoldable pub put_goes_on : (b : SessionState) (p : Standing) (held : Option (List ℕ)) (pending : List ℕ) → PutsPending p.held held p.pending pending put.Done → IsUnderWay b p → IsUnderWay b (with_put p held pending)
 put_goes_on b p held pending h u = record {
   piece = u.piece;
   text = u.text ++ h.0;
@@ -112,7 +105,7 @@ prefix_answered old new bytes lines others text after took cut farm wrote prefix
 }
 
 -- a prefix of the text and of the pending replies stands before the rest of them
-parted : (text pending : List ℕ) (n : ℕ) → (text ++ take n pending) ++ drop n pending ≡ text ++ pending
+pub parted : (text pending : List ℕ) (n : ℕ) → (text ++ take n pending) ++ drop n pending ≡ text ++ pending
 parted text pending n = append_assoc text (take n pending) (drop n pending) ∙ ap (λ t. text ++ t) (take-append-drop n pending)
 
 -- the output failed in what is pending
@@ -131,7 +124,7 @@ not_stopped (Some stop.InputLimit) going n = absurd (going.1 refl)
 
 -- The bytes of a piece and of what was taken behind it
 
-took_more : (b : SessionState) (p : Standing) (left : Option (List ℕ)) (piece front : List ℕ) → Consumes b.left p.left (piece ++ p.reader.ahead) → Consumes p.left left front → Consumes b.left left (piece ++ (p.reader.ahead ++ front))
+pub took_more : (b : SessionState) (p : Standing) (left : Option (List ℕ)) (piece front : List ℕ) → Consumes b.left p.left (piece ++ p.reader.ahead) → Consumes p.left left front → Consumes b.left left (piece ++ (p.reader.ahead ++ front))
 took_more b p left piece front h k =
     subst (λ (t : List ℕ). Consumes b.left left t) (append_assoc piece p.reader.ahead front) (Consumes-trans b.left p.left left (piece ++ p.reader.ahead) front h k)
 
@@ -147,11 +140,11 @@ pub record TookLine (p : Standing) (left : Option (List ℕ)) (reader : ReaderVa
   pub ended : IsEnded p.reader.stop p.left → IsEnded reader.stop left
   pub readable : IsReadable reader
 
-ends_well : (before piece : List ℕ) → EndsInFeed piece → EndsWell (before ++ piece)
+pub ends_well : (before piece : List ℕ) → EndsInFeed piece → EndsWell (before ++ piece)
 ends_well before piece h = inr (before ++ h.0, ap (λ t. before ++ t) h.1 ∙ sym (append_assoc before h.0 (line_feed ∷ [])))
 
 -- the lines of the piece and of the line behind it
-cut_line : (b : SessionState) (p : Standing) (left : Option (List ℕ)) (reader : ReaderValue) (first : Cut)
+pub cut_line : (b : SessionState) (p : Standing) (left : Option (List ℕ)) (reader : ReaderValue) (first : Cut)
     → (u : IsUnderWay b p) → (t : TookLine p left reader first) → HasLines reader.stop (u.piece ++ t.piece) (u.lines ++ first ∷ [])
 cut_line b p left reader first u t more m =
     ap lines_of (append_assoc u.piece t.piece more)
@@ -160,18 +153,18 @@ cut_line b p left reader first u t more m =
     ∙ sym (append_assoc u.lines (first ∷ []) (lines_of more))
 
 -- the state behind them
-line_farm : (b : SessionState) (p : Standing) (first : Cut) (farm : State) → (u : IsUnderWay b p) → farm ≡ (after_line p.farm first).0 → farm ≡ state_after b.farm (events_in (u.lines ++ first ∷ []))
+pub line_farm : (b : SessionState) (p : Standing) (first : Cut) (farm : State) → (u : IsUnderWay b p) → farm ≡ (after_line p.farm first).0 → farm ≡ state_after b.farm (events_in (u.lines ++ first ∷ []))
 line_farm b p first farm u f =
     f ∙ ap (λ (s : State). (after_line s first).0) u.farm
     ∙ sym (state_behind-append b.farm u.lines (first ∷ []) ∙ state_behind-one (state_behind b.farm u.lines) first)
 
 -- the output for them
-line_output : (b : SessionState) (p : Standing) (first : Cut) → (u : IsUnderWay b p) → output_from b.farm (u.lines ++ first ∷ []) ≡ output_from b.farm u.lines ++ (after_line p.farm first).1
+pub line_output : (b : SessionState) (p : Standing) (first : Cut) → (u : IsUnderWay b p) → output_from b.farm (u.lines ++ first ∷ []) ≡ output_from b.farm u.lines ++ (after_line p.farm first).1
 line_output b p first u =
     output_from-append b.farm u.lines (first ∷ [])
     ∙ ap (λ t. output_from b.farm u.lines ++ t) (append-nil (after_line (state_behind b.farm u.lines) first).1 ∙ ap (λ (s : State). (after_line s first).1) (sym u.farm))
 
-pub line_goes_on : (b : SessionState) (p : Standing) (left : Option (List ℕ)) (reader : ReaderValue) (first : Cut) (farm : State) (pending : List ℕ)
+unfoldable pub line_goes_on : (b : SessionState) (p : Standing) (left : Option (List ℕ)) (reader : ReaderValue) (first : Cut) (farm : State) (pending : List ℕ)
     → TookLine p left reader first → farm ≡ (after_line p.farm first).0 → pending ≡ p.pending ++ (after_line p.farm first).1
     → IsUnderWay b p → IsUnderWay b (record p { farm = farm; left = left; reader = reader; pending = pending })
 line_goes_on b p left reader first farm pending t f e u =
@@ -282,18 +275,6 @@ took_limit b p left front took limit u =
     let count : length bytes ≡ input_limit = omega (arith, e, u.count, limit) in
     record { bytes = bytes; took = all; count = count; not_short = not_short b.left left bytes all count }
 
--- Outcomes of a step
-
--- what is done after some of what was pending was put
-pub turned_after : (p new : Standing) (held : Option (List ℕ)) (pending : List ℕ) (r : Option ScriptEnd) → PutsPending p.held held p.pending pending put.Done → Turned (with_put p held pending) new r → Turned p new r
-turned_after p new held pending None h t = λ b u. t b (put_goes_on b p held pending h u)
-turned_after p new held pending (Some e) h t = λ b u. t b (put_goes_on b p held pending h u)
-
--- memory was wanted, or the output failed as well
-pub turned_memory : (p new : Standing) (r : ScriptEnd) → (r ≡ end.NoMemory) ⊎ (r ≡ end.WriteFault) → ((b : SessionState) → IsUnderWay b p → PrefixAnswered b (session_of new)) → Turned p new (Some r)
-turned_memory p new r (inl e) f = subst (λ (x : ScriptEnd). Turned p new (Some x)) (sym e) f
-turned_memory p new r (inr e) f = subst (λ (x : ScriptEnd). Turned p new (Some x)) (sym e) f
-
 -- What a call of the reader gave
 
 abbrev pub Sticks : Standing → Line → Type 0
@@ -348,7 +329,3 @@ at_limit b p left reader r sticks limit empty u = (
   lines_answered b p left r.front r.took r.cuts (fault_going p line.InputLimit (λ h. cc) sticks u.going) empty u,
   took_limit b p left r.front r.took (sym r.count ∙ limit) u,
 )
-
--- a front of what stays pending was put
-pub kept_front : (held held' : Option (List ℕ)) (old new : List ℕ) (f : (n : ℕ) × Appends held held' (take n new)) → new ≡ old → Appends held held' (take f.0 old)
-kept_front held held' old new f e = subst (λ (t : List ℕ). Appends held held' (take f.0 t)) e f.1

@@ -126,11 +126,6 @@ EndsAs end.WriteFault old new = PrefixAnswered old new
 EndsAs end.NoMemory old new = PrefixAnswered old new
 EndsAs end.InputLimit old new = LinesAnswered old new × TookLimit old.left new.left
 
--- what one line, or the end of the lines, does to a session, wherever it began
-abbrev pub Turned : Standing → Standing → Option ScriptEnd → Type 0
-Turned old new None = (b : SessionState) → IsUnderWay b old → IsUnderWay b new
-Turned old new (Some e) = (b : SessionState) → IsUnderWay b old → EndsAs e b (session_of new)
-
 -- What is pending is put
 
 -- a prefix of what was pending was written, and the rest is pending still; at a failure a part of it was written

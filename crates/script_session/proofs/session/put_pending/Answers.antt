@@ -1,5 +1,5 @@
 use Rattle.std.proofs.Common.{rules}
-use Rattle.script_session.proofs.script.put_pending.Goals as goal
+use Rattle.script_session.proofs.session.put_pending.Goals as goal
 
 pub returns-clause-bytes : goal.returns-clause-bytes
 returns-clause-bytes c = search rules

@@ -1,0 +1,14 @@
+use Rattle.script_session.proofs.Keepings.{turned_after}
+use Rattle.script_session.proofs.session.turn.Goals as goal
+
+pub returns-in-None-clause-turned : goal.returns-in-None-clause-turned
+returns-in-None-clause-turned g c first mark =
+    let settled = c.settle_before_asking.new in
+    let new = c.answer_next.new in
+    turned_after (g.E.Keeper.kept first mark c.args.keeper.now c.args.device.now) (g.E.Keeper.kept first mark settled.keeper settled.device)
+    (g.E.Keeper.kept first mark new.keeper new.device) (g.E.Keeper.lost first mark settled.keeper settled.device) (g.E.Keeper.lost first mark new.keeper new.device)
+    (g.E.Keeper.full first mark) _ _ _ _
+    (c.in-None.ensures.turned first mark c.args.farm.now (g.S.Source.left c.args.input.now)) (c.answer_next.ensures.turned first mark)
+
+pub returns-in-Some-clause-turned : goal.returns-in-Some-clause-turned
+returns-in-Some-clause-turned g c first mark = c.in-Some.ensures.turned first mark c.args.farm.now (g.S.Source.left c.args.input.now)
