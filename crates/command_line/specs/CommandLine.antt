@@ -2,34 +2,48 @@
 use Rattle.std.specs.Prelude.{ℕ, List, ◌==◌, ◌&&◌, Bool, false, codes, length, Option, Some, None, if◌then◌else◌}
 use Rattle.std.specs.Option.{option_map, option_and_then, option_map_or}
 use Rattle.std.specs.Str.{bytes_eq}
+use Rattle.std.specs.declared.net.ip_addr.IpAddr.{IpAddr}
 use Rattle.clap.specs.Words.{Row, Text, fault_of, first_of, subcommand_of}
+use Rattle.farm_kinds.specs.Names.{name_read}
 use Rattle.farm_model.specs.Numbers.{number_of, at_most}
 use Rattle.command_line.specs.Commands.{farm}
 use Rattle.command_line.specs.Checks.{are_plain}
+use Rattle.command_line.specs.Addresses.{address_with}
 use Rattle.command_line.specs.Ranges.{Size, from_1_to, size_with, host_limit, made_problem_limit, made_submission_limit}
-use Rattle.command_line.specs.Ranges.{port_limit, lane_limit, connection_limit}
+use Rattle.command_line.specs.Ranges.{port_limit, lane_limit, connection_limit, patience_limit, usual_patience, fuel_limit, wait_limit}
 use Rattle.command_line.specs.declared.made_size.MadeSize.{MadeSize}
 use Rattle.command_line.specs.declared.words.Command.{Command}
 use Rattle.command_line.specs.declared.words.Command.TheVariants as command
 
 pub data CommandValue : Type 0 where
-  -- the lines of a script, by the settings of the file at this path, or by the standard ones
-  Script : (config : Option Text) → CommandValue
+  -- the lines of a script, by the settings of the file at this path, or by the standard ones, and over the store at this
+  -- path, if there is to be one
+  Script : (config store : Option Text) → CommandValue
+  -- the lines of the store at this path
+  Store : (path : Text) → CommandValue
   -- the contest in this folder, by so many hosts, and whether a journal is asked for
   Judge : (folder : Text) → (hosts : ℕ) → (journal : Bool) → CommandValue
   -- the contest that is made of this number, with so many problems and submissions
   Make : (number : ℕ) → (size : Size) → CommandValue
-  -- the contest in this folder, at this port, by so many lanes for so many connections
-  Serve : (folder : Text) → (port lanes connections : ℕ) → CommandValue
+  -- the contest in this folder, at this address and port, by so many lanes for so many connections, each of which it waits
+  -- for so many seconds, and whether none comes any more once the input has ended
+  Serve : (folder : Text) → (address : IpAddr) → (port lanes connections patience : ℕ) → (until_input_ends : Bool)
+      → CommandValue
+  -- as the judgehost of this name at the server of this address and port, with so many claims, and where no task is open
+  -- with a pause of so many seconds before the next one, if there is to be one
+  Host : (address : Text) → (port : ℕ) → (name : Text) → (fuel : ℕ) → (wait : Option ℕ) → CommandValue
 
 abbrev pub size_value : MadeSize → Size
 size_value size = record { problems = size.problems; submissions = size.submissions }
 
 abbrev pub command_value : Command → CommandValue
-command_value (command.Script config) = Script (option_map (λ path. path.now) config)
+command_value (command.Script config store) = Script (option_map (λ path. path.now) config) (option_map (λ path. path.now) store)
+command_value (command.Store path) = Store path.now
 command_value (command.Judge folder hosts journal) = Judge folder.now hosts.count journal
 command_value (command.Make number size) = Make number (size_value size)
-command_value (command.Serve folder port lanes connections) = Serve folder.now port lanes.count connections.count
+command_value (command.Serve folder address port lanes connections patience until_input_ends) =
+    Serve folder.now address port lanes.count connections.count patience.seconds until_input_ends
+command_value (command.Host address port name fuel wait) = Host address.now port name fuel wait
 
 -- ---- what the rows of a command say
 
@@ -51,7 +65,10 @@ judge_of rows =
     (is_said (codes "journal") rows)
 
 abbrev pub script_of : List Row → Option CommandValue
-script_of rows = Some (Script (first_of (codes "config") rows))
+script_of rows = Some (Script (first_of (codes "config") rows) (first_of (codes "store") rows))
+
+abbrev pub store_of : List Row → Option CommandValue
+store_of rows = option_map Store (first_of (codes "file") rows)
 
 abbrev pub make_with : Option ℕ → Option Size → Option CommandValue
 make_with (Some number) (Some size) = Some (Make number size)
@@ -65,22 +82,47 @@ size_of rows =
 abbrev pub make_of : List Row → Option CommandValue
 make_of rows = make_with (option_and_then number_of (first_of (codes "number") rows)) (size_of rows)
 
-abbrev pub serve_with : Option Text → Option ℕ → Option ℕ → Option ℕ → Option CommandValue
-serve_with (Some folder) (Some port) (Some lanes) (Some connections) = Some (Serve folder port lanes connections)
-serve_with folder port lanes connections = None
+-- the patience that is said, or the usual one
+abbrev pub patience_with : Option Text → Option ℕ
+patience_with None = Some usual_patience
+patience_with (Some text) = option_and_then (from_1_to patience_limit) (number_of text)
+
+abbrev pub serve_with : Option Text → Option IpAddr → Option ℕ → Option ℕ → Option ℕ → Option ℕ → Bool
+    → Option CommandValue
+serve_with (Some folder) (Some address) (Some port) (Some lanes) (Some connections) (Some patience) until_input_ends =
+    Some (Serve folder address port lanes connections patience until_input_ends)
+serve_with folder address port lanes connections patience until_input_ends = None
 
 abbrev pub serve_of : List Row → Option CommandValue
 serve_of rows =
-    serve_with (first_of (codes "folder") rows) (number_at (at_most port_limit) (codes "port") rows)
-    (number_at (from_1_to lane_limit) (codes "lanes") rows)
-    (number_at (from_1_to connection_limit) (codes "connections") rows)
+    serve_with (first_of (codes "folder") rows) (address_with (first_of (codes "address") rows))
+    (number_at (at_most port_limit) (codes "port") rows) (number_at (from_1_to lane_limit) (codes "lanes") rows)
+    (number_at (from_1_to connection_limit) (codes "connections") rows) (patience_with (first_of (codes "patience") rows))
+    (is_said (codes "until-input-ends") rows)
+
+-- a number of seconds, where one is said
+abbrev pub wait_with : Option Text → Option (Option ℕ)
+wait_with None = Some None
+wait_with (Some text) = option_map Some (option_and_then (from_1_to wait_limit) (number_of text))
+
+abbrev pub host_with : Option Text → Option ℕ → Option Text → Option ℕ → Option (Option ℕ) → Option CommandValue
+host_with (Some address) (Some port) (Some name) (Some fuel) (Some wait) = Some (Host address port name fuel wait)
+host_with address port name fuel wait = None
+
+abbrev pub host_of : List Row → Option CommandValue
+host_of rows =
+    host_with (first_of (codes "address") rows) (number_at (from_1_to port_limit) (codes "port") rows)
+    (option_and_then name_read (first_of (codes "name") rows)) (number_at (from_1_to fuel_limit) (codes "fuel") rows)
+    (wait_with (first_of (codes "wait") rows))
 
 abbrev pub said_of : Text → List Row → Option CommandValue
 said_of name rows =
     if bytes_eq name (codes "judge") then judge_of rows
     else if bytes_eq name (codes "script") then script_of rows
+    else if bytes_eq name (codes "store") then store_of rows
     else if bytes_eq name (codes "make") then make_of rows
-    else if bytes_eq name (codes "serve") then serve_of rows else None
+    else if bytes_eq name (codes "serve") then serve_of rows
+    else if bytes_eq name (codes "host") then host_of rows else None
 
 -- ---- what the words say
 

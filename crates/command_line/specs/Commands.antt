@@ -23,9 +23,15 @@ judge =
     let with_hosts = with_rule with_folder (option (codes "hosts") true) in
     with_rule with_hosts (flag (codes "journal"))
 
--- `script [--config FILE]`
+-- `script [--config FILE] [--store FILE]`
 abbrev pub script : App
-script = with_rule (new_app (codes "script")) (option (codes "config") false)
+script =
+    let with_config = with_rule (new_app (codes "script")) (option (codes "config") false) in
+    with_rule with_config (option (codes "store") false)
+
+-- `store FILE`
+abbrev pub store : App
+store = with_rule (new_app (codes "store")) (operand (codes "file"))
 
 -- `make NUMBER PROBLEMS SUBMISSIONS`
 abbrev pub make : App
@@ -35,12 +41,28 @@ make =
     with_rule with_problems (operand (codes "submissions"))
 
 -- `serve FOLDER --port P --lanes N --connections M`
-abbrev pub serve : App
-serve =
+abbrev pub plain_serve : App
+plain_serve =
     let with_folder = with_rule (new_app (codes "serve")) (operand (codes "folder")) in
     let with_port = with_rule with_folder (option (codes "port") true) in
     let with_lanes = with_rule with_port (option (codes "lanes") true) in
     with_rule with_lanes (option (codes "connections") true)
+
+-- `serve FOLDER --port P --lanes N --connections M [--address A] [--patience SECONDS] [--until-input-ends]`
+abbrev pub serve : App
+serve =
+    let with_address = with_rule plain_serve (option (codes "address") false) in
+    let with_patience = with_rule with_address (option (codes "patience") false) in
+    with_rule with_patience (flag (codes "until-input-ends"))
+
+-- `host ADDRESS --port P --name NAME --fuel F [--wait SECONDS]`
+abbrev pub host : App
+host =
+    let with_address = with_rule (new_app (codes "host")) (operand (codes "address")) in
+    let with_port = with_rule with_address (option (codes "port") true) in
+    let with_name = with_rule with_port (option (codes "name") true) in
+    let with_fuel = with_rule with_name (option (codes "fuel") true) in
+    with_rule with_fuel (option (codes "wait") false)
 
 -- the program without its commands: one has to be named, and there are no words for help or the version
 abbrev pub bare : App
@@ -59,8 +81,16 @@ bare =
 abbrev pub with_contests : App
 with_contests = with_subcommand (with_subcommand bare judge.top) serve.top
 
+-- and with the one that works for a server
+abbrev pub with_hosts : App
+with_hosts = with_subcommand with_contests host.top
+
+-- and with those that play the lines of events, and list those of a store
+abbrev pub with_scripts : App
+with_scripts = with_subcommand (with_subcommand with_hosts script.top) store.top
+
 abbrev pub farm : App
-farm = with_subcommand (with_subcommand with_contests script.top) make.top
+farm = with_subcommand with_scripts make.top
 
 -- the program with its commands, which also knows the words that ask for help and for the version
 abbrev pub helping : App

@@ -35,3 +35,18 @@ lane_limit = 16
 
 abbrev pub connection_limit : ℕ
 connection_limit = 100000
+
+-- a server waits for a client for at most an hour, and for a minute where nothing else is said
+abbrev pub patience_limit : ℕ
+patience_limit = 3600
+
+abbrev pub usual_patience : ℕ
+usual_patience = 60
+
+-- a host makes at most as many claims as its words' number says, which is at most 4,294,967,295
+abbrev pub fuel_limit : ℕ
+fuel_limit = 4294967295
+
+-- it waits for at most a minute until it asks again
+abbrev pub wait_limit : ℕ
+wait_limit = 60

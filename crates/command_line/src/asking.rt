@@ -32,9 +32,10 @@ pub fn read_words<'a>(alloc: Global, words: &'a [String]) -> Result<Asked<'a>, N
     ensures help { IfOk result (λ asked. is_help asked ≡ true → MayAsk (answers_to (map string_bytes words.entry.now))) }
     ensures wrong { IfOk result (λ asked. is_wrong asked ≡ true → ¬ MustAsk (answers_to (map string_bytes words.entry.now))) }
 {
-    match read_command(alloc, words)? {
-        Some(command) => Ok(Asked::Command(command)),
-        None => told(alloc, words),
+    match read_command(alloc, words) {
+        Ok(Some(command)) => Ok(Asked::Command(command)),
+        Ok(None) => told(alloc, words),
+        Err(NoMemory) => Err(NoMemory),
     }
 }
 

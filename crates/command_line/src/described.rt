@@ -12,41 +12,72 @@ pub(crate) struct Description<'a> {
     pub range: Option<(u32, u32)>,
 }
 
-/// What help says of the operand or the option of this name.
-pub(crate) fn described(id: &str) -> Description<'static> {
-    match id {
-        "folder" => text(
-            "FOLDER",
-            "The contest: problems/NAME/ for each package, submissions.txt, submissions/, farm.json",
+/// What help says of the operand or the option of this name in this command.
+pub(crate) fn described(command: &str, id: &str) -> Description<'static> {
+    match command {
+        "judge" => of_judge(id),
+        "make" => of_make(id),
+        "serve" => of_serve(id),
+        "host" => of_host(id),
+        "store" => text(
+            "FILE",
+            "The file of a store, as 'farm script --store FILE' makes it",
         ),
+        _ => of_script(id),
+    }
+}
+
+fn of_judge(id: &str) -> Description<'static> {
+    match id {
+        "folder" => text("FOLDER", FOLDER),
         "hosts" => number(
             "N",
             (0, 16),
             "How many hosts run at the same time, 0 to 16; with 0 the program runs the tests by itself",
         ),
-        "journal" => text(
+        _ => text(
             "",
             "Writes a line for each call of the farm behind the table",
         ),
+    }
+}
+
+fn of_script(id: &str) -> Description<'static> {
+    match id {
         "config" => text(
             "FILE",
             "Settings in JSON: priorities, remapping, lazy evaluation, modes, leases, verification",
         ),
+        _ => text(
+            "FILE",
+            "Goes on from the events that this file keeps, and keeps in it those that follow",
+        ),
+    }
+}
+
+fn of_make(id: &str) -> Description<'static> {
+    match id {
         "number" => number(
             "NUMBER",
             (0, u32::MAX),
             "Which contest is made, 0 to 4294967295",
         ),
         "problems" => number("PROBLEMS", (1, 50), "How many problems it has, 1 to 50"),
-        "submissions" => number(
+        _ => number(
             "SUBMISSIONS",
             (1, 2000),
             "How many submissions it has, 1 to 2000",
         ),
+    }
+}
+
+fn of_serve(id: &str) -> Description<'static> {
+    match id {
+        "folder" => text("FOLDER", FOLDER),
         "port" => number(
             "P",
             (0, 65535),
-            "The port of 127.0.0.1, 0 to 65535; 0 is any port that is free",
+            "The port, 0 to 65535; 0 is any port that is free",
         ),
         "lanes" => number(
             "N",
@@ -58,7 +89,40 @@ pub(crate) fn described(id: &str) -> Description<'static> {
             (1, 100_000),
             "How many connections are answered in all, 1 to 100000",
         ),
-        _ => text("VALUE", ""),
+        "patience" => number(
+            "SECONDS",
+            (1, 3600),
+            "Ends a connection that says or takes nothing for so long, 1 to 3600; 60 if it is left out",
+        ),
+        "address" => text(
+            "ADDRESS",
+            "The IPv4 or IPv6 address at which it listens; 127.0.0.1 if it is left out",
+        ),
+        _ => text(
+            "",
+            "Accepts no connection any more once standard input has ended",
+        ),
+    }
+}
+
+fn of_host(id: &str) -> Description<'static> {
+    match id {
+        "address" => text("ADDRESS", "The server: an IPv4 or IPv6 address, or a name"),
+        "port" => number("P", (1, 65535), "The server's port, 1 to 65535"),
+        "name" => text(
+            "NAME",
+            "The judgehost's name: 1 to 32 letters, digits, '_' and '-'",
+        ),
+        "fuel" => number(
+            "F",
+            (1, u32::MAX),
+            "How often it asks for a task at most, 1 to 4294967295",
+        ),
+        _ => number(
+            "SECONDS",
+            (1, 60),
+            "Pauses so long where no task is open, 1 to 60, and asks again",
+        ),
     }
 }
 
@@ -68,9 +132,12 @@ pub(crate) fn about(command: &str) -> &'static str {
         "judge" =>
             "Judges the contest in a folder, and writes a line NUMBER TEAM PROBLEM VERDICT for each submission",
         "script" => "Reads event lines from standard input, and writes the reply to each",
+        "store" => "Writes the events that a store keeps, as event lines",
         "make" =>
             "Makes a contest of a number, judges it on two hosts, and writes how many submissions have each verdict",
         "serve" => "Answers judgehosts and the jury by HTTP, on the contest in a folder",
+        "host" =>
+            "Works as a judgehost for 'farm serve' on another machine: runs tests, and posts their results",
         _ => "The judging back end of a programming contest",
     }
 }
@@ -80,8 +147,10 @@ pub(crate) fn remarks(command: &str) -> &'static str {
     match command {
         "judge" => JUDGE,
         "script" => SCRIPT,
+        "store" => STORE,
         "make" => MAKE,
         "serve" => SERVE,
+        "host" => HOST,
         _ => STATUSES,
     }
 }
@@ -102,9 +171,15 @@ fn number<'a>(value: &'a str, range: (u32, u32), help: &'a str) -> Description<'
     }
 }
 
+/// What help says of a contest's folder.
+const FOLDER: &str =
+    "The contest: problems/NAME/ for each package, submissions.txt, submissions/, farm.json";
+
 const STATUSES: &str = "\
 Status: 0 done, 2 usage, 3 bad settings or contest, 4 read fault, 5 write fault,
-6 no memory, 7 file fault, 8 port or connection fault, 9 input limit.";
+6 no memory, 7 file fault, 8 port or connection fault, 9 input limit, 10 no
+connection to the server, 11 wrong answer of the server, 12 a store that failed,
+13 no store of this configuration, 14 a full store.";
 
 const JUDGE: &str = "\
 With --journal a line 'journal PASS LINE => REPLY' follows for each call that was
@@ -117,9 +192,17 @@ write. They are the same in every run.";
 
 const SERVE: &str = "\
 Standard error says at which port it listens. Standard output gets a line
-'conn I requests R END' for each connection when it ended, and then the board. A
-connection from which nothing comes for a minute is ended. It asks for no
-passwords: put a proxy before it that does.";
+'conn I requests R END' for each connection when it ended, and then the board:
+after M connections, or with --until-input-ends once standard input has ended and
+those who were let in are done. It asks for no passwords: put a proxy before it
+that does.";
+
+const HOST: &str = "\
+Written is one line 'host NAME claims C posted R END': how often it asked for a
+task, how many results it posted, and why it stopped. END is idle (no task is
+open), fuel (it asked F times), no-host (the server does not know it, or has
+brought it down) or holding (it holds as many tasks as it may). With --wait it
+does not end as idle. A server that does not answer for a minute ends it.";
 
 const SCRIPT: &str = "\
 Lines:
@@ -145,4 +228,15 @@ Lines:
   audit                          the audit log's length and last digest
 problem, replace, rejudge, apply, cancel, verify and ask may begin with @NAME,
 which says who acts. Empty lines, and lines whose first word begins with #, have
-no reply.";
+no reply.
+With --store each event that changes something is on the disk before its reply is
+written: a machine that fails loses no event that was answered. FILE is made
+where it is missing, and a later run with the same settings goes on from it. The
+status is 12 where the disk failed, 13 where FILE is no store of these settings,
+and 14 where it is full, at 1 GiB.";
+
+const STORE: &str = "\
+The first line is a comment, which says of which settings the store is. The
+others are events in their order: 'farm script' with the same settings leads by
+them to what the store holds. Nothing is written to FILE. The status is 12 where
+the disk failed, and 13 where FILE is no store.";

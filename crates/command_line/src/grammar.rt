@@ -2,7 +2,7 @@
 ghost use Rattle.std.specs.Prelude.{◌≡◌, IfOk, false, true};
 ghost use Rattle.clap.specs.Words.{app_of, new_app, rule_of, with_rule, with_subcommand};
 ghost use Rattle.clap.specs.declared.builder.command.Command.TheViews.{out-Command as fields_of};
-ghost use Rattle.command_line.specs.Commands.{option, flag, operand, judge, script, make, serve, bare, farm, helping};
+ghost use Rattle.command_line.specs.Commands.{option, flag, operand, judge, script, store, make, serve, plain_serve, host, bare, farm, helping};
 
 use crate::described::{about, described, remarks};
 use clap::{Arg, ArgAction, Command};
@@ -17,7 +17,9 @@ pub(crate) fn farm_command<'a>(alloc: Global) -> Result<Command<'a>, AllocError>
 {
     let program = with_judge(alloc, bare_command(alloc))?;
     let program = with_serve(alloc, program)?;
+    let program = with_host(alloc, program)?;
     let program = with_script(alloc, program)?;
+    let program = with_store(alloc, program)?;
     with_make(alloc, program)
 }
 
@@ -43,7 +45,9 @@ pub(crate) fn command_named<'a>(
     match name {
         "judge" => Ok(Some(judge_command(alloc)?)),
         "serve" => Ok(Some(serve_command(alloc)?)),
+        "host" => Ok(Some(host_command(alloc)?)),
         "script" => Ok(Some(script_command(alloc)?)),
+        "store" => Ok(Some(store_command(alloc)?)),
         "make" => Ok(Some(make_command(alloc)?)),
         _ => Ok(None),
     }
@@ -67,6 +71,15 @@ fn with_serve<'a>(alloc: Global, program: Command<'a>) -> Result<Command<'a>, Al
     program.subcommand(serve_command(alloc)?)
 }
 
+/// The program with the command `host`.
+fn with_host<'a>(alloc: Global, program: Command<'a>) -> Result<Command<'a>, AllocError>
+    requires { (fields_of program).has_globals ≡ false }
+    ensures app { IfOk result (λ with. app_of with ≡ with_subcommand (app_of program.entry) host.top) }
+    ensures globals { IfOk result (λ with. (fields_of with).has_globals ≡ false) }
+{
+    program.subcommand(host_command(alloc)?)
+}
+
 /// The program with the command `script`.
 fn with_script<'a>(alloc: Global, program: Command<'a>) -> Result<Command<'a>, AllocError>
     requires { (fields_of program).has_globals ≡ false }
@@ -74,6 +87,15 @@ fn with_script<'a>(alloc: Global, program: Command<'a>) -> Result<Command<'a>, A
     ensures globals { IfOk result (λ with. (fields_of with).has_globals ≡ false) }
 {
     program.subcommand(script_command(alloc)?)
+}
+
+/// The program with the command `store`.
+fn with_store<'a>(alloc: Global, program: Command<'a>) -> Result<Command<'a>, AllocError>
+    requires { (fields_of program).has_globals ≡ false }
+    ensures app { IfOk result (λ with. app_of with ≡ with_subcommand (app_of program.entry) store.top) }
+    ensures globals { IfOk result (λ with. (fields_of with).has_globals ≡ false) }
+{
+    program.subcommand(store_command(alloc)?)
 }
 
 /// The program with the command `make`.
@@ -102,17 +124,26 @@ fn judge_command<'a>(alloc: Global) -> Result<Command<'a>, AllocError>
     ensures app { IfOk result (λ command. app_of command ≡ judge) }
     ensures globals { IfOk result (λ command. (fields_of command).has_globals ≡ false) }
 {
-    let with_folder = with_operand(alloc, new_command(alloc, "judge"), "folder")?;
-    let with_hosts = with_option(alloc, with_folder, "hosts")?;
-    with_hosts.arg(flag(alloc, "journal"))
+    let with_folder = with_operand(alloc, new_command(alloc, "judge"), "judge", "folder")?;
+    let with_hosts = with_option(alloc, with_folder, "judge", "hosts")?;
+    with_hosts.arg(flag(alloc, "judge", "journal"))
 }
 
-/// `script [--config FILE]`
+/// `script [--config FILE] [--store FILE]`
 fn script_command<'a>(alloc: Global) -> Result<Command<'a>, AllocError>
     ensures app { IfOk result (λ command. app_of command ≡ script) }
     ensures globals { IfOk result (λ command. (fields_of command).has_globals ≡ false) }
 {
-    new_command(alloc, "script").arg(option(alloc, "config", false))
+    let with_config = new_command(alloc, "script").arg(option(alloc, "script", "config", false))?;
+    with_config.arg(option(alloc, "script", "store", false))
+}
+
+/// `store FILE`
+fn store_command<'a>(alloc: Global) -> Result<Command<'a>, AllocError>
+    ensures app { IfOk result (λ command. app_of command ≡ store) }
+    ensures globals { IfOk result (λ command. (fields_of command).has_globals ≡ false) }
+{
+    with_operand(alloc, new_command(alloc, "store"), "store", "file")
 }
 
 /// `make NUMBER PROBLEMS SUBMISSIONS`
@@ -120,20 +151,42 @@ fn make_command<'a>(alloc: Global) -> Result<Command<'a>, AllocError>
     ensures app { IfOk result (λ command. app_of command ≡ make) }
     ensures globals { IfOk result (λ command. (fields_of command).has_globals ≡ false) }
 {
-    let with_number = with_operand(alloc, new_command(alloc, "make"), "number")?;
-    let with_problems = with_operand(alloc, with_number, "problems")?;
-    with_operand(alloc, with_problems, "submissions")
+    let with_number = with_operand(alloc, new_command(alloc, "make"), "make", "number")?;
+    let with_problems = with_operand(alloc, with_number, "make", "problems")?;
+    with_operand(alloc, with_problems, "make", "submissions")
 }
 
-/// `serve FOLDER --port P --lanes N --connections M`
+/// `serve FOLDER --port P --lanes N --connections M [--address A] [--patience SECONDS] [--until-input-ends]`
 fn serve_command<'a>(alloc: Global) -> Result<Command<'a>, AllocError>
     ensures app { IfOk result (λ command. app_of command ≡ serve) }
     ensures globals { IfOk result (λ command. (fields_of command).has_globals ≡ false) }
 {
-    let with_folder = with_operand(alloc, new_command(alloc, "serve"), "folder")?;
-    let with_port = with_option(alloc, with_folder, "port")?;
-    let with_lanes = with_option(alloc, with_port, "lanes")?;
-    with_option(alloc, with_lanes, "connections")
+    let with_address = with_choice(alloc, plain_serve_command(alloc)?, "serve", "address")?;
+    let with_patience = with_choice(alloc, with_address, "serve", "patience")?;
+    with_patience.arg(flag(alloc, "serve", "until-input-ends"))
+}
+
+/// `serve FOLDER --port P --lanes N --connections M`
+fn plain_serve_command<'a>(alloc: Global) -> Result<Command<'a>, AllocError>
+    ensures app { IfOk result (λ command. app_of command ≡ plain_serve) }
+    ensures globals { IfOk result (λ command. (fields_of command).has_globals ≡ false) }
+{
+    let with_folder = with_operand(alloc, new_command(alloc, "serve"), "serve", "folder")?;
+    let with_port = with_option(alloc, with_folder, "serve", "port")?;
+    let with_lanes = with_option(alloc, with_port, "serve", "lanes")?;
+    with_option(alloc, with_lanes, "serve", "connections")
+}
+
+/// `host ADDRESS --port P --name NAME --fuel F [--wait SECONDS]`
+fn host_command<'a>(alloc: Global) -> Result<Command<'a>, AllocError>
+    ensures app { IfOk result (λ command. app_of command ≡ host) }
+    ensures globals { IfOk result (λ command. (fields_of command).has_globals ≡ false) }
+{
+    let with_address = with_operand(alloc, new_command(alloc, "host"), "host", "address")?;
+    let with_port = with_option(alloc, with_address, "host", "port")?;
+    let with_name = with_option(alloc, with_port, "host", "name")?;
+    let with_fuel = with_option(alloc, with_name, "host", "fuel")?;
+    with_fuel.arg(option(alloc, "host", "wait", false))
 }
 
 /// The command of this name, with what help says of it.
@@ -146,38 +199,54 @@ fn new_command<'a>(alloc: Global, name: &'a str) -> Command<'a>
         .after_help(remarks(name))
 }
 
-/// The command with one more option, which has to be there.
+/// The command with one more option, which has to be there; help says of it what it says in the command `of`.
 fn with_option<'a>(
     alloc: Global,
     command: Command<'a>,
+    of: &str,
     name: &'a str,
 ) -> Result<Command<'a>, AllocError>
     requires { (fields_of command).has_globals ≡ false }
     ensures app { IfOk result (λ with. app_of with ≡ with_rule (app_of command.entry) (option name.entry.now true)) }
     ensures globals { IfOk result (λ with. (fields_of with).has_globals ≡ false) }
 {
-    command.arg(option(alloc, name, true))
+    command.arg(option(alloc, of, name, true))
 }
 
-/// The command with one more operand, which has to be there.
+/// The command with one more option, which may be left out; help says of it what it says in the command `of`.
+fn with_choice<'a>(
+    alloc: Global,
+    command: Command<'a>,
+    of: &str,
+    name: &'a str,
+) -> Result<Command<'a>, AllocError>
+    requires { (fields_of command).has_globals ≡ false }
+    ensures app { IfOk result (λ with. app_of with ≡ with_rule (app_of command.entry) (option name.entry.now false)) }
+    ensures globals { IfOk result (λ with. (fields_of with).has_globals ≡ false) }
+{
+    command.arg(option(alloc, of, name, false))
+}
+
+/// The command with one more operand, which has to be there; help says of it what it says in the command `of`.
 fn with_operand<'a>(
     alloc: Global,
     command: Command<'a>,
+    of: &str,
     name: &'a str,
 ) -> Result<Command<'a>, AllocError>
     requires { (fields_of command).has_globals ≡ false }
     ensures app { IfOk result (λ with. app_of with ≡ with_rule (app_of command.entry) (operand name.entry.now)) }
     ensures globals { IfOk result (λ with. (fields_of with).has_globals ≡ false) }
 {
-    command.arg(operand(alloc, name))
+    command.arg(operand(alloc, of, name))
 }
 
-/// `--NAME VALUE` or `--NAME=VALUE`
-fn option<'a>(alloc: Global, name: &'a str, required: bool) -> Arg<'a>
+/// `--NAME VALUE` or `--NAME=VALUE`, in the command `of`.
+fn option<'a>(alloc: Global, of: &str, name: &'a str, required: bool) -> Arg<'a>
     ensures rule { rule_of result ≡ option name.entry.now required }
     ensures global { result.global ≡ false }
 {
-    let described = described(name);
+    let described = described(of, name);
     Arg::new(alloc, name)
         .long(name)
         .action(ArgAction::Set)
@@ -186,24 +255,24 @@ fn option<'a>(alloc: Global, name: &'a str, required: bool) -> Arg<'a>
         .help(described.help)
 }
 
-/// `--NAME`
-fn flag<'a>(alloc: Global, name: &'a str) -> Arg<'a>
+/// `--NAME`, in the command `of`.
+fn flag<'a>(alloc: Global, of: &str, name: &'a str) -> Arg<'a>
     ensures rule { rule_of result ≡ flag name.entry.now }
     ensures global { result.global ≡ false }
 {
-    let described = described(name);
+    let described = described(of, name);
     Arg::new(alloc, name)
         .long(name)
         .action(ArgAction::SetTrue)
         .help(described.help)
 }
 
-/// A word, which has to be there.
-fn operand<'a>(alloc: Global, name: &'a str) -> Arg<'a>
+/// A word of the command `of`, which has to be there.
+fn operand<'a>(alloc: Global, of: &str, name: &'a str) -> Arg<'a>
     ensures rule { rule_of result ≡ operand name.entry.now }
     ensures global { result.global ≡ false }
 {
-    let described = described(name);
+    let described = described(of, name);
     Arg::new(alloc, name)
         .action(ArgAction::Set)
         .required(true)

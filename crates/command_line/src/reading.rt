@@ -1,21 +1,24 @@
 //! The command that the words say.
-ghost use Rattle.std.specs.Prelude.{◌≡◌, IfOk, map, option_map, string_bytes};
+ghost use Rattle.std.specs.Prelude.{◌≡◌, IfOk, codes, map, option_map, string_bytes};
 ghost use Rattle.std.specs.Option.{option_and_then};
 ghost use Rattle.clap.specs.Words.{first_of, found_of, rows_of, subcommand_rows_of};
 ghost use Rattle.farm_model.specs.Numbers.{at_most, number_of};
+ghost use Rattle.command_line.specs.Addresses.{address_with};
 ghost use Rattle.command_line.specs.Ranges.{from_1_to};
-ghost use Rattle.command_line.specs.CommandLine.{command_of, command_value, is_said, judge_of, make_of, said_of, script_of, serve_of, size_of, size_value};
+ghost use Rattle.command_line.specs.CommandLine.{command_of, command_value, host_of, is_said, judge_of, make_of, patience_with, said_of, script_of, serve_of, size_of, size_value, store_of, wait_with};
 
+use crate::address::read_address;
 use crate::checks::are_plain;
 use crate::host_count::HostCount;
 use crate::made_size::MadeSize;
 use crate::parsing::parse;
-use crate::serving::{Connections, Lanes};
+use crate::serving::{Connections, Lanes, Patience};
 use crate::words::Command;
 use clap::ArgMatches;
 use command_text::read_number;
-use farm_kinds::NoMemory;
+use farm_kinds::{Name, NoMemory};
 use std::alloc::Global;
+use std::net::{IpAddr, Ipv4Addr};
 
 /// Reads the words of the command line. None where they are no command.
 pub fn read_command<'a>(alloc: Global, words: &'a [String]) -> Result<Option<Command<'a>>, NoMemory>
@@ -49,11 +52,17 @@ fn said_of<'a>(name: &str, found: &ArgMatches<'a>) -> Option<Command<'a>>
     if name == "script" {
         return Some(script(found));
     }
+    if name == "store" {
+        return store(found);
+    }
     if name == "make" {
         return make(found);
     }
     if name == "serve" {
         return serve(found);
+    }
+    if name == "host" {
+        return host(found);
     }
     None
 }
@@ -76,7 +85,15 @@ fn script<'a>(found: &ArgMatches<'a>) -> Command<'a>
 {
     Command::Script {
         config: text(found, "config"),
+        store: text(found, "store"),
     }
+}
+
+fn store<'a>(found: &ArgMatches<'a>) -> Option<Command<'a>>
+    ensures { option_map command_value result ≡ store_of (rows_of (found_of found.now)) }
+{
+    let path = text(found, "file")?;
+    Some(Command::Store { path })
 }
 
 fn make<'a>(found: &ArgMatches<'a>) -> Option<Command<'a>>
@@ -100,15 +117,100 @@ fn serve<'a>(found: &ArgMatches<'a>) -> Option<Command<'a>>
     ensures { option_map command_value result ≡ serve_of (rows_of (found_of found.now)) }
 {
     let folder = text(found, "folder")?;
+    let address = address(found)?;
     let port = port(number(found, "port")?)?;
     let lanes = Lanes::new(number(found, "lanes")?)?;
     let connections = Connections::new(number(found, "connections")?)?;
+    let patience = patience(found)?;
+    let until_input_ends = is_said(found, "until-input-ends");
     Some(Command::Serve {
         folder,
+        address,
         port,
         lanes,
         connections,
+        patience,
+        until_input_ends,
     })
+}
+
+/// The address that is said, or that of the machine itself. None where what is said is no address.
+fn address(found: &ArgMatches<'_>) -> Option<IpAddr>
+    ensures { result ≡ address_with (first_of (codes "address") (rows_of (found_of found.now))) }
+{
+    let Some(said) = text(found, "address") else {
+        return Some(IpAddr::V4(Ipv4Addr::LOCALHOST));
+    };
+    read_address(said)
+}
+
+/// The patience that is said, or that of a minute. None where what is said is no such number.
+fn patience(found: &ArgMatches<'_>) -> Option<Patience>
+    ensures { option_map (λ patience. patience.seconds) result
+        ≡ patience_with (first_of (codes "patience") (rows_of (found_of found.now))) }
+{
+    let Some(said) = text(found, "patience") else {
+        return Patience::new(60);
+    };
+    Patience::new(read_number(said.as_bytes())?)
+}
+
+fn host<'a>(found: &ArgMatches<'a>) -> Option<Command<'a>>
+    ensures { option_map command_value result ≡ host_of (rows_of (found_of found.now)) }
+{
+    let address = text(found, "address")?;
+    let port = port_in_use(number(found, "port")?)?;
+    let name = Name::read(text(found, "name")?.as_bytes())?;
+    let fuel = fuel(number(found, "fuel")?)?;
+    let wait = wait(found)?;
+    Some(Command::Host {
+        address,
+        port,
+        name,
+        fuel,
+        wait,
+    })
+}
+
+/// For how many seconds a host pauses, where it is said. None where that is no such number.
+fn wait(found: &ArgMatches<'_>) -> Option<Option<u16>>
+    ensures { result ≡ wait_with (first_of (codes "wait") (rows_of (found_of found.now))) }
+{
+    let Some(said) = text(found, "wait") else {
+        return Some(None);
+    };
+    let seconds = seconds(read_number(said.as_bytes())?)?;
+    Some(Some(seconds))
+}
+
+/// A number of seconds up to a minute, where the number is one.
+fn seconds(number: u32) -> Option<u16>
+    ensures { result ≡ from_1_to 60 number }
+{
+    if number < 1 || number > 60 {
+        return None;
+    }
+    Some(number as u16)
+}
+
+/// A number of claims, where the number is one.
+fn fuel(number: u32) -> Option<u32>
+    ensures { result ≡ from_1_to 4294967295 number }
+{
+    if number < 1 {
+        return None;
+    }
+    Some(number)
+}
+
+/// A port at which a server may listen, where the number is one.
+fn port_in_use(number: u32) -> Option<u16>
+    ensures { result ≡ from_1_to 65535 number }
+{
+    if number < 1 {
+        return None;
+    }
+    port(number)
 }
 
 /// A port of a machine, where the number is one.

@@ -1,10 +1,12 @@
 //! What is wrong with words that are no command.
+use crate::address::read_address;
 use crate::checks::{is_plain, joined_value};
 use crate::described::described;
 use crate::grammar::{command_named, helping_command};
 use clap::error::ErrorKind;
 use clap::{Arg, ArgMatches, Command};
 use command_text::read_number;
+use farm_kinds::Name;
 use std::alloc::{AllocError, Global};
 
 /// The text of an error of `clap`, with the usage of the command that the words name.
@@ -22,7 +24,7 @@ pub(crate) fn unfit(
     let mut command = named_by(alloc, words)?;
     let message = match odd_word(alloc, words, words.len())? {
         Some(message) => message,
-        None => odd_number(alloc, &command, found)?,
+        None => odd_value(alloc, &command, found)?,
     };
     refused_by(alloc, &mut command, message.as_str())
 }
@@ -88,15 +90,21 @@ fn odd_text(alloc: Global, word: &str) -> Result<String, AllocError> {
     }
 }
 
-/// Which number of the command that was found is not in its range.
-fn odd_number(
+/// Which value of the command that was found is no name, no address, or a number that is not in its range.
+fn odd_value(
     alloc: Global,
     command: &Command<'_>,
     found: &ArgMatches<'_>,
 ) -> Result<String, AllocError> {
-    if let Some((_, found)) = found.subcommand() {
+    if let Some((name, found)) = found.subcommand() {
         for arg in command.get_arguments() {
-            if let Some(text) = number_text(alloc, arg, found)? {
+            if let Some(text) = name_text(alloc, arg, found)? {
+                return Ok(text);
+            }
+            if let Some(text) = address_text(alloc, name, arg, found)? {
+                return Ok(text);
+            }
+            if let Some(text) = number_text(alloc, name, arg, found)? {
                 return Ok(text);
             }
         }
@@ -104,14 +112,54 @@ fn odd_number(
     String::from_str(alloc, "these words are no command")
 }
 
-/// What is wrong with the number of this operand or option, if anything is.
-fn number_text(
+/// What is wrong with the name that this option is to have, if it is to have one and anything is.
+fn name_text(
     alloc: Global,
     arg: &Arg<'_>,
     found: &ArgMatches<'_>,
 ) -> Result<Option<String>, AllocError> {
     let id = arg.get_id();
-    let (Some((least, most)), Some(value)) = (described(id).range, found.get_str(id)) else {
+    let Some(value) = found.get_str(id) else {
+        return Ok(None);
+    };
+    if id != "name" || Name::read(value.as_bytes()).is_some() {
+        return Ok(None);
+    }
+    let text = format!(in alloc;
+        "invalid value '{value}' for '{arg}': wanted are 1 to 32 letters, digits, '_' and '-'"
+    )?;
+    Ok(Some(text))
+}
+
+/// What is wrong with the address at which a server is to listen, if this option of a command is one and anything is.
+fn address_text(
+    alloc: Global,
+    of: &str,
+    arg: &Arg<'_>,
+    found: &ArgMatches<'_>,
+) -> Result<Option<String>, AllocError> {
+    let id = arg.get_id();
+    let Some(value) = found.get_str(id) else {
+        return Ok(None);
+    };
+    if of != "serve" || id != "address" || read_address(value).is_some() {
+        return Ok(None);
+    }
+    let text = format!(in alloc;
+        "invalid value '{value}' for '{arg}': wanted is an IPv4 or IPv6 address, as 0.0.0.0 or ::1"
+    )?;
+    Ok(Some(text))
+}
+
+/// What is wrong with the number of this operand or option of a command, if anything is.
+fn number_text(
+    alloc: Global,
+    of: &str,
+    arg: &Arg<'_>,
+    found: &ArgMatches<'_>,
+) -> Result<Option<String>, AllocError> {
+    let id = arg.get_id();
+    let (Some((least, most)), Some(value)) = (described(of, id).range, found.get_str(id)) else {
         return Ok(None);
     };
     if let Some(number) = read_number(value.as_bytes()) {

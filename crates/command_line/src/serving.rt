@@ -61,3 +61,34 @@ impl Connections {
         self.count
     }
 }
+
+/// For how many seconds a server waits for what a client is to say or to take: from 1 to 3,600.
+#[derive(Clone, Copy, Debug, PartialEq, Eq)]
+pub struct Patience {
+    seconds: u16,
+    ghost some: { 1 ≤ seconds },
+    ghost few: { seconds ≤ 3600 },
+}
+
+impl Patience {
+    /// So many seconds. None where they are too few or too many.
+    pub fn new(seconds: u32) -> Option<Patience>
+        ensures { option_map (λ patience. patience.seconds) result ≡ from_1_to 3600 seconds }
+    {
+        if seconds < 1 || seconds > 3600 {
+            return None;
+        }
+        Some(Patience {
+            seconds: seconds as u16,
+        })
+    }
+
+    /// The number.
+    pub fn get(self) -> u16
+        ensures value { result ≡ self.seconds }
+        ensures some { 1 ≤ result }
+        ensures few { result ≤ 3600 }
+    {
+        self.seconds
+    }
+}

@@ -10,10 +10,17 @@ returns c = record {
   spaced = refl;
   joined = refl;
   second_sign = refl;
+  spaced_store = refl;
+  joined_store = refl;
+  config_and_store = refl;
+  store_and_config = refl;
   no_value = refl;
   empty_value = refl;
   value_with_dash = refl;
   joined_value_with_dash = refl;
   operand = refl;
   other_option = refl;
+  store_twice = refl;
+  no_store = refl;
+  empty_store = refl;
 }
