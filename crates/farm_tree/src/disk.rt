@@ -1,9 +1,9 @@
-ghost use Rattle.std.specs.Prelude.{◌≡◌, ◌≢◌, ◌≤◌, ◌<◌, ℕ, length, take, None, IfOk, IfSome, All};
+ghost use Rattle.std.specs.Prelude.{◌≡◌, ◌≢◌, ◌≤◌, ◌<◌, ◌↔◌, ℕ, IsTrue, length, take, None, IfOk, IfSome, All};
 ghost use Rattle.std.specs.Str.{IsUtf8};
 ghost use Rattle.std.specs.IoError.{error_kind};
 ghost use Rattle.farm_tree.specs.declared.entries.Entry.{Entry};
 ghost use Rattle.farm_tree.specs.Reading.{HasCause, CountsFault, file_limit, path_limit};
-ghost use Rattle.farm_tree.specs.Disk.{meaning, IsRefusal};
+ghost use Rattle.farm_tree.specs.Disk.{meaning, IsSpecial, IsRefusal};
 
 use crate::entries::{Entries, Entry};
 use crate::reads::{FILE_LIMIT, PATH_LIMIT, Tree, TreeErr};
@@ -11,6 +11,8 @@ use farm_kinds::Text;
 use std::alloc::Global;
 use std::fs::{DirEntry, File, Files, Metadata, OpenFile};
 use std::io::{ErrorKind, Read};
+use std::os::unix::fs::MetadataExt;
+use std::path::Path;
 use std::{fs, io};
 
 /// The files of `std` as a tree. It tells nothing of what they hold.
@@ -19,6 +21,10 @@ use std::{fs, io};
 /// than 4,096 bytes, or of a folder in which a name is no UTF-8, is an error. That no file is there, or a folder
 /// is, that a file is too large, and want of memory are no errors. Links are followed; one that leads nowhere is
 /// listed as a file, which is absent.
+///
+/// A pipe, a socket and a device are no files, and a read of one is an error at once: to open them could wait. A
+/// listing of a link to a folder that the path itself goes through, as `data/a` where it is a link to `data`, is an
+/// error, so that a walk comes to an end where links lead back.
 #[derive(Drop)]
 pub struct DiskTree<R> {
     pub files: R,
@@ -91,7 +97,7 @@ fn list_folder<R: Files + Alloc<A = Global> + Clone + Drop>(
     ensures within { IfOk result (λ _. length path.now ≤ path_limit) }
     ensures text { IfOk result (λ entries. All (λ (entry : Entry). IsUtf8 entry.name) entries) }
 {
-    if path.len() > PATH_LIMIT {
+    if path.len() > PATH_LIMIT || leads_back(files, path).map_err(meaning)? {
         return Err(TreeErr::Failed);
     }
     let mut entries = Entries::new(alloc);
@@ -100,6 +106,26 @@ fn list_folder<R: Files + Alloc<A = Global> + Clone + Drop>(
         entries.push(entry).map_err(|_| TreeErr::NoMemory)?;
     }
     Ok(entries)
+}
+
+/// Whether the path is a link to a folder that it goes through. A link can lead back further only where a walk goes
+/// through it twice, and then the second time is such a path.
+fn leads_back<R: Files>(files: &R, path: &str) -> io::Result<bool> {
+    if !fs::symlink_metadata(files, path)?.is_symlink() {
+        return Ok(false);
+    }
+    let target = fs::metadata(files, path)?;
+    for above in Path::new(path).ancestors().skip(1) {
+        if !above.as_str().is_empty() && is_same(&fs::metadata(files, above)?, &target) {
+            return Ok(true);
+        }
+    }
+    Ok(false)
+}
+
+/// Whether both tell of one file or folder of the system.
+fn is_same(first: &Metadata, second: &Metadata) -> bool {
+    first.dev() == second.dev() && first.ino() == second.ino()
 }
 
 /// The entry of a folder: its name, and whether it is a folder.
@@ -126,10 +152,14 @@ fn entry_of<R: Files>(
     })
 }
 
-/// The bytes of the file at the path.
+/// The bytes of the file at the path. What it is is asked before it is opened, since the opening of a pipe waits for
+/// a writer, and again of what was opened.
 fn read_file<R: Files>(files: &R, alloc: Global, path: &str) -> Result<Text, TreeErr>
     ensures { IfOk result (λ bytes. length bytes ≤ file_limit) }
 {
+    if is_special(&fs::metadata(files, path).map_err(meaning)?) {
+        return Err(TreeErr::Failed);
+    }
     let file = File::open(files, path).map_err(meaning)?;
     let about = file.metadata().map_err(meaning)?;
     match refusal(&about) {
@@ -138,12 +168,22 @@ fn read_file<R: Files>(files: &R, alloc: Global, path: &str) -> Result<Text, Tre
     }
 }
 
+/// Whether the metadata tells of no file and no folder: a pipe, a socket or a device.
+fn is_special(about: &Metadata) -> bool
+    ensures { IsTrue result ↔ IsSpecial about.now }
+{
+    !about.is_file() && !about.is_dir()
+}
+
 /// Why what the metadata tells of is not read.
 fn refusal(about: &Metadata) -> Option<TreeErr>
     ensures { IsRefusal about.now result }
 {
     if about.is_dir() {
         return Some(TreeErr::Absent);
+    }
+    if !about.is_file() {
+        return Some(TreeErr::Failed);
     }
     let len = about.len();
     if len > FILE_LIMIT as u64 {
