@@ -21,7 +21,7 @@ pub fn in_folder(alloc: Global, folder: &str, name: &str) -> Result<String, NoMe
 }
 
 /// The text with this ending.
-pub(crate) fn with_ending(alloc: Global, text: &str, ending: &str) -> Result<String, NoMemory>
+pub fn with_ending(alloc: Global, text: &str, ending: &str) -> Result<String, NoMemory>
     ensures { IfOk result (λ path. string_bytes path ≡ text.now ++ ending.now) }
 {
     let mut path = String::from_str(alloc, text)?;
@@ -37,7 +37,7 @@ pub fn copy(alloc: Global, bytes: &[u8]) -> Result<Text, NoMemory>
 }
 
 /// The file at the path, which has this name in the package, or None where there is none.
-pub(crate) fn read_file<T: Tree>(
+pub fn read_file<T: Tree>(
     alloc: Global,
     tree: &mut T,
     path: &str,

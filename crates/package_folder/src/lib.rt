@@ -18,8 +18,10 @@ mod stems;
 mod walk;
 mod worked;
 
-pub use files::{copy, in_folder};
+pub use files::{copy, in_folder, read_file, with_ending};
 pub use order::Paths;
 pub use package::{Checker, Package, PackageFault, Test, Tests};
 pub use reading::read_package;
+pub use stems::name_below;
+pub use walk::paths_below;
 pub use worked::{worked_folder, worked_package, worked_tests, worked_validators};

@@ -63,7 +63,7 @@ impl Paths {
     }
 
     /// Whether the path is among them, which are in the order of their bytes.
-    pub(crate) fn has(&self, path: &str) -> bool
+    pub fn has(&self, path: &str) -> bool
         requires { IsRising self.now }
         ensures { result ≡ list_any (bytes_eq path.now) self.now }
     {

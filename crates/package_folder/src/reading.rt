@@ -10,7 +10,7 @@ use crate::checking::check_by;
 use crate::files::{copy, in_folder, read_file, with_ending};
 use crate::package::{Package, PackageFault, Test, Tests};
 use crate::stems::{name_below, stems_of};
-use crate::walk::walk;
+use crate::walk::paths_below;
 use default_validator::Flags;
 use farm_kinds::Text;
 use farm_tree::Tree;
@@ -116,7 +116,7 @@ fn read_data<T: Tree>(alloc: Global, tree: &mut T, path: &str) -> Result<Tests, 
     ensures cause { result ≡ Err PackageFault.Tree → Rose (T.faults tree.old) (T.faults tree.new) }
 {
     let folder = in_folder(alloc, path, "data")?;
-    let paths = walk(alloc, tree, folder.as_str())?;
+    let paths = paths_below(alloc, tree, folder.as_str())?;
     let stems = stems_of(alloc, folder.as_str(), &paths)?;
     read_tests(alloc, tree, path, folder.as_str(), stems.as_slice())
 }

@@ -68,7 +68,7 @@ fn first_groups(paths: &[String]) -> Option<&str>
 }
 
 /// What the path is called below the folder.
-pub(crate) fn name_below(alloc: Global, folder: &str, path: &str) -> Result<Text, NoMemory>
+pub fn name_below(alloc: Global, folder: &str, path: &str) -> Result<Text, NoMemory>
     ensures { IfOk result (λ name. name ≡ name_below folder.now path.now) }
 {
     match farm_tree::below(folder, path.as_bytes()) {

@@ -20,7 +20,7 @@ use std::str;
 ///
 /// It lists folders level by level. A folder whose path is as long as a path can be is refused by the tree, so
 /// the levels come to an end whatever the tree tells.
-pub(crate) fn walk<T: Tree>(
+pub fn paths_below<T: Tree>(
     alloc: Global,
     tree: &mut T,
     folder: &str,

@@ -2,7 +2,7 @@ use Rattle.std.proofs.Common.{◌≡◌, ◌≤◌}
 use Rattle.package_folder.specs.Told.{WhereTold}
 use Rattle.package_folder.specs.Walk.{Reaches}
 use Rattle.package_folder.proofs.Walks.{depth_left}
-use Rattle.package_folder.proofs.walk.walk.Given as goal
+use Rattle.package_folder.proofs.walk.paths_below.Given as goal
 
 abbrev pub invariant-levels : goal.invariant-levels
 invariant-levels g l = record {

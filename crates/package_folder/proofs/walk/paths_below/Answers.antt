@@ -1,7 +1,7 @@
 use Rattle.std.proofs.Common.{◌≡◌, ◌<◌, ◌==◌, List, ℕ, [], ◌∷◌, length, false, true, subst, sym, ◌∙◌, rules, arith, refl, eqb-true}
 use Rattle.package_folder.specs.Walk.{Reaches}
 use Rattle.package_folder.proofs.Walks.{falls, reaches_all}
-use Rattle.package_folder.proofs.walk.walk.Goals as goal
+use Rattle.package_folder.proofs.walk.paths_below.Goals as goal
 
 some : (paths : List (List ℕ)) → false ≡ (length paths == 0) → 0 < length paths
 some [] e = cc
