@@ -1,1 +1,3 @@
 pub mod Notes
+pub mod Files
+pub mod Package

@@ -1,6 +1,6 @@
 use farm_kinds::Text;
 
-/// Something in the files of a package that is skipped, or otherwise than one may think who wrote it.
+/// Something in the folder of a package that is skipped, or otherwise than one may think who wrote it.
 #[derive(Debug, Drop)]
 pub enum Note {
     /// A key of `problem.yaml` that is not read, and the number of its line from 1.
@@ -15,4 +15,14 @@ pub enum Note {
     IniKey { line: u32, key: Text },
     /// Nothing sets the time limit, which is 1 second then.
     StandardTime,
+    /// An answer of `data/sample` or `data/secret` beside which no input lies; its path below the package's folder.
+    LoneAnswer { name: Text },
+    /// A file there that is neither an input nor an answer; its path below the package's folder.
+    OtherFile { name: Text },
+    /// A file of `data` itself; its path below the package's folder.
+    OutsideFile { name: Text },
+    /// A folder of `data` that is neither `sample` nor `secret`, by its name.
+    OtherFolder { name: Text },
+    /// There are validators in `output_validators`, and `problem.yaml` asks for none.
+    Validators,
 }

@@ -1,6 +1,7 @@
 //! Notes on `problem.yaml` and `domjudge-problem.ini`.
 ghost use Rattle.std.specs.Prelude.{◌≡◌, ◌≤◌, ◌++◌, ◌∷◌, [], IfOk, IfSome, OnOk, length, option_map};
 ghost use Rattle.package_notes.specs.Notes.{ini_note, ini_notes, ini_notes_in, limit_notes, memory_notes, output_notes, time_notes, yaml_note, yaml_notes};
+ghost use Rattle.package_notes.specs.Package.{yaml_notes_in};
 
 use crate::notes::Note;
 use farm_kinds::NoMemory;
@@ -9,9 +10,20 @@ use problem_settings::{
 };
 use std::alloc::Global;
 
+/// The notes on the text of `problem.yaml`, where it is there.
+pub(crate) fn yaml_notes_in(alloc: Global, text: Option<&[u8]>) -> Result<Vec<Note>, NoMemory>
+    requires { IfSome text (λ text. length text.now ≤ 16777216) }
+    ensures { IfOk result (λ notes. notes.items ≡ yaml_notes_in (option_map (λ text. text.now) text.entry)) }
+{
+    match text {
+        Some(text) => yaml_notes(alloc, text),
+        None => Ok(Vec::new(alloc)),
+    }
+}
+
 /// The notes on the text of `problem.yaml`: each key that is not read, in the order of the lines, and then the limits that
 /// are cut down.
-pub fn yaml_notes(alloc: Global, text: &[u8]) -> Result<Vec<Note>, NoMemory>
+fn yaml_notes(alloc: Global, text: &[u8]) -> Result<Vec<Note>, NoMemory>
     requires { length text.now ≤ 16777216 }
     ensures { IfOk result (λ notes. notes.items ≡ yaml_notes text.now) }
 {
@@ -25,7 +37,7 @@ pub fn yaml_notes(alloc: Global, text: &[u8]) -> Result<Vec<Note>, NoMemory>
 
 /// The notes on the text of `domjudge-problem.ini`, which need not be there: each key that is not read, in the order of the
 /// lines, and then that nothing sets the time limit, where nothing does.
-pub fn ini_notes(alloc: Global, text: Option<&[u8]>) -> Result<Vec<Note>, NoMemory>
+pub(crate) fn ini_notes(alloc: Global, text: Option<&[u8]>) -> Result<Vec<Note>, NoMemory>
     requires { IfSome text (λ text. length text.now ≤ 16777216) }
     ensures { IfOk result (λ notes. notes.items ≡ ini_notes_in (option_map (λ text. text.now) text.entry)) }
 {
@@ -53,7 +65,7 @@ fn notes_on(alloc: Global, text: &[u8]) -> Result<Vec<Note>, NoMemory>
 }
 
 /// Adds a note.
-fn push_note(notes: &mut Vec<Note>, note: Note) -> Result<(), NoMemory>
+pub(crate) fn push_note(notes: &mut Vec<Note>, note: Note) -> Result<(), NoMemory>
     ensures { OnOk result (notes.new.items ≡ notes.old.items ++ note ∷ []) }
 {
     notes.push(note).map_err(|_| NoMemory)

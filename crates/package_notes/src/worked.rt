@@ -1,6 +1,7 @@
 ghost use Rattle.std.specs.Prelude.{◌≡◌, [], ◌∷◌, Some, None, codes};
+ghost use Rattle.package_notes.specs.Files.{file_notes, folder_notes};
 ghost use Rattle.package_notes.specs.Notes.{ini_notes_in, yaml_notes};
-ghost use Rattle.package_notes.specs.declared.notes.Note.TheVariants.{IniKey, LimitKey, Memory, Output, StandardTime, YamlKey};
+ghost use Rattle.package_notes.specs.declared.notes.Note.TheVariants.{IniKey, LimitKey, LoneAnswer, Memory, OtherFile, OtherFolder, Output, OutsideFile, StandardTime, YamlKey};
 
 /// Notes on small files, and files beside them on which there are none.
 pub fn worked_notes()
@@ -14,4 +15,15 @@ pub fn worked_notes()
     ensures settings { ini_notes_in (Some (codes "color=red\ntimelimit=1\n# a=b\n; c=d\n")) ≡ IniKey 1 (codes "color") ∷ [] }
     ensures no_limit { ini_notes_in (Some (codes "# timelimit=1\n")) ≡ StandardTime ∷ [] }
     ensures no_file { ini_notes_in None ≡ StandardTime ∷ [] }
+{}
+
+/// Notes on the files and folders of `data` in the package `p`, and files beside them on which there are none.
+pub fn worked_files()
+    ensures test { file_notes (codes "p") (codes "p/data/secret/1.ans" ∷ codes "p/data/secret/1.in" ∷ []) ≡ [] }
+    ensures lone { file_notes (codes "p") (codes "p/data/secret/1.ans" ∷ codes "p/data/secret/2.in" ∷ []) ≡ LoneAnswer (codes "data/secret/1.ans") ∷ [] }
+    ensures other { file_notes (codes "p") (codes "p/data/secret/01.IN" ∷ []) ≡ OtherFile (codes "data/secret/01.IN") ∷ [] }
+    ensures outside { file_notes (codes "p") (codes "p/data/1.in" ∷ []) ≡ OutsideFile (codes "data/1.in") ∷ [] }
+    ensures elsewhere { file_notes (codes "p") (codes "p/data/extra/1.txt" ∷ []) ≡ [] }
+    ensures folders { folder_notes (codes "p/data") (codes "p/data/extra/1.in" ∷ codes "p/data/extra/2.in" ∷ codes "p/data/secrets/x" ∷ []) ≡ OtherFolder (codes "extra") ∷ OtherFolder (codes "secrets") ∷ [] }
+    ensures tests { folder_notes (codes "p/data") (codes "p/data/1.in" ∷ codes "p/data/sample/a/b" ∷ codes "p/data/secret/1.in" ∷ []) ≡ [] }
 {}
