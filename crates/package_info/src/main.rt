@@ -1,15 +1,17 @@
-//! `package_info FOLDER`: reads a problem package and says what it has, or its first fault.
+//! `package_info FOLDER`: reads a problem package and says what it has, with notes on what of it is skipped, or its first
+//! fault.
 #![tactic(auto)]
 
-mod faults;
 mod report;
 mod words;
 
-use crate::faults::fault_text;
 use crate::report::report;
 use crate::words::{Asked, read_words};
-use farm_tree::DiskTree;
-use package_folder::{Package, PackageFault, read_package};
+use farm_kinds::Text;
+use farm_tree::{DiskTree, Tree};
+use package_folder::{Package, PackageFault, in_folder, read_package};
+use package_notes::{fault_text, note_text, package_notes};
+use std::alloc::AllocError;
 use std::io::Write;
 use std::process::ExitCode;
 use std::{env, io};
@@ -47,21 +49,47 @@ fn run(rt: &HostRuntime) -> io::Result<u8> {
 fn tell(rt: &HostRuntime, path: &str) -> io::Result<u8> {
     let mut tree = DiskTree::new(rt, rt.alloc());
     match read_package(rt.alloc(), &mut tree, path, INSTRUCTIONS_PER_SECOND) {
-        Ok(package) => tell_package(rt, &package),
-        Err(fault) => tell_fault(rt, path, &fault),
+        Ok(package) => {
+            tell_package(rt, &package)?;
+            tell_notes(rt, &mut tree, path)?;
+            Ok(0)
+        }
+        Err(fault) => tell_fault(rt, &mut tree, path, &fault),
     }
 }
 
 /// Prints what a package has.
-fn tell_package(rt: &HostRuntime, package: &Package) -> io::Result<u8> {
+fn tell_package(rt: &HostRuntime, package: &Package) -> io::Result<()> {
     let text = report(rt.alloc(), package)?;
-    io::writer(rt).write_all(text.as_slice())?;
-    Ok(0)
+    io::writer(rt).write_all(text.as_slice())
+}
+
+/// Says on standard error what of the package at the path is skipped.
+fn tell_notes<T: Tree>(rt: &HostRuntime, tree: &mut T, path: &str) -> io::Result<()> {
+    let notes = match package_notes(rt.alloc(), tree, path) {
+        Ok(notes) => notes,
+        Err(fault) => {
+            let text = fault_text(rt.alloc(), &fault, &[])?;
+            return eprintln!(rt; "note: {text}");
+        }
+    };
+    for note in &notes {
+        let text = note_text(rt.alloc(), note)?;
+        eprintln!(rt; "note: {text}")?;
+    }
+    Ok(())
 }
 
 /// Says why the folder at the path is no package.
-fn tell_fault(rt: &HostRuntime, path: &str, fault: &PackageFault) -> io::Result<u8> {
-    let text = fault_text(rt.alloc(), fault)?;
+fn tell_fault<T: Tree>(
+    rt: &HostRuntime,
+    tree: &mut T,
+    path: &str,
+    fault: &PackageFault,
+) -> io::Result<u8> {
+    let file = in_folder(rt.alloc(), path, "problem.yaml").map_err(|_| AllocError)?;
+    let yaml = tree.read(file.as_str()).unwrap_or(Text::new(rt.alloc()));
+    let text = fault_text(rt.alloc(), fault, yaml.as_slice())?;
     eprintln!(rt; "package_info: {path}: {text}")?;
     Ok(1)
 }
