@@ -1,19 +1,25 @@
-//! `rvrun [OPTIONS] IMAGE`: runs a raw RV32IM image on the metered machine, within limits.
+//! `rvrun [OPTIONS] IMAGE`: runs an RV32IM program on the metered machine, within limits, as `farm judge` does.
 //!
 //! Standard input is the program's descriptor 0, and what the program writes to descriptor 1 goes to standard output. A
 //! line on standard error says how the run ended, its cost, its pages, and how long loading and running took, in
-//! nanoseconds.
+//! nanoseconds. With a judge's answer another line says the verdict.
 #![tactic(auto)]
 
 ghost use Rattle.std.specs.Prelude.{◌≡◌, true};
-ghost use Rattle.farm_kinds.specs.Limits.{is_raw_image};
+ghost use Rattle.case_run.specs.Images.{is_image};
 
+mod checking;
+mod opening;
 mod report;
 mod words;
 
+use crate::checking::judge;
+use crate::opening::open;
 use crate::report::{Report, run_to_end};
-use crate::words::{Asked, read_words};
-use farm_kinds::{Limits, raw_image};
+use crate::words::{Asked, Run, read_words};
+use case_run::image_ok;
+use farm_kinds::Limits;
+use program_notes::program_fault;
 use rv_machine::{Ending, Files, Machine, Trap};
 use std::alloc::{AllocError, Global};
 use std::io::{Read, Write};
@@ -35,7 +41,7 @@ fn main(rt: HostRuntime) -> ExitCode {
 fn run(rt: &HostRuntime) -> io::Result<u8> {
     let words = env::args(rt)?.collect::<Vec<String>>(rt.alloc())?;
     match read_words(rt.alloc(), words.as_slice())? {
-        Asked::Run(command) => run_command(rt, command.image, command.limits),
+        Asked::Run(command) => run_command(rt, &command),
         Asked::Help(text) => {
             io::writer(rt).write_all(text.as_bytes())?;
             Ok(0)
@@ -47,8 +53,9 @@ fn run(rt: &HostRuntime) -> io::Result<u8> {
     }
 }
 
-/// Runs the image at a path within limits, and gives the status.
-fn run_command(rt: &HostRuntime, path: &str, limits: Limits) -> io::Result<u8> {
+/// Runs the image that the command names, and gives the status.
+fn run_command(rt: &HostRuntime, command: &Run<'_>) -> io::Result<u8> {
+    let path = command.image;
     let image = match fs::read(rt, path) {
         Ok(image) => image,
         Err(error) => {
@@ -56,30 +63,40 @@ fn run_command(rt: &HostRuntime, path: &str, limits: Limits) -> io::Result<u8> {
             return Ok(1);
         }
     };
-    if !raw_image(image.as_slice()) {
-        eprintln!(rt; "rvrun: {path} is no raw image, which has 1 to 262,144 words of 4 bytes")?;
+    if !image_ok(image.as_slice()) {
+        tell_fault(rt, path, image.as_slice())?;
         return Ok(1);
     }
-    run_image(rt, limits, image.as_slice())?;
-    Ok(0)
-}
-
-/// Runs an image on standard input, writes its output and says how it ended.
-fn run_image(rt: &HostRuntime, limits: Limits, image: &[u8]) -> io::Result<()>
-    requires { is_raw_image image.now ≡ true }
-{
     let mut stdin = Vec::new(rt.alloc());
     rt.reader().read_to_end(&mut stdin)?;
-    run_on(rt, limits, image, stdin.as_slice())
+    run_on(rt, command.limits, image.as_slice(), stdin.as_slice())?;
+    match &command.check {
+        Some(check) => judge(
+            rt,
+            command.limits,
+            image.as_slice(),
+            stdin.as_slice(),
+            check,
+        ),
+        None => Ok(0),
+    }
+}
+
+/// Says why the file at the path is no program.
+fn tell_fault(rt: &HostRuntime, path: &str, image: &[u8]) -> io::Result<()> {
+    match program_fault(rt.alloc(), image)? {
+        Some(fault) => eprintln!(rt; "rvrun: {path} is no program: it {fault}"),
+        None => eprintln!(rt; "rvrun: {path} is no program"),
+    }
 }
 
 /// Runs an image on this input, writes its output and says how it ended.
 fn run_on(rt: &HostRuntime, limits: Limits, image: &[u8], stdin: &[u8]) -> io::Result<()>
-    requires { is_raw_image image.now ≡ true }
+    requires { is_image image.now ≡ true }
 {
     let files = Files { stdin, extra: None };
     let start = Instant::now(rt)?;
-    let loaded = Machine::load(rt.alloc(), image, limits, files);
+    let loaded = open(rt.alloc(), image, limits, files);
     let load = start.elapsed(rt)?.as_nanos();
     match loaded {
         Ok(mut machine) => run_machine(rt, &mut machine, load),

@@ -11,11 +11,23 @@ const STANDARD: Limits = Limits {
     output: 16_777_216,
 };
 
-/// What is run: the path of an image, and what it may use.
+/// What is run: the path of an image, what it may use, and how its output is checked, where it is.
 #[derive(Clone, Copy)]
 pub struct Run<'a> {
     pub image: &'a str,
     pub limits: Limits,
+    pub check: Option<Checked<'a>>,
+}
+
+/// How an output is checked.
+#[derive(Clone, Copy)]
+pub struct Checked<'a> {
+    /// The path of the judge's answer.
+    pub answer: &'a str,
+    /// The path of a validator's image. None for the default validator.
+    pub validator: Option<&'a str>,
+    /// The flags of the validator.
+    pub flags: &'a str,
 }
 
 /// What the words ask for.
@@ -34,7 +46,9 @@ What the program writes to descriptor 1 goes to standard output. A line on
 standard error says how the run ended, and how long loading and running took:
   ending WORD cost C pages P load NANOSECONDS run NANOSECONDS
 WORD: exit=CODE, time, memory, output, nomemory, or trap=illegal, jump,
-misaligned, break, call or range.
+misaligned, break, call or range. With --answer another line says how the run is
+judged:
+  verdict KIND
 
 Status: 0 the image was run, however it ended; 1 it could not be read or run, or
 its output not be written; 2 usage.";
@@ -67,11 +81,21 @@ fn run_of<'a>(
                 pages,
                 output,
             },
+            check: check_of(found),
         })),
         (_, None, _, _) => refused(alloc, program, found, "instructions", u64::MAX),
         (_, _, None, _) => refused(alloc, program, found, "pages", u32::MAX as u64),
         _ => refused(alloc, program, found, "output", u32::MAX as u64),
     }
+}
+
+/// How the output is checked. None where no answer is said.
+fn check_of<'a>(found: &ArgMatches<'a>) -> Option<Checked<'a>> {
+    Some(Checked {
+        answer: found.get_str("answer")?,
+        validator: found.get_str("validator"),
+        flags: found.get_str("flags").unwrap_or(""),
+    })
 }
 
 /// What is said of an option whose value is no number up to the most.
@@ -101,12 +125,12 @@ fn small(number: Option<u64>) -> Option<u32> {
     u32::try_from(number?).ok()
 }
 
-/// `rvrun [--instructions N] [--pages N] [--output N] IMAGE`
+/// `rvrun [--instructions N] [--pages N] [--output N] [--answer FILE [--validator IMAGE] [--flags TEXT]] IMAGE`
 fn grammar<'a>(alloc: Global) -> Result<Command<'a>, AllocError> {
     let image = Arg::new(alloc, "image")
         .required(true)
         .value_name("IMAGE")
-        .help("A raw RV32IM image: 32-bit words, at most 1048576 bytes");
+        .help("An ELF32 executable for RISC-V or a raw RV32IM image, at most 1048576 bytes");
     Command::new(alloc, "rvrun")
         .version("0.1.0")
         .about("Runs an RV32IM image on standard input, within limits")
@@ -126,10 +150,38 @@ fn grammar<'a>(alloc: Global) -> Result<Command<'a>, AllocError> {
             alloc,
             "output",
             "How many bytes it may write, 0 to 4294967295; standard 16777216",
-        ))
+        ))?
+        .arg(file(
+            alloc,
+            "answer",
+            "FILE",
+            "The judge's answer, by which the output is checked",
+        ))?
+        .arg(file(
+            alloc,
+            "validator",
+            "IMAGE",
+            "A raw image that checks the output, in place of the default validator",
+        )
+        .requires_arg("answer")?)?
+        .arg(file(
+            alloc,
+            "flags",
+            "TEXT",
+            "The validator's flags, as validator_flags has them",
+        )
+        .requires_arg("answer")?)
 }
 
 /// `--NAME N`
 fn option<'a>(alloc: Global, name: &'a str, help: &'a str) -> Arg<'a> {
     Arg::new(alloc, name).long(name).value_name("N").help(help)
+}
+
+/// `--NAME VALUE`
+fn file<'a>(alloc: Global, name: &'a str, value: &'a str, help: &'a str) -> Arg<'a> {
+    Arg::new(alloc, name)
+        .long(name)
+        .value_name(value)
+        .help(help)
 }

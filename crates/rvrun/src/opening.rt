@@ -1,0 +1,60 @@
+//! The machine before a run.
+ghost use Rattle.std.specs.Prelude.{◌≡◌, IfOk, true, fold, take};
+ghost use Rattle.elf_image.specs.Header.{has_magic};
+ghost use Rattle.elf_image.specs.Image.{IsSound};
+ghost use Rattle.rv_machine.specs.Inputs.{inputs_of};
+ghost use Rattle.case_run.specs.Images.{is_image, opened, with_segments};
+
+use elf_image::{Elf, read_elf};
+use farm_kinds::{Limits, NoMemory};
+use rv_machine::{Files, Machine};
+use std::alloc::Global;
+
+/// A machine with the program of an image, before its run: the state from which a test of `farm judge` begins.
+#[tactic(auto, unfolding(case_run::specs::Images::opened, case_run::specs::Images::is_image))]
+pub fn open<'a>(
+    alloc: Global,
+    image: &[u8],
+    limits: Limits,
+    files: Files<'a>,
+) -> Result<Machine<'a>, NoMemory>
+    requires { is_image image.now ≡ true }
+    ensures { IfOk result (λ machine. machine ≡ opened image.now limits (inputs_of files.entry)) }
+{
+    if !has_magic(image) {
+        return Machine::load(alloc, image, limits, files);
+    }
+    match read_elf(image) {
+        Ok(elf) => load_segments(alloc, image, &elf, limits, files),
+        // an image that begins so has no fault
+        Err(_) => Ok(Machine::blank(alloc, limits, files, 0)),
+    }
+}
+
+/// Whether the bytes begin as an ELF file.
+fn has_magic(bytes: &[u8]) -> bool
+    ensures { result ≡ has_magic bytes.now }
+{
+    bytes.len() >= 4 && bytes[0] == 0x7F && bytes[1] == b'E' && bytes[2] == b'L' && bytes[3] == b'F'
+}
+
+/// A machine with the segments of an executable.
+#[tactic(auto, using(std::proofs::lemmas::List::Sums::fold_more))]
+fn load_segments<'a>(
+    alloc: Global,
+    file: &[u8],
+    elf: &Elf,
+    limits: Limits,
+    files: Files<'a>,
+) -> Result<Machine<'a>, NoMemory>
+    requires { IsSound file.now elf.now }
+    ensures { IfOk result (λ machine. machine ≡ with_segments file.now elf.now limits (inputs_of files.entry)) }
+{
+    let mut machine = Machine::blank(alloc, limits, files, elf.entry());
+    for i in 0..elf.count() {
+        let segment = elf.segment(i);
+        let start = segment.offset as usize;
+        machine.place(segment.at, &file[start..start + segment.len as usize])?;
+    }
+    Ok(machine)
+}
