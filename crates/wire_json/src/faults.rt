@@ -47,6 +47,9 @@ impl Field {
 /// Why a body says nothing.
 #[derive(Clone, Copy, Debug, PartialEq, Eq)]
 pub enum BodyFault {
+    /// The body has more than 131,072 bytes with which a list, an object, or a value behind the first of one begins. No
+    /// request needs so many, and reading them would take many times the body's size.
+    TooManyValues,
     /// The body is no JSON text (RFC 8259) in UTF-8, is nested deeper than 127, or is no object.
     NotJson,
     /// The body lacks this field.
@@ -73,6 +76,7 @@ fn why_text(alloc: Global, fault: BodyFault) -> Result<String, AllocError>
     ensures { IfOk result (λ text. string_bytes text ≡ why_text fault) }
 {
     match fault {
+        BodyFault::TooManyValues => String::from_str(alloc, "too-many-values"),
         BodyFault::NotJson => String::from_str(alloc, "not-json"),
         BodyFault::MissingField { name } => format!(in alloc; "missing {}", name.name()),
         BodyFault::BadField { name } => format!(in alloc; "bad {}", name.name()),

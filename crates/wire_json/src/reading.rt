@@ -1,8 +1,8 @@
-ghost use Rattle.std.specs.Prelude.{◌≡◌, ◌⊎◌, false, Some, None, Ok, IfOk, IfErr};
+ghost use Rattle.std.specs.Prelude.{◌≡◌, ◌⊎◌, false, true, Some, None, Ok, Err, IfOk, IfErr};
 ghost use Rattle.serde_json.specs.View.{view};
 ghost use Rattle.wire_json.specs.declared.bodies.Body.TheVariants as body;
 ghost use Rattle.wire_json.specs.Fields.{IsReading};
-ghost use Rattle.wire_json.specs.Bodies.{object_of, host_body, fetch_body, run_body, held_body, actor_body, rejudge_body, body_of, has_fields};
+ghost use Rattle.wire_json.specs.Bodies.{begins_value, has_too_many_values, in_object, object_of, host_body, fetch_body, run_body, held_body, actor_body, rejudge_body, body_of, has_fields};
 
 use crate::bodies::Body;
 use crate::faults::{BodyFault, Field};
@@ -34,6 +34,36 @@ pub fn object_of(alloc: Global, bytes: &[u8]) -> Result<Value, BodyFault>
             Err(BodyFault::NotJson)
         }
     }
+}
+
+/// How many bytes of a body may begin a value.
+const MOST_VALUES: usize = 131_072;
+
+/// Whether the byte begins a list, an object, or what stands behind their first value.
+fn begins_value(b: u8) -> bool
+    ensures { result ≡ begins_value b }
+{
+    b == b',' || b == b'[' || b == b'{'
+}
+
+/// Whether a body has more values than are read.
+fn has_too_many_values(bytes: &[u8]) -> bool
+    ensures { result ≡ has_too_many_values bytes.now }
+{
+    bytes.iter().filter(|b| begins_value(**b)).count() > MOST_VALUES
+}
+
+/// The object that a body is, unless it has more values than are read.
+fn fields_of(alloc: Global, bytes: &[u8]) -> Result<Value, BodyFault>
+    ensures ok { IfOk result (λ v. (has_too_many_values bytes.now ≡ false) × (object_of bytes.now ≡ Some (view v))) }
+    ensures too_many { result ≡ Err BodyFault.TooManyValues → has_too_many_values bytes.now ≡ true }
+    ensures not_json { result ≡ Err BodyFault.NotJson → (has_too_many_values bytes.now ≡ false) × (object_of bytes.now ≡ None) }
+    ensures err { IfErr result (λ e. (e ≡ BodyFault.TooManyValues) ⊎ (e ≡ BodyFault.NotJson) ⊎ (e ≡ BodyFault.NoMemory)) }
+{
+    if has_too_many_values(bytes) {
+        return Err(BodyFault::TooManyValues);
+    }
+    object_of(alloc, bytes)
 }
 
 /// The name of a judgehost.
@@ -103,20 +133,21 @@ fn rejudge_body(alloc: Global, fields: &Value) -> Result<Body, BodyFault>
 /// What the body of this route says, or its first fault. The fields are looked at in the order of the
 /// route's list; others are ignored, and of a field that stands more than once the last value counts.
 ///
-/// A body without fields is not looked at. An empty body counts as `{}`.
+/// A body without fields is not looked at. An empty body counts as `{}`. One with too many values is refused before it is
+/// read, so that what is held beside it is bounded.
 pub fn read_body(alloc: Global, route: Route, bytes: &[u8]) -> Result<Body, BodyFault>
     ensures said { IsReading (body_of route bytes.now) result }
     ensures unread { has_fields route ≡ false → result ≡ Ok body.Empty }
 {
     match route {
-        Route::Hosts | Route::Down => host_body(&object_of(alloc, bytes)?),
-        Route::FetchWork => fetch_body(&object_of(alloc, bytes)?),
-        Route::AddRun => run_body(&object_of(alloc, bytes)?),
-        Route::Renew => held_body(&object_of(alloc, bytes)?),
-        Route::Verify(_) | Route::Ask(_) => actor_body(&object_of(alloc, bytes)?),
-        Route::Apply(_) | Route::Cancel(_) => actor_body(&object_of(alloc, bytes)?),
-        Route::Rejudgings => rejudge_body(alloc, &object_of(alloc, bytes)?),
+        Route::Hosts | Route::Down => host_body(&fields_of(alloc, bytes)?),
+        Route::FetchWork => fetch_body(&fields_of(alloc, bytes)?),
+        Route::AddRun => run_body(&fields_of(alloc, bytes)?),
+        Route::Renew => held_body(&fields_of(alloc, bytes)?),
+        Route::Verify(_) | Route::Ask(_) => actor_body(&fields_of(alloc, bytes)?),
+        Route::Apply(_) | Route::Cancel(_) => actor_body(&fields_of(alloc, bytes)?),
+        Route::Rejudgings => rejudge_body(alloc, &fields_of(alloc, bytes)?),
         Route::Judgement(_) | Route::Submission(_) | Route::Rejudging(_) => Ok(Body::Empty),
-        Route::Board | Route::Audit => Ok(Body::Empty),
+        Route::Job { .. } | Route::Board | Route::Audit => Ok(Body::Empty),
     }
 }

@@ -13,6 +13,8 @@ pub enum Route {
     Renew,
     /// `POST /judgehosts/down`: a judgehost goes down.
     Down,
+    /// `GET /judgehosts/job/{judging}/{test}`: a judgehost asks for the program and the files of a test of a judging.
+    Job { judging: u32, test: u32 },
     /// `GET /judgements/{id}`: what is reported of a judging.
     Judgement(u32),
     /// `GET /judgements/{id}/submission`: the submission of a judging.

@@ -9,7 +9,7 @@ ghost use Rattle.farm_kinds.specs.declared.events.Reply.TheVariants as reply;
 ghost use Rattle.wire_json.specs.declared.bodies.Body.TheVariants as body;
 ghost use Rattle.wire_json.specs.declared.routes.Route.TheVariants as route;
 ghost use Rattle.wire_json.specs.declared.faults.Field.TheVariants as field;
-ghost use Rattle.wire_json.specs.declared.faults.BodyFault.TheVariants.{NotJson, MissingField, BadField};
+ghost use Rattle.wire_json.specs.declared.faults.BodyFault.TheVariants.{TooManyValues, NotJson, MissingField, BadField};
 ghost use Rattle.wire_json.specs.Bodies.{body_of};
 ghost use Rattle.wire_json.specs.Replies.{json_of};
 ghost use Rattle.wire_json.specs.FaultTexts.{json_of_fault};
@@ -38,6 +38,7 @@ pub fn worked_faults()
     ensures table_order { body_of route.Rejudgings (codes "{\"who\":null,\"submissions\":[1,-2]}") ≡ Err (BadField field.Submissions) }
     ensures bad_max { compact_text (json_of_fault (BadField field.Max)) ≡ codes "{\"reply\":\"bad-body\",\"why\":\"bad max\"}" }
     ensures missing { compact_text (json_of_fault (MissingField field.Hostname)) ≡ codes "{\"reply\":\"bad-body\",\"why\":\"missing hostname\"}" }
+    ensures too_many { compact_text (json_of_fault TooManyValues) ≡ codes "{\"reply\":\"bad-body\",\"why\":\"too-many-values\"}" }
     ensures not_json { compact_text (json_of_fault NotJson) ≡ codes "{\"reply\":\"bad-body\",\"why\":\"not-json\"}" }
 {}
 

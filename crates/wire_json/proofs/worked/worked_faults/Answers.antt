@@ -38,3 +38,7 @@ returns-clause-missing c = refl
 pub returns-clause-not_json : goal.returns-clause-not_json
 unfolding serde_json_on_literals
 returns-clause-not_json c = refl
+
+pub returns-clause-too_many : goal.returns-clause-too_many
+unfolding serde_json_on_literals
+returns-clause-too_many c = refl
