@@ -1,4 +1,4 @@
-ghost use Rattle.std.specs.Prelude.{◌≡◌, ◌≢◌, ◌≤◌, ◌-◌, ◌++◌, [], max, MatchResult, IsNone, IfSome, ◌↔◌, replicate, ℕ};
+ghost use Rattle.std.specs.Prelude.{◌≡◌, ◌≢◌, ◌⊎◌, ◌≤◌, ◌-◌, ◌++◌, ◌∷◌, [], max, MatchResult, IsNone, IfSome, ◌↔◌, replicate, ℕ};
 ghost use Rattle.std.specs.Option.{option_to_list};
 ghost use Rattle.left_right.specs.Sides.{view};
 ghost use Rattle.public_board.specs.Reading.{LooksAt, SeesRows, SeesRow};
@@ -139,5 +139,12 @@ impl<R: Row, J: Publication<R>> Readers<R, J> {
         ensures same { (n : ℕ) (r : ReaderValue R) → self.old ≡ replicate n r → IfSome result (λ x. (x ≡ r) × (self.new ≡ replicate (n - 1) r)) }
     {
         self.readers.pop()
+    }
+
+    /// Puts a reader back, for another thread to take it. There is room for all that were taken: without room it is let go.
+    pub fn put(&mut self, reader: Reader<R, J>)
+        ensures puts { (self.new ≡ self.old ++ reader ∷ []) ⊎ (self.new ≡ self.old) }
+    {
+        let _kept = self.readers.push(reader);
     }
 }
