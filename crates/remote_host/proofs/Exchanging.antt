@@ -1,5 +1,5 @@
 -- A request that is put, and the bytes that are taken for its response.
-use Rattle.std.proofs.Common.{ℕ, ◌≡◌, List, [], ◌++◌, Option, None, Err, refl, sym, ap, ◌∙◌, subst, take, drop}
+use Rattle.std.proofs.Common.{ℕ, ◌≡◌, List, [], Option, None, Err, refl, sym, ap, subst, take, drop}
 use Rattle.std.specs.Io.KnownBytes.{Appends, Consumes, IsAtEnd}
 use Rattle.std.proofs.lemmas.List.{append-nil, take-append-drop}
 use Rattle.std.proofs.KnownBytes.{Consumes-nil}
@@ -10,7 +10,7 @@ use Rattle.http_door.specs.declared.answers.ending.AnswerEnding.TheVariants as e
 use Rattle.http_door.specs.Answers.{EndsAs}
 use Rattle.http_door.specs.AnswerReaderValue.{ReaderValue}
 use Rattle.http_door.specs.AnswerReading.{Reads}
-use Rattle.remote_host.specs.Standing.{Line, IfHeadWrong, Stopped}
+use Rattle.remote_host.specs.Standing.{IfHeadWrong, Stopped}
 use Rattle.remote_host.specs.Halts.{halt_of, head_wrong}
 
 pub stopped_put : (held held' left left' : Option (List ℕ)) (ahead request : List ℕ) → Puts held held' put.Failed request → left' ≡ left

@@ -3,10 +3,9 @@ use Rattle.std.proofs.Common.{ℕ, suc, ◌≡◌, ◌+◌, ◌≤◌, ◌⊎◌
 use Rattle.std.specs.Io.KnownBytes.{Appends, Consumes}
 use Rattle.std.proofs.lemmas.List.{append-nil}
 use Rattle.std.proofs.KnownBytes.{Consumes-nil, Consumes-trans, Appends-nil, Appends-trans}
-use Rattle.std.specs.List.{flat_map}
-use Rattle.http_door.specs.Answers.{Answer, IsAnswer, AreAnswers}
+use Rattle.http_door.specs.Answers.{Answer, AreAnswers}
 use Rattle.http_door.specs.AnswerReading.{answer_with}
-use Rattle.http_door.proofs.AnswerCutting.{answer_more, answers_more, answers_last}
+use Rattle.http_door.proofs.AnswerCutting.{answers_more, answers_last}
 use Rattle.remote_host.specs.declared.asks.Caller.{Caller}
 use Rattle.remote_host.specs.declared.asks.Ask.{Ask}
 use Rattle.remote_host.specs.declared.asks.Ask.TheVariants as ask
@@ -15,11 +14,10 @@ use Rattle.judgehost.specs.declared.bench.BenchFault.{BenchFault}
 use Rattle.remote_host.specs.declared.exchange.Halt.{Halt}
 use Rattle.remote_host.specs.declared.exchange.Halt.TheVariants as halt
 use Rattle.remote_host.specs.declared.asks.Wrong.{Wrong}
-use Rattle.remote_host.specs.declared.asks.TalkEnd.{TalkEnd}
 use Rattle.remote_host.specs.declared.asks.TalkEnd.TheVariants as end
 use Rattle.remote_host.specs.Talk.{Talk, talk, turns, ended, onto, after, answered, count_fetch, count_post, fetches_in, posts_in}
 use Rattle.remote_host.specs.Requests.{spell, spelled}
-use Rattle.remote_host.specs.Standing.{Line, Took, Exchanged, IsHeadWrong, Stopped, Stands, IfWronged, Breaks, Asked, first_wrong}
+use Rattle.remote_host.specs.Standing.{Line, Took, Exchanged, Stopped, Stands, IfWronged, Breaks, Asked, first_wrong}
 
 pub after_last : (us : List Ask) (a : Ask) (t : Talk) → after us (onto a t) ≡ after (us ++ a ∷ []) t
 after_last [] a t = refl
@@ -235,3 +233,7 @@ err_same e f r h q = cc
 pub link_rose : (a b m n : ℕ) (h : Halt) → a ≤ b → m ≤ n → (h ≡ halt.Failed → Rose a b) → (h ≡ halt.Failed) ⊎ Rose m n → Rose (a + m) (b + n)
 link_rose a b m n h ab mn failed (inl f) = omega (arith, failed f, ab, mn)
 link_rose a b m n h ab mn failed (inr r) = omega (arith, r, ab, mn)
+
+-- a count that rose is not 0
+pub rose_some : (before now : ℕ) → Rose before now → 1 ≤ now
+rose_some before now r = omega (arith, r)

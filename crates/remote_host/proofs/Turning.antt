@@ -1,5 +1,5 @@
 -- A turn, by what it heard.
-use Rattle.std.proofs.Common.{ℕ, suc, ◌≡◌, ◌+◌, List, Option, None, Some, Ok, Err, true, refl, sym, subst}
+use Rattle.std.proofs.Common.{ℕ, suc, ◌≡◌, ◌+◌, List, Option, None, Some, Result, Ok, Err, true, refl, sym, ap, subst}
 use Rattle.farm_kinds.specs.declared.outcomes.Task.{Task}
 use Rattle.farm_kinds.specs.declared.kinds.Kind.{Kind}
 use Rattle.farm_kinds.specs.declared.events.Reply.{Reply}
@@ -7,7 +7,7 @@ use Rattle.case_run.specs.Cases.{TestCase}
 use Rattle.case_run.specs.Values.{case_value}
 use Rattle.judgehost.specs.declared.bench.BenchFault.{BenchFault}
 use Rattle.judgehost.specs.declared.bench.BenchFault.TheVariants as fault
-use Rattle.judgehost.specs.Benches.{Heard, Nothing}
+use Rattle.judgehost.specs.Benches.{Heard, Nothing, Refused}
 use Rattle.wire_job.specs.JobValue.{JobValue}
 use Rattle.http_door.specs.Answers.{Answer}
 use Rattle.remote_host.specs.declared.asks.Ask.TheVariants as ask
@@ -15,9 +15,8 @@ use Rattle.remote_host.specs.declared.asks.Fetched.{Fetched}
 use Rattle.remote_host.specs.declared.asks.Caller.{Caller}
 use Rattle.remote_host.specs.declared.asks.Wrong.{Wrong}
 use Rattle.remote_host.specs.Bodies.{post_said}
-use Rattle.remote_host.specs.Talk.{Talk, talk, turns, onto, answered, idle_next, job_next, post_next}
-use Rattle.remote_host.specs.Standing.{Line, Stands, Breaks, FetchedAt, JobAt, PostedAt, RefusedAt, TurnedAt, GoesOnAt, IsAt, IsPlain}
-use Rattle.remote_host.specs.Benches.{pending_job}
+use Rattle.remote_host.specs.Talk.{Talk, turns, onto, answered, idle_next, job_next, post_next}
+use Rattle.remote_host.specs.Standing.{Line, Stands, Breaks, FetchedAt, PostedAt, RefusedAt, TurnedAt, GoesOnAt, IsAt, IsPlain}
 use Rattle.remote_host.proofs.Talking.{stands_turn, stands_as}
 
 pub plain_refused : (who : Caller) (start now : Line) (claims fetched posted : ℕ) (w : Option Wrong) (e : BenchFault) → IsPlain e → Breaks who start now claims w → RefusedAt who start now claims fetched posted w e
@@ -68,6 +67,10 @@ resumed who start now claims next posts p w h e on s is =
     let t = subst (IsAt who start now claims posts p w) is s in
     let g = stands_as who start now claims claims posts (λ n more. idle_next who (turns who n) more) (λ n more. turns who n more) (λ n more. idle_on who (turns who n) more on) t.2 in
     (t.0, subst (λ (z : Option (Task × TestCase)). GoesOnAt who start now next next posts z) (sym t.1) (subst (λ (z : ℕ). Stands who start now z z posts (λ n more. turns who n more)) (sym e) g))
+
+-- the refusal that was heard is the one that was answered
+pub refused_is : {A : Type 0} (e f : BenchFault) → ◌≡◌ {A = Option Heard} (Some (Refused e)) (Some (Refused f)) → ◌≡◌ {A = Result A BenchFault} (Err e) (Err f)
+refused_is {A} e f q = let same : e ≡ f = cc in ap Err same
 
 -- before a post
 pub post_from : (who : Caller) (start now : Line) (claims posts : ℕ) (p : Option (Task × TestCase)) (w : Option Wrong) (h : Option Heard) (task : Task) (kind : Kind) (c : TestCase) → IsAt who start now claims posts p w h → h ≡ None

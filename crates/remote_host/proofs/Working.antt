@@ -1,11 +1,12 @@
 -- What a host's run put, by how it ended.
-use Rattle.std.proofs.Common.{ℕ, zero, ◌≡◌, ◌+◌, ◌-◌, ◌≤◌, ◌⊎◌, inl, inr, List, [], ◌∷◌, ◌++◌, Option, None, Some, false, refl, sym, ap, ◌∙◌, subst, arith}
+use Rattle.std.proofs.Common.{ℕ, zero, ◌≡◌, ◌≢◌, ◌+◌, ◌-◌, ◌≤◌, inl, inr, List, [], ◌∷◌, Option, None, Some, Result, Err, false, refl, sym, ap, ◌∙◌, subst, arith}
 use Rattle.std.specs.Io.KnownBytes.{Appends}
 use Rattle.std.proofs.lemmas.List.{append-nil}
 use Rattle.farm_kinds.specs.declared.outcomes.Task.{Task}
 use Rattle.case_run.specs.Cases.{TestCase}
 use Rattle.judgehost.specs.declared.bench.BenchFault.{BenchFault}
 use Rattle.judgehost.specs.declared.bench.BenchFault.TheVariants as fault
+use Rattle.judgehost.specs.declared.gate.Point.{Point}
 use Rattle.judgehost.specs.declared.host.HostEnd.{HostEnd}
 use Rattle.judgehost.specs.declared.host.HostEnd.TheVariants as host
 use Rattle.judgehost.specs.Benches.{Heard, Nothing, Refused}
@@ -15,11 +16,11 @@ use Rattle.remote_host.specs.declared.asks.Caller.{Caller}
 use Rattle.remote_host.specs.declared.asks.Wrong.{Wrong}
 use Rattle.remote_host.specs.declared.asks.TalkEnd.{TalkEnd}
 use Rattle.remote_host.specs.declared.asks.TalkEnd.TheVariants as end
-use Rattle.remote_host.specs.Talk.{Talk, talk, turns, ended, after, fetches_in, posts_in, idle_next, job_next}
+use Rattle.remote_host.specs.Talk.{Talk, talk, turns, ended, after, fetches_in, posts_in, idle_next}
 use Rattle.remote_host.specs.Requests.{spelled}
 use Rattle.remote_host.specs.Standing.{Line, Stands, Breaks, IfWronged, GoesOnAt, RefusedAt, IsAt, IsPlain}
-use Rattle.remote_host.specs.Benches.{is_pending, pending_job}
-use Rattle.remote_host.specs.Ends.{Talked, Fronts, Broken, IfWrong, RefusedAs, WorkedAs}
+use Rattle.remote_host.specs.Benches.{is_pending, pending_job, IfFailed, died_heard, end_heard}
+use Rattle.remote_host.specs.Ends.{Talked, Begun, Fronts, Broken, IfWrong, RefusedAs, WorkedAs}
 use Rattle.remote_host.proofs.Talking.{asks_after, end_after, stands_front, stands_as}
 
 -- the talk has ended, and so it is the same for as many turns or more
@@ -123,20 +124,86 @@ idle_as who start now claims posts fuel p w s h le =
     stands_talked who start now claims claims posts fuel end.Idle
     (stands_as who start now claims claims posts (λ n more. idle_next who (turns who n) more) (λ n more. ended end.Idle) (λ n more. idle_ends who (turns who n) more h) s.2) le
 
+-- all that was put are whole requests
+stands_begun : (who : Caller) (start now : Line) (claims posts fuel : ℕ) (f : ℕ → List Answer → Talk) → Stands who start now claims claims posts f → claims ≤ fuel → Begun who start now fuel claims posts
+stands_begun who start now claims posts fuel f s le =
+    let is : claims + (fuel - claims) ≡ fuel = omega (arith, le) in
+    record {
+      answers = s.answers;
+      took = s.took;
+      asks = s.asks;
+      rest = (f (fuel - claims) []).asks;
+      puts = s.puts;
+      front = ap (λ m. (talk who m s.answers).asks) (sym is) ∙ ap (λ z. (talk who (claims + (fuel - claims)) z).asks) (sym (append-nil s.answers))
+          ∙ ap (λ (t : Talk). t.asks) (s.goes (fuel - claims) []) ∙ asks_after s.asks (f (fuel - claims) []);
+      claims_are = s.fetches_are;
+      posts_are = s.posts_are;
+    }
+
+goes_on_begun : (who : Caller) (start now : Line) (claims posts fuel : ℕ) (p : Option (Task × TestCase)) → GoesOnAt who start now claims claims posts p → claims ≤ fuel → Begun who start now fuel claims posts
+goes_on_begun who start now claims posts fuel None s le = stands_begun who start now claims posts fuel (λ n more. turns who n more) s le
+goes_on_begun who start now claims posts fuel (Some p) s le = stands_begun who start now claims posts fuel _ s le
+
+-- the gate let the host die, unless it was refused before
+died_as : (who : Caller) (start now : Line) (claims posts fuel : ℕ) (p : Option (Task × TestCase)) (w : Option Wrong) (h : Option Heard) (point : Point) (turn : ℕ) → IsAt who start now claims posts p w h → claims ≤ fuel
+    → WorkedAs who start now fuel claims posts w (died_heard h (host.Died point turn))
+died_as who start now claims posts fuel p w None point turn s le = goes_on_begun who start now claims posts fuel p s.1 le
+died_as who start now claims posts fuel p w (Some Nothing) point turn s le = stands_begun who start now claims posts fuel _ s.2 le
+died_as who start now claims posts fuel p w (Some (Refused e)) point turn s le = refused_as who start now claims posts fuel w e s le
+
+-- the end of the loop is the host's, unless this was refused
+pub end_is : (h : Option Heard) (d e k : HostEnd) → e ≡ end_heard h d → e ≡ k → ((f : BenchFault) → k ≢ host.Bench f) → d ≡ k
+end_is h host.Idle e k is q other = sym is ∙ q
+end_is None (host.Died p t) e k is q other = sym is ∙ q
+end_is (Some Nothing) (host.Died p t) e k is q other = sym is ∙ q
+end_is (Some (Refused f)) (host.Died p t) e k is q other = absurd (other f (sym q ∙ is))
+end_is h host.Fuel e k is q other = sym is ∙ q
+end_is h (host.Bench f) e k is q other = sym is ∙ q
+end_is h host.NoMemory e k is q other = sym is ∙ q
+
+pub idle_is : (h : Option Heard) (d e : HostEnd) → e ≡ end_heard h d → e ≡ host.Idle → d ≡ host.Idle
+idle_is h d e is q = end_is h d e host.Idle is q (λ f b. cc)
+
+pub died_is : (h : Option Heard) (d e : HostEnd) (p : Point) (t : ℕ) → e ≡ end_heard h d → e ≡ host.Died p t → d ≡ host.Died p t
+died_is h d e p t is q = end_is h d e (host.Died p t) is q (λ f b. cc)
+
+pub bench_is : (e f : BenchFault) → host.Bench e ≡ host.Bench f → ◌≡◌ {A = Result (Unit {0}) BenchFault} (Err e) (Err f)
+bench_is e f q = let same : e ≡ f = cc in ap Err same
+
+-- a host that was refused heard it last
+pub refused_heard : (h : Option Heard) (d e : HostEnd) (f : BenchFault) → e ≡ end_heard h d → ((g : BenchFault) → d ≡ host.Bench g → h ≡ Some (Refused g)) → e ≡ host.Bench f → h ≡ Some (Refused f)
+refused_heard h host.Idle e f is refused q = let bad : host.Idle ≡ host.Bench f = sym is ∙ q in cc
+refused_heard None (host.Died p t) e f is refused q = let bad : host.Died p t ≡ host.Bench f = sym is ∙ q in cc
+refused_heard (Some Nothing) (host.Died p t) e f is refused q = let bad : host.Died p t ≡ host.Bench f = sym is ∙ q in cc
+refused_heard (Some (Refused g)) (host.Died p t) e f is refused q = let same : host.Bench g ≡ host.Bench f = sym is ∙ q in cc
+refused_heard h host.Fuel e f is refused q = let bad : host.Fuel ≡ host.Bench f = sym is ∙ q in cc
+refused_heard h (host.Bench g) e f is refused q = refused f (sym is ∙ q)
+refused_heard h host.NoMemory e f is refused q = let bad : host.NoMemory ≡ host.Bench f = sym is ∙ q in cc
+
 -- all that was put, by how the host ended
 pub worked_as : (who : Caller) (start now : Line) (claims fuel posts tasks : ℕ) (j : Option JobValue) (w : Option Wrong) (h : Option Heard) (e : HostEnd)
     → IsAt who start now claims posts (pending_job j) w h → claims ≤ fuel → posts + is_pending j ≤ tasks
     → (e ≡ host.Idle → who.waits ≡ false) → (e ≡ host.Idle → h ≡ Some Nothing) → ((f : BenchFault) → e ≡ host.Bench f → h ≡ Some (Refused f))
     → (e ≡ host.Fuel → h ≡ None) → (e ≡ host.Fuel → claims ≡ fuel) → (e ≡ host.Fuel → posts ≡ tasks)
-    → WorkedAs who start now fuel claims posts w e
+    → WorkedAs who start now fuel claims posts w (end_heard h e)
 worked_as who start now claims fuel posts tasks j w h host.Idle s le few quits idle refused unheard spent all =
     idle_as who start now claims posts fuel (pending_job j) w (subst (IsAt who start now claims posts (pending_job j) w) (idle refl) s) (quits refl) le
-worked_as who start now claims fuel posts tasks j w h (host.Died p turn) s le few quits idle refused unheard spent all = at_front who start now claims posts fuel (pending_job j) w h s le
+worked_as who start now claims fuel posts tasks j w h (host.Died p turn) s le few quits idle refused unheard spent all = died_as who start now claims posts fuel (pending_job j) w h p turn s le
 worked_as who start now claims fuel posts tasks j w h host.Fuel s le few quits idle refused unheard spent all =
-    spent_as who start now claims posts fuel (pending_job j) w h s (unheard refl) (none_pending j posts tasks few (all refl)) (spent refl)
+    (spent_as who start now claims posts fuel (pending_job j) w h s (unheard refl) (none_pending j posts tasks few (all refl)) (spent refl), spent refl)
 worked_as who start now claims fuel posts tasks j w h (host.Bench f) s le few quits idle refused unheard spent all =
     refused_as who start now claims posts fuel w f (subst (IsAt who start now claims posts (pending_job j) w) (refused f refl) s) le
 worked_as who start now claims fuel posts tasks j w h host.NoMemory s le few quits idle refused unheard spent all = at_front who start now claims posts fuel (pending_job j) w h s le
+
+-- the same, of the host's end
+pub worked_heard : (who : Caller) (start now : Line) (claims fuel posts tasks : ℕ) (j : Option JobValue) (w : Option Wrong) (h : Option Heard) (e r : HostEnd) → r ≡ end_heard h e
+    → IsAt who start now claims posts (pending_job j) w h → claims ≤ fuel → posts + is_pending j ≤ tasks
+    → (r ≡ host.Idle → who.waits ≡ false) → (e ≡ host.Idle → h ≡ Some Nothing) → ((f : BenchFault) → e ≡ host.Bench f → h ≡ Some (Refused f))
+    → (e ≡ host.Fuel → h ≡ None) → (e ≡ host.Fuel → claims ≡ fuel) → (e ≡ host.Fuel → posts ≡ tasks)
+    → WorkedAs who start now fuel claims posts w r
+worked_heard who start now claims fuel posts tasks j w h e r is s le few quits idle refused unheard spent all =
+    subst (λ (z : HostEnd). WorkedAs who start now fuel claims posts w z) (sym is)
+    (worked_as who start now claims fuel posts tasks j w h e s le few (λ q. quits (is ∙ ap (end_heard h) q)) idle refused unheard spent all)
 
 -- the name was entered, and nothing was claimed yet
 pub entered_at : (who : Caller) (start now : Line) (before claims posts : ℕ) (j : Option JobValue) (w : Option Wrong) (h : Option Heard)
@@ -147,6 +214,13 @@ entered_at who start now before claims posts j w h b c pn jn wn hn s =
     (subst (λ (z : ℕ). Stands who start now z z 0 (λ n more. turns who n more)) zero_is s) in
     subst (λ (z : Option Heard). IsAt who start now (before + claims) posts (pending_job j) w z) (sym hn)
     (subst (λ (z : Option JobValue). (w ≡ None) × GoesOnAt who start now (before + claims) (before + claims) posts (pending_job z)) (sym jn) (wn, stands))
+
+-- nothing was heard, and so no fault
+pub unfailed : (h : Option Heard) (w : Option Wrong) (faults : ℕ) → h ≡ None → IfFailed h w faults
+unfailed h w faults hn = λ q v. (let bad : None ≡ Some (Refused fault.Link) = sym hn ∙ q in cc)
+
+pub idle_unfailed : (w : Option Wrong) (faults : ℕ) → IfFailed (Some Nothing) w faults
+idle_unfailed w faults = λ q v. cc
 
 -- the name was not entered
 pub refused_entry : (who : Caller) (start now : Line) (fuel claims posts : ℕ) (w : Option Wrong) (e : BenchFault) → IsPlain e → Breaks who start now 0 w → RefusedAs who start now fuel claims posts w e

@@ -1,9 +1,13 @@
 -- A remote bench as a bench.
-use Rattle.std.specs.Prelude.{◌≡◌, ℕ, Option, None, Some}
+use Rattle.std.specs.Prelude.{◌≡◌, ◌≤◌, ℕ, Option, None, Some}
 use Rattle.farm_kinds.specs.declared.outcomes.Task.{Task}
 use Rattle.case_run.specs.Cases.{TestCase}
-use Rattle.judgehost.specs.Benches.{Heard}
+use Rattle.judgehost.specs.declared.bench.BenchFault.TheVariants as fault
+use Rattle.judgehost.specs.declared.host.HostEnd.{HostEnd}
+use Rattle.judgehost.specs.declared.host.HostEnd.TheVariants as host
+use Rattle.judgehost.specs.Benches.{Heard, Nothing, Refused}
 use Rattle.wire_job.specs.JobValue.{JobValue}
+use Rattle.remote_host.specs.declared.asks.Wrong.{Wrong}
 
 -- how many jobs are pending
 abbrev pub is_pending : Option JobValue → ℕ
@@ -22,3 +26,20 @@ pub record IsFresh (b c t p : ℕ) (j : Option JobValue) (h : Option Heard) : Ty
   pub posts : p ≡ 0
   pub job : j ≡ None
   pub heard : h ≡ None
+
+-- where the link failed and no answer was wrong, the connection has failed
+abbrev pub IfFailed : Option Heard → Option Wrong → (faults : ℕ) → Type 0
+IfFailed heard w faults = heard ≡ Some (Refused fault.Link) → w ≡ None → 1 ≤ faults
+
+-- how a host ended that heard this last: one that was refused ended so
+abbrev pub died_heard : Option Heard → HostEnd → HostEnd
+died_heard None e = e
+died_heard (Some Nothing) e = e
+died_heard (Some (Refused f)) e = host.Bench f
+
+abbrev pub end_heard : Option Heard → HostEnd → HostEnd
+end_heard heard host.Idle = host.Idle
+end_heard heard (host.Died p turn) = died_heard heard (host.Died p turn)
+end_heard heard host.Fuel = host.Fuel
+end_heard heard (host.Bench f) = host.Bench f
+end_heard heard host.NoMemory = host.NoMemory

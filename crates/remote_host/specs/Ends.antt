@@ -7,6 +7,7 @@ use Rattle.judgehost.specs.declared.host.HostEnd.{HostEnd}
 use Rattle.judgehost.specs.declared.host.HostEnd.TheVariants as host
 use Rattle.http_door.specs.Answers.{Answer}
 use Rattle.remote_host.specs.declared.asks.Caller.{Caller}
+use Rattle.remote_host.specs.declared.asks.Ask.{Ask}
 use Rattle.remote_host.specs.declared.asks.Wrong.{Wrong}
 use Rattle.remote_host.specs.declared.asks.TalkEnd.{TalkEnd}
 use Rattle.remote_host.specs.declared.asks.TalkEnd.TheVariants as end
@@ -23,6 +24,17 @@ pub record Talked (who : Caller) (start now : Line) (fuel claims posts : ℕ) (e
   pub end : (talk who fuel answers).end ≡ e
   pub claims_are : fetches_in (talk who fuel answers).asks ≡ claims
   pub posts_are : posts_in (talk who fuel answers).asks ≡ posts
+
+-- They are the first requests of it, of which so many ask for a task, and so many post a result.
+pub record Begun (who : Caller) (start now : Line) (fuel claims posts : ℕ) : Type 0 where
+  pub answers : List Answer
+  pub took : Took start now answers
+  pub asks : List Ask
+  pub rest : List Ask
+  pub puts : Appends start.held now.held (spelled who asks)
+  pub front : (talk who fuel answers).asks ≡ asks ++ rest
+  pub claims_are : fetches_in asks ≡ claims
+  pub posts_are : posts_in asks ≡ posts
 
 -- they are a front of it
 pub record Fronts (who : Caller) (start now : Line) (fuel : ℕ) : Type 0 where
@@ -59,7 +71,7 @@ RefusedAs who start now fuel claims posts w fault.NoMemory = Fronts who start no
 -- by how the host ended
 abbrev pub WorkedAs : Caller → Line → Line → (fuel claims posts : ℕ) → Option Wrong → HostEnd → Type 0
 WorkedAs who start now fuel claims posts w host.Idle = Talked who start now fuel claims posts end.Idle
-WorkedAs who start now fuel claims posts w (host.Died p turn) = Fronts who start now fuel
-WorkedAs who start now fuel claims posts w host.Fuel = Talked who start now fuel claims posts end.Spent
+WorkedAs who start now fuel claims posts w (host.Died p turn) = Begun who start now fuel claims posts
+WorkedAs who start now fuel claims posts w host.Fuel = Talked who start now fuel claims posts end.Spent × (claims ≡ fuel)
 WorkedAs who start now fuel claims posts w (host.Bench f) = RefusedAs who start now fuel claims posts w f
 WorkedAs who start now fuel claims posts w host.NoMemory = Fronts who start now fuel

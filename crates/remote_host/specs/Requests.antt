@@ -1,8 +1,7 @@
 -- The bytes of requests (RFC 9112, section 3).
-use Rattle.std.specs.Prelude.{ℕ, List, [], ◌∷◌, ◌++◌, length, codes}
+use Rattle.std.specs.Prelude.{ℕ, List, ◌++◌, length, codes}
 use Rattle.std.specs.Fmt.{decimal}
 use Rattle.std.specs.List.{flat_map}
-use Rattle.farm_kinds.specs.declared.outcomes.Task.{Task}
 use Rattle.farm_kinds.specs.Kinds.{name_of}
 use Rattle.remote_host.specs.declared.asks.Ask.{Ask}
 use Rattle.remote_host.specs.declared.asks.Ask.TheVariants as ask

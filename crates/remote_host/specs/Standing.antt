@@ -8,7 +8,6 @@ use Rattle.wire_job.specs.JobValue.{JobValue}
 use Rattle.judgehost.specs.declared.bench.BenchFault.{BenchFault}
 use Rattle.judgehost.specs.declared.bench.BenchFault.TheVariants as fault
 use Rattle.judgehost.specs.Benches.{Heard, Nothing, Refused}
-use Rattle.http_door.specs.declared.answers.ending.AnswerEnding.{AnswerEnding}
 use Rattle.http_door.specs.declared.answers.ending.AnswerEnding.TheVariants as ending
 use Rattle.http_door.specs.Answers.{Answer, IsAnswer, AreAnswers, EndsAs}
 use Rattle.remote_host.specs.declared.asks.Caller.{Caller}
@@ -16,7 +15,6 @@ use Rattle.remote_host.specs.declared.asks.Ask.{Ask}
 use Rattle.remote_host.specs.declared.asks.Fetched.{Fetched}
 use Rattle.remote_host.specs.declared.asks.Wrong.{Wrong}
 use Rattle.remote_host.specs.declared.asks.Wrong.TheVariants as wrong
-use Rattle.remote_host.specs.declared.asks.TalkEnd.{TalkEnd}
 use Rattle.remote_host.specs.declared.asks.TalkEnd.TheVariants as end
 use Rattle.remote_host.specs.Talk.{Talk, talk, turns, ended, after, fetches_in, posts_in, idle_next, fetch_next, job_next, post_next}
 use Rattle.remote_host.specs.Requests.{spelled}

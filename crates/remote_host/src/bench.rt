@@ -6,7 +6,7 @@ ghost use Rattle.case_run.specs.Cases.{TestCase};
 ghost use Rattle.case_run.specs.Values.{case_value};
 ghost use Rattle.judgehost.specs.Benches.{IsPending, heard_at_claim, heard_at_post, tasks_in};
 ghost use Rattle.remote_host.specs.Standing.{IsAt, EnteredAt, IsPlain};
-ghost use Rattle.remote_host.specs.Benches.{pending_job, is_pending, IsFresh};
+ghost use Rattle.remote_host.specs.Benches.{pending_job, is_pending, IsFresh, IfFailed, end_heard};
 
 use crate::asks::{Caller, Wrong};
 use crate::talker::Talker;
@@ -15,7 +15,7 @@ use farm_io::{Sink, Source};
 use farm_kinds::{Reply, Task};
 use http_door::AnswerReader;
 use http_server::Log;
-use judgehost::{Bench, BenchFault, Claimed, Done};
+use judgehost::{Bench, BenchFault, Claimed, Done, HostEnd};
 use std::alloc::Global;
 use wire_job::Job;
 
@@ -102,6 +102,8 @@ impl<N: Source + Sink> RemoteBench<N> {
         ensures link { result ≡ Err BenchFault.Link
             → Rose (N.Source.faults self.old.talker.conn + N.Sink.faults self.old.talker.conn + self.old.talker.wrongs)
             (N.Source.faults self.new.talker.conn + N.Sink.faults self.new.talker.conn + self.new.talker.wrongs) }
+        ensures failed { result ≡ Err BenchFault.Link → self.new.talker.wrong ≡ None
+            → 1 ≤ N.Source.faults self.new.talker.conn + N.Sink.faults self.new.talker.conn }
     {
         self.talker.enter(&self.caller)
     }
@@ -118,6 +120,23 @@ impl<N: Source + Sink> RemoteBench<N> {
         self.before += self.claims;
         self.claims = 0;
         self.heard = silence();
+    }
+
+    /// How the host ended, by what ended its loop and what it heard last: one that was refused ended so, and did not die.
+    pub fn end_heard(&self, end: HostEnd) -> HostEnd
+        ensures { result ≡ end_heard (heard_at_claim self.now.heard) end }
+    {
+        match end {
+            HostEnd::Idle => HostEnd::Idle,
+            HostEnd::Died { point, turn } => match self.heard {
+                Claimed::Task(_) => HostEnd::Died { point, turn },
+                Claimed::Nothing => HostEnd::Died { point, turn },
+                Claimed::Refused(fault) => HostEnd::Bench(fault),
+            },
+            HostEnd::Fuel => HostEnd::Fuel,
+            HostEnd::Bench(fault) => HostEnd::Bench(fault),
+            HostEnd::NoMemory => HostEnd::NoMemory,
+        }
     }
 
     /// Whether the host asks again where no task is open.
@@ -178,7 +197,8 @@ impl<N: Source + Sink> Bench for RemoteBench<N> {
     ghost sound = { λ b. (s : N) × (b.start.items ≡ (s, tt) ∷ []) × IsAt b.caller
         (record { held = N.held s; left = N.left s; ahead = [] })
         (record { held = N.held b.talker.conn; left = N.left b.talker.conn; ahead = b.talker.reader.ahead })
-        (b.before + b.claims) b.posts (pending_job b.job) b.talker.wrong (heard_at_claim b.heard) };
+        (b.before + b.claims) b.posts (pending_job b.job) b.talker.wrong (heard_at_claim b.heard)
+        × IfFailed (heard_at_claim b.heard) b.talker.wrong (N.Source.faults b.talker.conn + N.Sink.faults b.talker.conn) };
 
     fn claim(&mut self) -> Claimed {
         self.claims += 1;

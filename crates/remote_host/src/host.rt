@@ -4,14 +4,14 @@ ghost use Rattle.judgehost.specs.declared.gate.Go.{Go as GoValue};
 ghost use Rattle.judgehost.specs.declared.gate.Point.{Point as PointValue};
 ghost use Rattle.judgehost.specs.Benches.{Nothing, heard_at_claim};
 ghost use Rattle.remote_host.specs.Standing.{IsAt};
-ghost use Rattle.remote_host.specs.Benches.{pending_job, IsFresh};
+ghost use Rattle.remote_host.specs.Benches.{pending_job, IsFresh, IfFailed};
 ghost use Rattle.remote_host.specs.Ends.{WorkedAs};
 
 use crate::asks::{Caller, Wrong};
 use crate::bench::RemoteBench;
 use crate::pause::Pause;
 use farm_io::{Sink, Source};
-use judgehost::{Gate, Go, HostEnd, Runner, host_loop};
+use judgehost::{BenchFault, Gate, Go, HostEnd, Runner, host_loop};
 use std::alloc::Global;
 
 /// The number of the host to its gate.
@@ -33,7 +33,8 @@ fn round<N: Source + Sink, G: Gate>(
     requires sound { (s : N) × (bench.old.start.items ≡ (s, tt) ∷ []) × IsAt bench.old.caller
         (record { held = N.held s; left = N.left s; ahead = [] })
         (record { held = N.held bench.old.talker.conn; left = N.left bench.old.talker.conn; ahead = bench.old.talker.reader.ahead })
-        (bench.old.before + bench.old.claims) bench.old.posts (pending_job bench.old.job) bench.old.talker.wrong (heard_at_claim bench.old.heard) }
+        (bench.old.before + bench.old.claims) bench.old.posts (pending_job bench.old.job) bench.old.talker.wrong (heard_at_claim bench.old.heard)
+        × IfFailed (heard_at_claim bench.old.heard) bench.old.talker.wrong (N.Source.faults bench.old.talker.conn + N.Sink.faults bench.old.talker.conn) }
     ensures worked { (result ≡ HostEnd.Idle → bench.new.caller.waits ≡ false)
         → (s : N) × (bench.new.start.items ≡ (s, tt) ∷ []) × WorkedAs bench.new.caller
         (record { held = N.held s; left = N.left s; ahead = [] })
@@ -42,7 +43,8 @@ fn round<N: Source + Sink, G: Gate>(
     ensures sound { (s : N) × (bench.new.start.items ≡ (s, tt) ∷ []) × IsAt bench.new.caller
         (record { held = N.held s; left = N.left s; ahead = [] })
         (record { held = N.held bench.new.talker.conn; left = N.left bench.new.talker.conn; ahead = bench.new.talker.reader.ahead })
-        (bench.new.before + bench.new.claims) bench.new.posts (pending_job bench.new.job) bench.new.talker.wrong (heard_at_claim bench.new.heard) }
+        (bench.new.before + bench.new.claims) bench.new.posts (pending_job bench.new.job) bench.new.talker.wrong (heard_at_claim bench.new.heard)
+        × IfFailed (heard_at_claim bench.new.heard) bench.new.talker.wrong (N.Source.faults bench.new.talker.conn + N.Sink.faults bench.new.talker.conn) }
     ensures idle { result ≡ HostEnd.Idle → heard_at_claim bench.new.heard ≡ Some Nothing }
     ensures posted { result ≡ HostEnd.Idle → bench.new.posts ≡ bench.new.tasks }
     ensures asked { result ≡ HostEnd.Idle → 1 ≤ bench.new.claims }
@@ -51,9 +53,12 @@ fn round<N: Source + Sink, G: Gate>(
     ensures start { bench.new.start.items ≡ bench.old.start.items }
     ensures caller { bench.new.caller ≡ bench.old.caller }
     ensures died { (point : PointValue) (turn : ℕ) → result ≡ HostEnd.Died point turn → G.may_answer gate.now 1 point turn Go.Die ≡ true }
+    ensures failed { result ≡ HostEnd.Bench BenchFault.Link → bench.new.talker.wrong ≡ None
+        → 1 ≤ N.Source.faults bench.new.talker.conn + N.Sink.faults bench.new.talker.conn }
 {
     let left = fuel - bench.before;
-    host_loop(runner, bench, gate, HOST, left)
+    let end = host_loop(runner, bench, gate, HOST, left);
+    bench.end_heard(end)
 }
 
 /// Works as a host over a connection, where the host's name was entered. Where the host waits and no task is open, it
@@ -76,7 +81,8 @@ fn work<N: Source + Sink, G: Gate, P: Pause>(
     requires sound { (s : N) × (bench.old.start.items ≡ (s, tt) ∷ []) × IsAt bench.old.caller
         (record { held = N.held s; left = N.left s; ahead = [] })
         (record { held = N.held bench.old.talker.conn; left = N.left bench.old.talker.conn; ahead = bench.old.talker.reader.ahead })
-        (bench.old.before + bench.old.claims) bench.old.posts (pending_job bench.old.job) bench.old.talker.wrong (heard_at_claim bench.old.heard) }
+        (bench.old.before + bench.old.claims) bench.old.posts (pending_job bench.old.job) bench.old.talker.wrong (heard_at_claim bench.old.heard)
+        × IfFailed (heard_at_claim bench.old.heard) bench.old.talker.wrong (N.Source.faults bench.old.talker.conn + N.Sink.faults bench.old.talker.conn) }
     ensures worked { (s : N) × (bench.new.start.items ≡ (s, tt) ∷ []) × WorkedAs bench.new.caller
         (record { held = N.held s; left = N.left s; ahead = [] })
         (record { held = N.held bench.new.talker.conn; left = N.left bench.new.talker.conn; ahead = bench.new.talker.reader.ahead })
@@ -84,6 +90,8 @@ fn work<N: Source + Sink, G: Gate, P: Pause>(
     ensures start { bench.new.start.items ≡ bench.old.start.items }
     ensures caller { bench.new.caller ≡ bench.old.caller }
     ensures died { (point : PointValue) (turn : ℕ) → result ≡ HostEnd.Died point turn → G.may_answer gate.now 1 point turn Go.Die ≡ true }
+    ensures failed { result ≡ HostEnd.Bench BenchFault.Link → bench.new.talker.wrong ≡ None
+        → 1 ≤ N.Source.faults bench.new.talker.conn + N.Sink.faults bench.new.talker.conn }
 {
     loop {
         let end = round(runner, bench, gate, fuel);
@@ -118,6 +126,8 @@ fn enter_and_work<N: Source + Sink, G: Gate, P: Pause>(
     ensures start { bench.new.start.items ≡ bench.old.start.items }
     ensures caller { bench.new.caller ≡ bench.old.caller }
     ensures died { (point : PointValue) (turn : ℕ) → result ≡ HostEnd.Died point turn → G.may_answer gate.now 1 point turn Go.Die ≡ true }
+    ensures failed { result ≡ HostEnd.Bench BenchFault.Link → bench.new.talker.wrong ≡ None
+        → 1 ≤ N.Source.faults bench.new.talker.conn + N.Sink.faults bench.new.talker.conn }
 {
     match bench.enter() {
         Err(fault) => HostEnd::Bench(fault),
@@ -161,6 +171,8 @@ pub fn work_over<N: Source + Sink, G: Gate, P: Pause>(
         (record { held = N.held result.conn; left = N.left result.conn; ahead = ahead })
         fuel result.claims result.posts result.wrong result.end }
     ensures died { (point : PointValue) (turn : ℕ) → result.end ≡ HostEnd.Died point turn → G.may_answer gate.now 1 point turn Go.Die ≡ true }
+    ensures failed { result.end ≡ HostEnd.Bench BenchFault.Link → result.wrong ≡ None
+        → 1 ≤ N.Source.faults result.conn + N.Sink.faults result.conn }
 {
     let mut bench = RemoteBench::new(alloc, conn, caller);
     let end = enter_and_work(runner, &mut bench, gate, pause, fuel);

@@ -38,6 +38,7 @@ pub struct Talker<N> {
 fn meet(kept: &mut Option<Wrong>, count: &mut u64, wrong: Wrong) -> BenchFault
     ensures link { result ≡ BenchFault.Link }
     ensures kept { kept.new ≡ first_wrong kept.old wrong }
+    ensures met { kept.new ≢ None }
     ensures rose { Rose count.old count.new }
     ensures later { count.old ≤ count.new }
 {
@@ -54,6 +55,7 @@ fn refused(kept: &mut Option<Wrong>, count: &mut u64, halt: Halt) -> BenchFault
     ensures kept { kept.old ≡ None → kept.new ≡ head_wrong halt }
     ensures later { count.old ≤ count.new }
     ensures link { result ≡ BenchFault.Link → (halt ≡ Halt.Failed) ⊎ Rose count.old count.new }
+    ensures failed { result ≡ BenchFault.Link → kept.new ≡ None → halt ≡ Halt.Failed }
 {
     match halt {
         Halt::Failed => BenchFault::Link,
@@ -81,6 +83,8 @@ impl<N: Source + Sink> Talker<N> {
         ensures link { result ≡ Err BenchFault.Link
             → Rose (N.Source.faults self.old.conn + N.Sink.faults self.old.conn + self.old.wrongs)
             (N.Source.faults self.new.conn + N.Sink.faults self.new.conn + self.new.wrongs) }
+        ensures failed { result ≡ Err BenchFault.Link → self.new.wrong ≡ None
+            → 1 ≤ N.Source.faults self.new.conn + N.Sink.faults self.new.conn }
     {
         match write_ask(self.alloc, caller, ask) {
             Err(_) => Err(BenchFault::NoMemory),
@@ -107,6 +111,8 @@ impl<N: Source + Sink> Talker<N> {
         ensures link { result ≡ Err BenchFault.Link
             → Rose (N.Source.faults self.old.conn + N.Sink.faults self.old.conn + self.old.wrongs)
             (N.Source.faults self.new.conn + N.Sink.faults self.new.conn + self.new.wrongs) }
+        ensures failed { result ≡ Err BenchFault.Link → self.new.wrong ≡ None
+            → 1 ≤ N.Source.faults self.new.conn + N.Sink.faults self.new.conn }
     {
         match exchange(&mut self.conn, &mut self.reader, request) {
             Ok(()) => Ok(()),
@@ -132,6 +138,8 @@ impl<N: Source + Sink> Talker<N> {
         ensures link { result ≡ Err BenchFault.Link
             → Rose (N.Source.faults self.old.conn + N.Sink.faults self.old.conn + self.old.wrongs)
             (N.Source.faults self.new.conn + N.Sink.faults self.new.conn + self.new.wrongs) }
+        ensures failed { result ≡ Err BenchFault.Link → self.new.wrong ≡ None
+            → 1 ≤ N.Source.faults self.new.conn + N.Sink.faults self.new.conn }
     {
         match self.ask(caller, Ask::Fetch) {
             Err(fault) => Err(fault),
@@ -164,6 +172,8 @@ impl<N: Source + Sink> Talker<N> {
         ensures link { result ≡ Err BenchFault.Link
             → Rose (N.Source.faults self.old.conn + N.Sink.faults self.old.conn + self.old.wrongs)
             (N.Source.faults self.new.conn + N.Sink.faults self.new.conn + self.new.wrongs) }
+        ensures failed { result ≡ Err BenchFault.Link → self.new.wrong ≡ None
+            → 1 ≤ N.Source.faults self.new.conn + N.Sink.faults self.new.conn }
     {
         match self.ask(caller, Ask::Job(task)) {
             Err(fault) => Err(fault),
@@ -202,6 +212,8 @@ impl<N: Source + Sink> Talker<N> {
         ensures link { result ≡ Err BenchFault.Link
             → Rose (N.Source.faults self.old.conn + N.Sink.faults self.old.conn + self.old.wrongs)
             (N.Source.faults self.new.conn + N.Sink.faults self.new.conn + self.new.wrongs) }
+        ensures failed { result ≡ Err BenchFault.Link → self.new.wrong ≡ None
+            → 1 ≤ N.Source.faults self.new.conn + N.Sink.faults self.new.conn }
     {
         match self.ask(caller, Ask::Post(task, kind)) {
             Err(fault) => Err(fault),
@@ -233,6 +245,8 @@ impl<N: Source + Sink> Talker<N> {
         ensures link { result ≡ Err BenchFault.Link
             → Rose (N.Source.faults self.old.conn + N.Sink.faults self.old.conn + self.old.wrongs)
             (N.Source.faults self.new.conn + N.Sink.faults self.new.conn + self.new.wrongs) }
+        ensures failed { result ≡ Err BenchFault.Link → self.new.wrong ≡ None
+            → 1 ≤ N.Source.faults self.new.conn + N.Sink.faults self.new.conn }
     {
         match self.ask(caller, Ask::Enter) {
             Err(fault) => Err(fault),
@@ -262,6 +276,8 @@ impl<N: Source + Sink> Talker<N> {
         ensures link { result ≡ Err BenchFault.Link
             → Rose (N.Source.faults self.old.conn + N.Sink.faults self.old.conn + self.old.wrongs)
             (N.Source.faults self.new.conn + N.Sink.faults self.new.conn + self.new.wrongs) }
+        ensures failed { result ≡ Err BenchFault.Link → self.new.wrong ≡ None
+            → 1 ≤ N.Source.faults self.new.conn + N.Sink.faults self.new.conn }
     {
         match self.fetch(caller) {
             Err(fault) => Err(fault),

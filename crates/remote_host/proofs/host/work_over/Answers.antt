@@ -1,4 +1,4 @@
-use Rattle.std.proofs.Common.{◌∙◌, sym}
+use Rattle.std.proofs.Common.{◌∙◌, ◌+◌, ◌≤◌, sym, subst}
 use Rattle.remote_host.proofs.Working.{worked_over}
 use Rattle.remote_host.proofs.host.work_over.Goals as goal
 
@@ -11,3 +11,8 @@ returns-clause-worked g c =
           (sym e.worked.1 ∙ e.start ∙ c.new-bench.ensures.start) (e.caller ∙ c.new-bench.ensures.talker.1) c.end.ensures
           (sym c.claims-claims.ensures) (sym c.posts-posts.ensures) (sym c.wrong-wrong.ensures) e.worked.2,
     )
+
+pub returns-clause-failed : goal.returns-clause-failed
+returns-clause-failed g c =
+    λ q w. subst (λ z. 1 ≤ g.N.Source.faults z + g.N.Sink.faults z) (sym c.end.ensures)
+    (c.enter_and_work-end.ensures.failed q (sym c.wrong-wrong.ensures ∙ w))

@@ -1,6 +1,6 @@
 use Rattle.std.proofs.Common.{ap, refl, None, Err}
 use Rattle.remote_host.specs.Halts.{head_wrong}
-use Rattle.remote_host.proofs.Talking.{asked_ok, asked_err, err_same, link_rose}
+use Rattle.remote_host.proofs.Talking.{asked_ok, asked_err, err_same, link_rose, rose_some}
 use Rattle.remote_host.proofs.talker.Talker.send.Goals as goal
 
 pub returns-in-Ok-clause-talks : goal.returns-in-Ok-clause-talks
@@ -14,3 +14,7 @@ returns-in-Err-clause-talks g c =
 pub returns-in-Err-clause-link : goal.returns-in-Err-clause-link
 returns-in-Err-clause-link g c =
     λ q. link_rose _ _ _ _ c.in-Err.halt c.in-Err.ensures.later c.refused.ensures.later (λ f. c.in-Err.ensures.fault (ap Err f)) (c.refused.ensures.link (err_same c.refused.result _ (Err c.refused.result) refl q))
+
+pub returns-in-Err-clause-failed : goal.returns-in-Err-clause-failed
+returns-in-Err-clause-failed g c =
+    λ q w. rose_some _ _ (c.in-Err.ensures.fault (ap Err (c.refused.ensures.failed (err_same c.refused.result _ (Err c.refused.result) refl q) w)))
