@@ -15,7 +15,7 @@ use Rattle.judge_server.specs.declared.ends.ConnHow.{ConnHow}
 use Rattle.judge_server.specs.declared.ends.ConnHow.TheVariants as how
 use Rattle.judge_server.specs.Entering.{Entered}
 use Rattle.judge_server.specs.Exchanges.{Exchange, Around, IsWhole, requests_of}
-use Rattle.judge_server.specs.Serving.{IsClosing, untaken, IsClosed, EndsOf, IsServed, HasCauseServed, AnswersAll}
+use Rattle.judge_server.specs.Serving.{untaken, IsClosed, EndsOf, IsServed, HasCauseServed, AnswersAll}
 
 -- of requests that are all of the bytes, those that were found come first
 sound_front : (bytes : List ℕ) (qs : List Request) (rest : List ℕ) (rs : List Request) → AreRequests bytes qs rest → AreRequests bytes rs []

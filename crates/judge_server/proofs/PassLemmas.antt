@@ -1,22 +1,16 @@
 -- A pass makes the calls that are entered on its board.
-use Rattle.std.proofs.Common.{ℕ, ◌≡◌, List, [], ◌∷◌, ◌++◌, Bool, false, refl, sym, ap, ◌∙◌, subst, arith, map, append_assoc, append-nil}
+use Rattle.std.proofs.Common.{ℕ, ◌≡◌, List, [], ◌∷◌, ◌++◌, false, refl, sym, ap, ◌∙◌, subst, arith, map, append_assoc, append-nil}
 use mathlib.Core.List.{IsPrefix}
-use Rattle.farm_kinds.specs.declared.events.Event.{Event}
-use Rattle.farm_kinds.specs.declared.events.Reply.{Reply}
 use Rattle.farm_board.specs.Histories.{IsLegal, entries_by}
 use Rattle.farm_board.specs.BoardState.{BoardState}
-use Rattle.farm_board.specs.Passes.{PassValue, Calls}
+use Rattle.farm_board.specs.Passes.{PassValue}
 use Rattle.farm_board.specs.declared.entries.Entry.{Entry}
 use Rattle.farm_board.proofs.Prefixes.{prefix_self, prefix_trans}
 use Rattle.judge_server.specs.Exchanges.{Around}
 use Rattle.judge_server.specs.declared.ends.ConnHow.{ConnHow}
 use Rattle.judge_server.specs.Entering.{Entered, AreEntered}
 use Rattle.judge_server.specs.Serving.{Standing, IsServed}
-use Rattle.judge_server.specs.PassCalls.{entry_of, MakesCalls}
-
--- a call leads from a pass to a pass that has no turn
-abbrev pub calling : PassValue → Event → Reply → PassValue → Type 0
-calling old event reply new = Calls old new event reply × (new.kept ≡ false)
+use Rattle.judge_server.specs.PassCalls.{entry_of, PassSteps, MakesCalls}
 
 makes_none : (p q : PassValue) → q ≡ p → MakesCalls p [] q
 makes_none p q same = record {
@@ -46,7 +40,7 @@ turn_behind : (m new : PassValue) (xs : List Entered) → m.kept ≡ false → M
 turn_behind m new [] turn more = subst (λ (z : PassValue). z.kept ≡ false) (sym (more.none refl)) turn
 turn_behind m new (x ∷ xs) turn more = more.turn (λ is. cc is)
 
-makes_one : (old m new : PassValue) (x : Entered) (xs : List Entered) → calling old x.event x.reply m → MakesCalls m xs new → MakesCalls old (x ∷ xs) new
+makes_one : (old m new : PassValue) (x : Entered) (xs : List Entered) → PassSteps old x m → MakesCalls m xs new → MakesCalls old (x ∷ xs) new
 makes_one old m new x xs made more =
     let call = made.0 in
     let g = call.grows in
@@ -67,12 +61,12 @@ makes_one old m new x xs made more =
       start = more.start ∙ g.start;
     }
 
-pub makes_calls : (old : PassValue) (xs : List Entered) (new : PassValue) → AreEntered calling old xs new → MakesCalls old xs new
+pub makes_calls : (old : PassValue) (xs : List Entered) (new : PassValue) → AreEntered PassSteps old xs new → MakesCalls old xs new
 makes_calls old [] new x = makes_none old new x
 makes_calls old (e ∷ xs) new x = makes_one old x.0 new e xs x.1 (makes_calls x.0 xs new x.2)
 
 -- what was entered on a board was called
-pub served_calls : (around : Around) (b p : Standing PassValue) (n : ℕ) (h : ConnHow) → IsServed (AreEntered calling) around b p n h → IsServed MakesCalls around b p n h
+pub served_calls : (around : Around) (b p : Standing PassValue) (n : ℕ) (h : ConnHow) → IsServed (AreEntered PassSteps) around b p n h → IsServed MakesCalls around b p n h
 served_calls around b p n h u = record {
   answered = u.answered;
   made = u.made;

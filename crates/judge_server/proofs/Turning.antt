@@ -1,11 +1,9 @@
 -- What one turn of a connection does.
-use Rattle.std.proofs.Common.{ℕ, ◌≡◌, ◌+◌, ◌≤◌, inl, inr, List, [], ◌∷◌, ◌++◌, Bool, false, Option, Some, None, refl, sym, ap, ◌∙◌, subst, arith, length, take, append_assoc, IsUtf8}
+use Rattle.std.proofs.Common.{ℕ, ◌≡◌, ◌+◌, ◌≤◌, inl, inr, List, [], ◌∷◌, ◌++◌, false, Option, Some, None, refl, sym, ap, ◌∙◌, subst, arith, length, take, append_assoc, IsUtf8}
 use Rattle.std.specs.Io.KnownBytes.{Appends}
 use Rattle.std.proofs.lemmas.List.{append-nil, length-append, map-append}
 use Rattle.std.proofs.lemmas.List.Elements.{All-push, All-nil}
 use Rattle.std.proofs.KnownBytes.{Consumes-nil, Consumes-trans, Appends-trans, Appends-nil, Appends-kept}
-use Rattle.farm_kinds.specs.declared.events.Event.{Event}
-use Rattle.farm_kinds.specs.declared.events.Reply.{Reply}
 use Rattle.farm_io.specs.Lines.{input_limit}
 use Rattle.farm_io.specs.Streams.{Rose}
 use Rattle.farm_io.specs.Beside.{Side, side}
@@ -32,7 +30,7 @@ all_entered-last : (xs : List Exchange) (x : Exchange) → all_entered (xs ++ x 
 all_entered-last [] x = append-nil (entered_in x)
 all_entered-last (y ∷ xs) x = ap (λ (zs : List Entered). entered_in y ++ zs) (all_entered-last xs x) ∙ sym (append_assoc (entered_in y) (all_entered xs) (entered_in x))
 
-entered_last : {A : Type 0} (step : A → Event → Reply → A → Type 0) (a m b : A) (xs : List Exchange) (x : Exchange)
+entered_last : {A : Type 0} (step : A → Entered → A → Type 0) (a m b : A) (xs : List Exchange) (x : Exchange)
     → AreEntered step a (all_entered xs) m → AreEntered step m (entered_in x) b → AreEntered step a (all_entered (xs ++ x ∷ [])) b
 entered_last step a m b xs x was is =
     subst (λ (zs : List Entered). AreEntered step a zs b) (sym (all_entered-last xs x)) (entered_then step a (all_entered xs) m (entered_in x) b was is)
@@ -63,10 +61,10 @@ with_none : (a b : Option (List ℕ)) (text : List ℕ) → Appends a b text →
 with_none a b text x = subst (λ (z : List ℕ). Appends a b z) (sym (append-nil text)) x
 
 -- nothing was entered behind
-entered_none : {A : Type 0} (step : A → Event → Reply → A → Type 0) (a b : A) (xs : List Entered) → AreEntered step a xs b → AreEntered step a (xs ++ []) b
+entered_none : {A : Type 0} (step : A → Entered → A → Type 0) (a b : A) (xs : List Entered) → AreEntered step a xs b → AreEntered step a (xs ++ []) b
 entered_none step a b xs x = subst (λ (zs : List Entered). AreEntered step a zs b) (sym (append-nil xs)) x
 
-pub turned_request : {A : Type 0} (step : A → Event → Reply → A → Type 0) (around : Around) (a a' : A) (left left' held held' : Option (List ℕ)) (old new : ReaderValue) (h : Head) (out : Option ConnHow)
+pub turned_request : {A : Type 0} (step : A → Entered → A → Type 0) (around : Around) (a a' : A) (left left' held held' : Option (List ℕ)) (old new : ReaderValue) (h : Head) (out : Option ConnHow)
     → Reads left left' old new (next.Request h) → OneAnswered step around a a' (request_with h new.body) held held' out
     → Turned step around (record { state = a; left = left; held = held; ahead = old.ahead; taken = old.taken }) (record { state = a'; left = left'; held = held'; ahead = new.ahead; taken = new.taken }) out
 turned_request step around a a' left left' held held' old new h None x y = λ b n u. record {
@@ -135,7 +133,7 @@ turned_request step around a a' left left' held held' old new h (Some how.NoMemo
   ends = (
     refl,
     inr (record {
-      next = record { request = request_with h new.body; moment = y.0.moment; replies = y.0.begun.replies; asked = false };
+      next = record { request = request_with h new.body; moment = y.0.moment; replies = y.0.begun.replies; given = y.0.given; asked = false };
       behind = new.ahead;
       is = x.gives;
       shown = y.0.shown;
@@ -215,7 +213,7 @@ bytes_at : (e : Ending) (start old new : ℕ) (all front : List ℕ) → old ≡
     → e ≡ ending.InputLimit → start + length (all ++ front) ≡ input_limit
 bytes_at e start old new all front x y l is = sym (more_bytes start old new all front x y) ∙ l is
 
-pub turned_end : {A : Type 0} (step : A → Event → Reply → A → Type 0) (around : Around) (a : A) (left left' held held' : Option (List ℕ)) (old new : ReaderValue) (e : Ending) (h : ConnHow)
+pub turned_end : {A : Type 0} (step : A → Entered → A → Type 0) (around : Around) (a : A) (left left' held held' : Option (List ℕ)) (old new : ReaderValue) (e : Ending) (h : ConnHow)
     → Reads left left' old new (next_of e) → IsEndOf e left' → (e ≡ ending.InputLimit → new.taken ≡ input_limit) → PutsEnd held held' e h
     → Turned step around (record { state = a; left = left; held = held; ahead = old.ahead; taken = old.taken }) (record { state = a; left = left'; held = held'; ahead = new.ahead; taken = new.taken }) (Some h)
 turned_end step around a left left' held held' old new e h x end limit z = λ b n u. record {
@@ -266,7 +264,7 @@ pub faults_beside : {N : Type 0} (beside : N → Side) (bytes : N → Option (Li
     → ((n : N) → beside n ≡ side (bytes n) (faults n)) → beside new ≡ beside old → faults new ≡ faults old
 faults_beside beside bytes faults old new is kept = ap (λ (s : Side). s.faults) (sym (is new) ∙ kept ∙ is old)
 
-pub turned_request_on : {A : Type 0} (step : A → Event → Reply → A → Type 0) (around : Around) (a a' : A) (left mid left' held held1 held' : Option (List ℕ)) (old new : ReaderValue) (n : Next) (h : Head) (body : List ℕ) (out : Option ConnHow)
+pub turned_request_on : {A : Type 0} (step : A → Entered → A → Type 0) (around : Around) (a a' : A) (left mid left' held held1 held' : Option (List ℕ)) (old new : ReaderValue) (n : Next) (h : Head) (body : List ℕ) (out : Option ConnHow)
     → left' ≡ mid → held1 ≡ held → body ≡ new.body → n ≡ next.Request h → Reads left mid old new n → OneAnswered step around a a' (request_with h body) held1 held' out
     → Turned step around (record { state = a; left = left; held = held; ahead = old.ahead; taken = old.taken }) (record { state = a'; left = left'; held = held'; ahead = new.ahead; taken = new.taken }) out
 turned_request_on step around a a' left mid left' held held1 held' old new n h body out l k b is x y =
@@ -275,7 +273,7 @@ turned_request_on step around a a' left mid left' held held1 held' old new n h b
     (subst (λ (z : Option (List ℕ)). OneAnswered step around a a' (request_with h new.body) z held' out) k
     (subst (λ (z : List ℕ). OneAnswered step around a a' (request_with h z) held1 held' out) b y))
 
-pub turned_end_on : {A : Type 0} (step : A → Event → Reply → A → Type 0) (around : Around) (a : A) (left mid left' held held1 held' : Option (List ℕ)) (old new : ReaderValue) (n : Next) (e : Ending) (h : ConnHow)
+pub turned_end_on : {A : Type 0} (step : A → Entered → A → Type 0) (around : Around) (a : A) (left mid left' held held1 held' : Option (List ℕ)) (old new : ReaderValue) (n : Next) (e : Ending) (h : ConnHow)
     → left' ≡ mid → held1 ≡ held → n ≡ next_of e → old.ended ≡ None → Reads left mid old new n → EndsWith n new.ended
     → (IsEndFor old.ended left → IsEndFor new.ended mid) → (n ≡ next.InputLimit → old.ended ≡ None → new.taken ≡ input_limit) → PutsEnd held1 held' e h
     → Turned step around (record { state = a; left = left; held = held; ahead = old.ahead; taken = old.taken }) (record { state = a; left = left'; held = held'; ahead = new.ahead; taken = new.taken }) (Some h)
@@ -296,11 +294,11 @@ some_how h k e = cc
 fault_of : (held held' : Option (List ℕ)) (e : Ending) (h : ConnHow) → PutsEnd held held' e h → Some h ≡ Some how.ReadFault → e ≡ ending.ReadFault
 fault_of held held' e h y is = let z = subst (λ (k : ConnHow). PutsEnd held held' e k) (some_how h how.ReadFault is) y in z.0
 
-no_fault : {A : Type 0} (step : A → Event → Reply → A → Type 0) (around : Around) (a b : A) (r : Request) (held held' : Option (List ℕ)) (out : Option ConnHow)
+no_fault : {A : Type 0} (step : A → Entered → A → Type 0) (around : Around) (a b : A) (r : Request) (held held' : Option (List ℕ)) (out : Option ConnHow)
     → OneAnswered step around a b r held held' out → ¬ (out ≡ Some how.ReadFault)
 no_fault step around a b r held held' out y is = subst (λ (z : Option ConnHow). OneAnswered step around a b r held held' z) is y
 
-pub cause_request : {A : Type 0} (step : A → Event → Reply → A → Type 0) (around : Around) (a b : A) (r : Request) (held held' : Option (List ℕ)) (out : Option ConnHow) (read0 read1 read2 write0 write1 write2 : ℕ)
+pub cause_request : {A : Type 0} (step : A → Entered → A → Type 0) (around : Around) (a b : A) (r : Request) (held held' : Option (List ℕ)) (out : Option ConnHow) (read0 read1 read2 write0 write1 write2 : ℕ)
     → OneAnswered step around a b r held held' out → read0 ≤ read1 → read2 ≡ read1 → write1 ≡ write0 → write1 ≤ write2 → (out ≡ Some how.WriteFault → Rose write1 write2)
     → HasCauseServed read0 read2 write0 write2 out
 cause_request step around a b r held held' out read0 read1 read2 write0 write1 write2 y later same kept more rose = record {
@@ -321,7 +319,7 @@ cause_end held held' n e h was read0 read1 read2 write0 write1 write2 y is going
 }
 
 -- nothing was read and nothing put
-pub served_none : {A : Type 0} (step : A → Event → Reply → A → Type 0) (around : Around) (a : A) (left held : Option (List ℕ))
+pub served_none : {A : Type 0} (step : A → Entered → A → Type 0) (around : Around) (a : A) (left held : Option (List ℕ))
     → IsServed (AreEntered step) around (untaken a left held) (untaken a left held) 0 how.NoMemory
 served_none step around a left held = record {
   answered = [];
@@ -340,7 +338,7 @@ served_none step around a left held = record {
 }
 
 -- a connection that has not begun is under way
-pub under_way_none : {A : Type 0} (step : A → Event → Reply → A → Type 0) (around : Around) (a : A) (left held : Option (List ℕ))
+pub under_way_none : {A : Type 0} (step : A → Entered → A → Type 0) (around : Around) (a : A) (left held : Option (List ℕ))
     → IsUnderWay step around (untaken a left held) (untaken a left held) 0
 under_way_none step around a left held = record {
   answered = [];
@@ -356,7 +354,7 @@ under_way_none step around a left held = record {
 }
 
 -- what is still held does not matter at an end
-pub served_with : {A : Type 0} (step : A → Event → Reply → A → Type 0) (around : Around) (b : Standing A) (a : A) (left held : Option (List ℕ)) (ahead : List ℕ) (taken : ℕ) (n : ℕ) (h : ConnHow)
+pub served_with : {A : Type 0} (step : A → Entered → A → Type 0) (around : Around) (b : Standing A) (a : A) (left held : Option (List ℕ)) (ahead : List ℕ) (taken : ℕ) (n : ℕ) (h : ConnHow)
     → IsServed (AreEntered step) around b (record { state = a; left = left; held = held; ahead = ahead; taken = taken }) n h
     → IsServed (AreEntered step) around b (untaken a left held) n h
 served_with step around b a left held ahead taken n h u = record {

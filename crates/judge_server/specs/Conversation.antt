@@ -22,7 +22,10 @@ use Rattle.judge_server.specs.declared.asking.RequestFault.{RequestFault}
 use Rattle.judge_server.specs.declared.asking.RequestFault.TheVariants as fault
 use Rattle.judge_server.specs.declared.routes.Routed.{Routed}
 use Rattle.judge_server.specs.declared.routes.Routed.TheVariants as routed
+use Rattle.case_run.specs.Cases.{TestCase}
 use Rattle.judge_server.specs.Routes.{routed_of}
+use Rattle.judge_server.specs.Jobs.{owner_in, text_for, no_job}
+use Rattle.judge_server.specs.Published.{json_of_rows}
 
 -- Events
 
@@ -94,12 +97,18 @@ abbrev pub asked_with : Bool → Option Event → Asked
 asked_with ticks None = asked.Refused fault.NoRoute
 asked_with ticks (Some e) = asked.Event ticks e
 
+-- a job is asked for, or what the event of the route asks
+abbrev pub asked_on : Route → Body → Asked
+asked_on (route.Job judging test) b = asked.Job judging test
+asked_on r b = asked_with (ticks_first r) (event_of r b)
+
 abbrev pub asked_by : Route → Result Body BodyFault → Asked
-asked_by r (Ok b) = asked_with (ticks_first r) (event_of r b)
+asked_by r (Ok b) = asked_on r b
 asked_by r (Err why) = asked.Refused (fault.BadBody why)
 
 abbrev pub asked_at : Routed → List ℕ → Asked
 asked_at (routed.Route r) bytes = asked_by r (body_of r bytes)
+asked_at routed.Public bytes = asked.Public
 asked_at routed.NoRoute bytes = asked.Refused fault.NoRoute
 asked_at routed.NoMethod bytes = asked.Refused fault.NoMethod
 
@@ -164,11 +173,38 @@ fault_body (fault.BadBody why) = compact_text (json_of_fault why)
 unfoldable pub fault_response : Bool → RequestFault → List ℕ
 fault_response closing why = response_with closing (fault_status why) (fault_body why)
 
-abbrev pub response_in : Bool → Asked → Reply → List ℕ
-response_in closing (asked.Event ticks e) r = reply_response closing r
-response_in closing (asked.Refused why) r = fault_response closing why
+-- the response that gives the job of a judging and a test; Not Found where there is no case of them
+unfoldable pub job_response : Bool → ℕ → ℕ → Option TestCase → List ℕ
+job_response closing judging test None = response_with closing 404 no_job
+job_response closing judging test (Some c) = response_with closing 200 (text_for judging test c)
 
--- the response to a request whose last event has this reply; without an event no reply counts. Where the server asks to
--- close the connection behind it (`closing`), the response says so.
-abbrev pub response_of : Bool → Request → Reply → List ℕ
-response_of closing request r = response_in closing (asked_of request) r
+-- a job is given only where the reply names the submission of the judging
+abbrev pub job_or_reply : Bool → ℕ → ℕ → Option ℕ → Reply → Option TestCase → List ℕ
+job_or_reply closing judging test None r case = reply_response closing r
+job_or_reply closing judging test (Some submission) r case = job_response closing judging test case
+
+-- the response that gives the rows of a look; there is none where it gave none
+unfoldable pub rows_response : Bool → Reply → List ℕ
+rows_response closing (reply.Board rows) = response_with closing 200 (compact_text (json_of_rows rows))
+rows_response closing r = []
+
+-- what a response takes beside the reply to an event: the case of the job that it gives, or that there is none; and what a
+-- look at what the public sees gave
+pub record Given : Type 0 where
+  pub case : Option TestCase
+  pub look : Reply
+
+abbrev pub nothing_given : Given
+nothing_given = record { case = None; look = reply.Nothing }
+
+abbrev pub response_in : Bool → Asked → Reply → Given → List ℕ
+response_in closing (asked.Event ticks e) r given = reply_response closing r
+response_in closing (asked.Job judging test) r given = job_or_reply closing judging test (owner_in r) r given.case
+response_in closing asked.Public r given = rows_response closing given.look
+response_in closing (asked.Refused why) r given = fault_response closing why
+
+-- The response to a request whose last event has this reply, where this was given; without an event no reply counts,
+-- and what was given counts for a job, and for what the public sees, alone. Where the server asks to close the connection
+-- behind it (`closing`), the response says so.
+abbrev pub response_of : Bool → Request → Reply → Given → List ℕ
+response_of closing request r given = response_in closing (asked_of request) r given

@@ -1,45 +1,79 @@
 -- Requests that are answered: what is entered for them, and their responses.
-use Rattle.std.specs.Prelude.{◌≡◌, ℕ, List, [], ◌∷◌, ◌++◌, map, Bool, true}
+use Rattle.std.specs.Prelude.{◌≡◌, ℕ, List, [], ◌∷◌, ◌++◌, map, Bool, true, false, Option, Some, None}
 use Rattle.http_door.specs.Requests.{Request}
 use Rattle.judge_server.specs.declared.asking.Asked.{Asked}
 use Rattle.judge_server.specs.declared.asking.Asked.TheVariants as asked
-use Rattle.judge_server.specs.Conversation.{asked_of, response_of}
-use Rattle.judge_server.specs.Entering.{Entered, Replies, AreKnown, entered_for}
+use Rattle.farm_kinds.specs.declared.events.Reply.{Reply}
+use Rattle.farm_kinds.specs.declared.events.Reply.TheVariants as reply
+use Rattle.farm_kinds.specs.declared.events.Event.TheVariants as event
+use Rattle.judge_server.specs.Jobs.{owner_in, Gives, gives_none}
+use Rattle.judge_server.specs.Conversation.{asked_of, Given, response_of}
+use Rattle.judge_server.specs.Entering.{Entered, with_look, Replies, AreKnown, entered_for}
 
--- a request, what the clock showed, the replies to what is entered for it, and whether the server asked to close the
--- connection behind the response
+-- a request, what the clock showed, the replies to what is entered for it, what else the response takes, and whether
+-- the server asked to close the connection behind it
 pub record Exchange : Type 0 where
   pub request : Request
   pub moment : ℕ
   pub replies : Replies
+  pub given : Given
   pub asked : Bool
 
--- what a connection is served by: the numbers that the clock may show, and whether the server ever asks to close it
-pub record Around : Type 0 where
+-- what a connection is served by: the numbers that the clock may show, whether the server ever asks to close it, and
+-- the cases that it may give
+pub record Around : Type 1 where
   pub shows : ℕ → Bool
   pub asks : Bool
+  pub gives : Gives
 
+-- without cases
 abbrev pub around_of : (ℕ → Bool) → Bool → Around
-around_of shows asks = record { shows = shows; asks = asks }
+around_of shows asks = record { shows = shows; asks = asks; gives = gives_none }
 
--- the clock shows the moment, no reply says that memory ran out, and the server asked to close only where it ever does
+-- the same, with these cases
+abbrev pub giving : Gives → Around → Around
+giving gives around = record { shows = around.shows; asks = around.asks; gives = gives }
+
+-- what was given for the test of the submission that the reply names may be given; another reply gives nothing
+abbrev pub IsCaseOf : Gives → ℕ → Option ℕ → Given → Type 0
+IsCaseOf gives test None given = Unit {0}
+IsCaseOf gives test (Some submission) given = gives submission test given.case
+
+-- the look gave a board
+abbrev pub IsBoard : Reply → Type 0
+IsBoard (reply.Board rows) = Unit {0}
+IsBoard r = ⊥
+
+-- what was given may be given for what is asked
+abbrev pub IsGiven : Gives → Asked → Reply → Given → Type 0
+IsGiven gives (asked.Event ticks e) r given = Unit {0}
+IsGiven gives (asked.Job judging test) r given = IsCaseOf gives test (owner_in r) given
+IsGiven gives asked.Public r given = IsBoard given.look
+IsGiven gives (asked.Refused why) r given = Unit {0}
+
+-- the clock shows the moment, no reply says that memory ran out, what was given may be given, and the server asked to
+-- close only where it ever does
 pub record IsWhole (around : Around) (x : Exchange) : Type 0 where
   pub shown : around.shows x.moment ≡ true
   pub known : AreKnown x.replies
+  pub given : IsGiven around.gives (asked_of x.request) x.replies.answer x.given
   pub asked : x.asked ≡ true → around.asks ≡ true
 
--- what is entered for what is asked
-abbrev pub entered_by : ℕ → Asked → Replies → List Entered
-entered_by moment (asked.Event ticks e) r = entered_for ticks moment e r
-entered_by moment (asked.Refused why) r = []
+-- What is entered for what is asked. For a job it is asked whose submission the judging is; for what the public sees it is
+-- looked at that.
+abbrev pub entered_by : ℕ → Asked → Replies → Given → List Entered
+entered_by moment (asked.Event ticks e) r given = entered_for ticks moment e r
+entered_by moment (asked.Job judging test) r given = entered_for false moment (event.Owner judging) r
+entered_by moment asked.Public r given = with_look given.look ∷ []
+entered_by moment (asked.Refused why) r given = []
 
 -- what is entered for the request
 abbrev pub entered_in : Exchange → List Entered
-entered_in x = entered_by x.moment (asked_of x.request) x.replies
+entered_in x = entered_by x.moment (asked_of x.request) x.replies x.given
 
 -- the response to the request
 abbrev pub text_of : Exchange → List ℕ
-text_of x = response_of x.asked x.request x.replies.answer
+text_of x = response_of x.asked x.request x.replies.answer x.given
 
 -- Requests in order
 

@@ -1,5 +1,7 @@
 pub mod Table
 pub mod Routes
+pub mod Jobs
+pub mod Published
 pub mod Conversation
 pub mod Entering
 pub mod Exchanges

@@ -1,15 +1,32 @@
 -- What is entered on a board, as calls of a pass.
 use Rattle.std.specs.Prelude.{◌≡◌, ◌≢◌, ℕ, ◌+◌, false, List, [], ◌++◌, length, map}
 use mathlib.Core.List.{IsPrefix}
+use mathlib.Core.Logic.{inl, inr}
+use Rattle.farm_kinds.specs.declared.events.Event.{Event}
+use Rattle.farm_kinds.specs.declared.events.Event.TheVariants as event
+use Rattle.farm_kinds.specs.declared.events.Reply.{Reply}
 use Rattle.farm_board.specs.Histories.{IsLegal, entries_by}
-use Rattle.farm_board.specs.Passes.{PassValue, call_of}
+use Rattle.farm_board.specs.Passes.{PassValue, Calls, call_of}
 use Rattle.farm_board.specs.declared.entries.Entry.{Entry}
 use Rattle.farm_board.specs.declared.entries.Entry.TheVariants as entry
 use Rattle.judge_server.specs.Entering.{Entered}
 
--- an event that the pass with this number entered, with its reply
+-- what is called for what is entered: a look asks for the board
+abbrev pub event_in : Entered → Event
+event_in (inl x) = x.event
+event_in (inr r) = event.Board
+
+abbrev pub reply_in : Entered → Reply
+reply_in (inl x) = x.reply
+reply_in (inr r) = r
+
+-- what the pass with this number entered, as its call
 abbrev pub entry_of : ℕ → Entered → Entry
-entry_of number x = entry.Call (call_of number x.event x.reply)
+entry_of number x = entry.Call (call_of number (event_in x) (reply_in x))
+
+-- a call for what is entered leads from a pass to a pass that has no turn
+abbrev pub PassSteps : PassValue → Entered → PassValue → Type 0
+PassSteps old x new = Calls old new (event_in x) (reply_in x) × (new.kept ≡ false)
 
 -- The pass makes a call for each of these, one after the other, and nothing else. What it has seen then begins with
 -- what it had seen, and once there is a call it is a legal history, in which the entries of the pass's number are its

@@ -32,31 +32,46 @@ abbrev pub with_id : (ℕ → Route) → Option ℕ → Option Route
 with_id make None = None
 with_id make (Some id) = Some (make id)
 
--- the route of a place and, where its path has one, an id
-abbrev pub route_at : Place → Option ℕ → Option Route
-route_at place.Hosts id = Some route.Hosts
-route_at place.FetchWork id = Some route.FetchWork
-route_at place.AddRun id = Some route.AddRun
-route_at place.Renew id = Some route.Renew
-route_at place.Down id = Some route.Down
-route_at place.Judgement id = with_id route.Judgement id
-route_at place.Submission id = with_id route.Submission id
-route_at place.Verify id = with_id route.Verify id
-route_at place.Ask id = with_id route.Ask id
-route_at place.Board id = Some route.Board
-route_at place.Audit id = Some route.Audit
-route_at place.Rejudgings id = Some route.Rejudgings
-route_at place.Rejudging id = with_id route.Rejudging id
-route_at place.Apply id = with_id route.Apply id
-route_at place.Cancel id = with_id route.Cancel id
+-- a job of these, where both are numbers
+abbrev pub job_with : Option ℕ → Option ℕ → Option Route
+job_with (Some judging) (Some test) = Some (route.Job judging test)
+job_with (Some judging) None = None
+job_with None test = None
 
-abbrev pub route_by : Option Place → Option ℕ → Option Route
-route_by None id = None
-route_by (Some p) id = route_at p id
+-- a job of the judging between the third slash of a path and the fourth, and the test behind that
+abbrev pub job_of : List ℕ → Option Route
+job_of path =
+    let tail = behind 47 (behind 47 (behind 47 path)) in
+    job_with (number_of (before 47 tail)) (number_of (behind 47 tail))
+
+-- the route of a place and the ids that stand in the path
+abbrev pub route_at : Place → List ℕ → Option Route
+route_at place.Hosts path = Some route.Hosts
+route_at place.FetchWork path = Some route.FetchWork
+route_at place.AddRun path = Some route.AddRun
+route_at place.Renew path = Some route.Renew
+route_at place.Down path = Some route.Down
+route_at place.Job path = job_of path
+route_at place.Judgement path = with_id route.Judgement (id_of path)
+route_at place.Submission path = with_id route.Submission (id_of path)
+route_at place.Verify path = with_id route.Verify (id_of path)
+route_at place.Ask path = with_id route.Ask (id_of path)
+route_at place.Board path = Some route.Board
+-- what the public sees is not asked by a body
+route_at place.Public path = None
+route_at place.Audit path = Some route.Audit
+route_at place.Rejudgings path = Some route.Rejudgings
+route_at place.Rejudging path = with_id route.Rejudging (id_of path)
+route_at place.Apply path = with_id route.Apply (id_of path)
+route_at place.Cancel path = with_id route.Cancel (id_of path)
+
+abbrev pub route_by : Option Place → List ℕ → Option Route
+route_by None path = None
+route_by (Some p) path = route_at p path
 
 -- the route that a path names
 abbrev pub route_of : List ℕ → Option Route
-route_of path = route_by (place_in rows path) (id_of path)
+route_of path = route_by (place_in rows path) path
 
 -- the one method of a route
 abbrev pub method_of : Route → List ℕ
@@ -65,6 +80,7 @@ method_of route.FetchWork = codes "POST"
 method_of route.AddRun = codes "POST"
 method_of route.Renew = codes "POST"
 method_of route.Down = codes "POST"
+method_of (route.Job judging test) = codes "GET"
 method_of (route.Judgement judging) = codes "GET"
 method_of (route.Submission judging) = codes "GET"
 method_of (route.Verify judging) = codes "POST"
@@ -80,6 +96,15 @@ abbrev pub routed_by : List ℕ → Option Route → Routed
 routed_by method None = routed.NoRoute
 routed_by method (Some r) = if bytes_eq method (method_of r) then routed.Route r else routed.NoMethod
 
+-- what the public sees is asked for by GET
+abbrev pub public_by : List ℕ → Routed
+public_by method = if bytes_eq method (codes "GET") then routed.Public else routed.NoMethod
+
+abbrev pub routed_at : List ℕ → Option Place → List ℕ → Routed
+routed_at method None path = routed.NoRoute
+routed_at method (Some place.Public) path = public_by method
+routed_at method (Some p) path = routed_by method (route_at p path)
+
 -- what a request asks for, by its method and its target
 abbrev pub routed_of : List ℕ → List ℕ → Routed
-routed_of method target = routed_by method (route_of (path_of target))
+routed_of method target = routed_at method (place_in rows (path_of target)) (path_of target)

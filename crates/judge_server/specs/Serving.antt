@@ -2,7 +2,6 @@
 use Rattle.std.specs.Prelude.{◌≡◌, ◌≢◌, ℕ, ◌+◌, ◌≤◌, ◌<◌, ◌⊎◌, List, [], ◌∷◌, ◌++◌, length, take, Bool, true, false, Option, Some, None, All, Result, Ok, Err}
 use mathlib.Core.List.{IsPrefix}
 use Rattle.std.specs.Io.KnownBytes.{Appends, Consumes, Keeps, IsAtEnd}
-use Rattle.farm_kinds.specs.declared.events.Event.{Event}
 use Rattle.farm_kinds.specs.declared.events.Reply.{Reply}
 use Rattle.farm_io.specs.Lines.{input_limit}
 use Rattle.farm_io.specs.Streams.{Rose}
@@ -21,23 +20,36 @@ use Rattle.http_door.specs.Responses.{response_text}
 use Rattle.judge_server.specs.declared.asking.Asked.{Asked}
 use Rattle.judge_server.specs.declared.ends.ConnHow.{ConnHow}
 use Rattle.judge_server.specs.declared.ends.ConnHow.TheVariants as how
-use Rattle.judge_server.specs.Conversation.{asked_of, response_in}
+use Rattle.judge_server.specs.Jobs.{owner_in, Gives}
+use Rattle.judge_server.specs.Conversation.{asked_of, Given, job_or_reply, response_in}
 use Rattle.judge_server.specs.Entering.{Entered, AreEntered, Replies, AreKnown, IsBegun}
-use Rattle.judge_server.specs.Exchanges.{Exchange, Around, IsWhole, entered_by, entered_in, text_of, requests_of, all_entered, all_text}
+use Rattle.judge_server.specs.Exchanges.{Exchange, Around, IsCaseOf, IsGiven, IsWhole, entered_by, entered_in, text_of, requests_of, all_entered, all_text}
 
 -- One request
 
+-- what was put of a job, or of what stands in its place
+abbrev pub PutsJob : Gives → Bool → ℕ → ℕ → Reply → Option (List ℕ) → Option (List ℕ) → Result (Unit {0}) ResponseFault
+    → Type 0
+PutsJob gives closing judging test r held held' (Ok u) =
+    (given : Given) × IsCaseOf gives test (owner_in r) given
+    × Appends held held' (job_or_reply closing judging test (owner_in r) r given.case)
+PutsJob gives closing judging test r held held' (Err fault.WriteFault) =
+    (given : Given) × IsCaseOf gives test (owner_in r) given
+    × ((n : ℕ) × Appends held held' (take n (job_or_reply closing judging test (owner_in r) r given.case)))
+PutsJob gives closing judging test r held held' (Err fault.NoMemory) = Keeps held held'
+
 -- what was put of the answer to what is asked, behind which the server asks to close or does not
-abbrev pub PutsAnswer : {A : Type 0} → (A → Event → Reply → A → Type 0) → Bool → ℕ → Asked → A → A
+abbrev pub PutsAnswer : {A : Type 0} → (A → Entered → A → Type 0) → Gives → Bool → ℕ → Asked → A → A
     → Option (List ℕ) → Option (List ℕ) → Result (Unit {0}) ResponseFault → Type 0
-PutsAnswer step closing moment what a b held held' (Ok u) =
-    (r : Replies) × AreKnown r × AreEntered step a (entered_by moment what r) b
-    × Appends held held' (response_in closing what r.answer)
-PutsAnswer step closing moment what a b held held' (Err fault.WriteFault) =
-    (r : Replies) × AreKnown r × AreEntered step a (entered_by moment what r) b
-    × ((n : ℕ) × Appends held held' (take n (response_in closing what r.answer)))
-PutsAnswer step closing moment what a b held held' (Err fault.NoMemory) =
-    IsBegun step (entered_by moment what) a b × Keeps held held'
+PutsAnswer step gives closing moment what a b held held' (Ok u) =
+    (r : Replies) × (given : Given) × AreKnown r × IsGiven gives what r.answer given
+    × AreEntered step a (entered_by moment what r given) b × Appends held held' (response_in closing what r.answer given)
+PutsAnswer step gives closing moment what a b held held' (Err fault.WriteFault) =
+    (r : Replies) × (given : Given) × AreKnown r × IsGiven gives what r.answer given
+    × AreEntered step a (entered_by moment what r given) b
+    × ((n : ℕ) × Appends held held' (take n (response_in closing what r.answer given)))
+PutsAnswer step gives closing moment what a b held held' (Err fault.NoMemory) =
+    (given : Given) × IsBegun step (λ r. entered_by moment what r given) a b × Keeps held held'
 
 -- the request asks to close, or the server does
 abbrev pub close_or : Bool → Bool → Bool
@@ -52,18 +64,19 @@ how_after (Err fault.WriteFault) close = Some how.WriteFault
 how_after (Err fault.NoMemory) close = Some how.NoMemory
 
 -- all of the exchange was entered, and it is that of the request
-pub record IsExchange {A : Type 0} (step : A → Event → Reply → A → Type 0) (around : Around) (a : A) (r : Request)
+pub record IsExchange {A : Type 0} (step : A → Entered → A → Type 0) (around : Around) (a : A) (r : Request)
     (x : Exchange) (b : A) : Type 0 where
   pub is : x.request ≡ r
   pub whole : IsWhole around x
   pub entered : AreEntered step a (entered_in x) b
 
 -- a front of what is entered for the request was, at a moment that the clock shows
-pub record IsPartly {A : Type 0} (step : A → Event → Reply → A → Type 0) (around : Around) (a : A) (r : Request)
+pub record IsPartly {A : Type 0} (step : A → Entered → A → Type 0) (around : Around) (a : A) (r : Request)
     (b : A) : Type 0 where
   pub moment : ℕ
   pub shown : around.shows moment ≡ true
-  pub begun : IsBegun step (entered_by moment (asked_of r)) a b
+  pub given : Given
+  pub begun : IsBegun step (λ replies. entered_by moment (asked_of r) replies given) a b
 
 -- neither the request nor the server asks to close behind it
 abbrev pub IsStaying : Exchange → Type 0
@@ -74,7 +87,7 @@ abbrev pub IsClosing : Exchange → Type 0
 IsClosing x = (x.request.close ≡ true) ⊎ (x.asked ≡ true)
 
 -- how one request was answered
-abbrev pub OneAnswered : {A : Type 0} → (A → Event → Reply → A → Type 0) → Around → A → A → Request
+abbrev pub OneAnswered : {A : Type 0} → (A → Entered → A → Type 0) → Around → A → A → Request
     → Option (List ℕ) → Option (List ℕ) → Option ConnHow → Type 0
 OneAnswered step around a b r held held' None =
     (x : Exchange) × IsExchange step around a r x b × Appends held held' (text_of x) × IsStaying x
@@ -152,7 +165,7 @@ abbrev pub AreStaying : List Exchange → Type 0
 AreStaying xs = All IsStaying xs
 
 -- so many requests were answered since the beginning, and nobody asked to close
-pub record IsUnderWay {A : Type 0} (step : A → Event → Reply → A → Type 0) (around : Around) (b p : Standing A)
+pub record IsUnderWay {A : Type 0} (step : A → Entered → A → Type 0) (around : Around) (b p : Standing A)
     (n : ℕ) : Type 0 where
   pub answered : List Exchange
   pub all : List ℕ
@@ -247,7 +260,7 @@ answered_count n how.InputLimit = n
 answered_count n how.NoMemory = n
 
 -- what one request, or the end of the requests, does, wherever the connection began
-abbrev pub Turned : {A : Type 0} → (A → Event → Reply → A → Type 0) → Around → Standing A → Standing A
+abbrev pub Turned : {A : Type 0} → (A → Entered → A → Type 0) → Around → Standing A → Standing A
     → Option ConnHow → Type 0
 Turned {A} step around old new None =
     (b : Standing A) (n : ℕ) → IsUnderWay step around b old n → IsUnderWay step around b new (n + 1)

@@ -22,10 +22,11 @@ abbrev pub table : List (List ℕ × Place)
 table =
     (codes "/judgehosts", place.Hosts) ∷ (codes "/judgehosts/fetch-work", place.FetchWork)
     ∷ (codes "/judgehosts/add-judging-run", place.AddRun) ∷ (codes "/judgehosts/renew", place.Renew)
-    ∷ (codes "/judgehosts/down", place.Down) ∷ (codes "/judgements/{id}", place.Judgement)
+    ∷ (codes "/judgehosts/down", place.Down) ∷ (codes "/judgehosts/job/{judging}/{test}", place.Job)
+    ∷ (codes "/judgements/{id}", place.Judgement)
     ∷ (codes "/judgements/{id}/submission", place.Submission) ∷ (codes "/judgements/{id}/verify", place.Verify)
     ∷ (codes "/judgements/{id}/ask", place.Ask) ∷ (codes "/board", place.Board)
-    ∷ (codes "/audit", place.Audit) ∷ (codes "/rejudgings", place.Rejudgings)
+    ∷ (codes "/public", place.Public) ∷ (codes "/audit", place.Audit) ∷ (codes "/rejudgings", place.Rejudgings)
     ∷ (codes "/rejudgings/{id}", place.Rejudging) ∷ (codes "/rejudgings/{id}/apply", place.Apply)
     ∷ (codes "/rejudgings/{id}/cancel", place.Cancel) ∷ []
 

@@ -2,7 +2,7 @@ ghost use Rattle.std.specs.Prelude.{◌≡◌, ◌≢◌, Ok, Err, IfOk, IfErr, 
 ghost use Rattle.http_door.specs.Reading.{request_with};
 ghost use Rattle.wire_json.specs.Fields.{IsReading};
 ghost use Rattle.wire_json.specs.Bodies.{body_of};
-ghost use Rattle.judge_server.specs.Conversation.{host_event, fetch_event, run_event, held_event, actor_event, rejudge_event, bare_event, event_of, ticks_first, asked_with, asked_by, asked_of};
+ghost use Rattle.judge_server.specs.Conversation.{host_event, fetch_event, run_event, held_event, actor_event, rejudge_event, bare_event, event_of, ticks_first, asked_with, asked_on, asked_by, asked_of};
 
 use crate::paths::Paths;
 use crate::routes::{Routed, find_route};
@@ -27,6 +27,10 @@ pub enum RequestFault {
 pub enum Asked {
     /// An event, before which time goes on to the clock's number where `ticks` says so.
     Event { ticks: bool, event: Event },
+    /// The job of a test of a judging: whose submission that is, and then its case.
+    Job { judging: u32, test: u32 },
+    /// What the public sees.
+    Public,
     /// Nothing.
     Refused(RequestFault),
 }
@@ -145,13 +149,23 @@ fn asked_with(ticks: bool, event: Option<Event>) -> Asked
     }
 }
 
+/// What is asked on a route with the fields of its body.
+fn asked_on(route: Route, body: Body) -> Asked
+    ensures { result ≡ asked_on route body }
+{
+    match route {
+        Route::Job { judging, test } => Asked::Job { judging, test },
+        _ => asked_with(ticks_first(route), event_of(route, body)),
+    }
+}
+
 /// What a body asks of the farm on a route.
 fn read_asked(alloc: Global, route: Route, body: &[u8]) -> Result<Asked, NoMemory>
     ensures asked { IfOk result (λ a. a ≡ asked_by route (body_of route body.now)) }
     ensures told { IfOk result (λ a. a ≢ Asked.Refused (RequestFault.BadBody BodyFault.NoMemory)) }
 {
     match read_body(alloc, route, body) {
-        Ok(body) => Ok(asked_with(ticks_first(route), event_of(route, body))),
+        Ok(body) => Ok(asked_on(route, body)),
         Err(BodyFault::NoMemory) => Err(NoMemory),
         Err(fault) => Ok(Asked::Refused(RequestFault::BadBody(fault))),
     }
@@ -170,6 +184,7 @@ pub fn read_request(
 {
     match find_route(paths, head.method.as_slice(), head.target.as_slice()) {
         Routed::Route(route) => read_asked(alloc, route, body),
+        Routed::Public => Ok(Asked::Public),
         Routed::NoRoute => Ok(Asked::Refused(RequestFault::NoRoute)),
         Routed::NoMethod => Ok(Asked::Refused(RequestFault::NoMethod)),
     }

@@ -1,38 +1,57 @@
-ghost use Rattle.std.specs.Prelude.{◌≡◌, ◌≤◌, ◌^◌, ℕ, Some, false};
+ghost use Rattle.std.specs.Prelude.{◌≡◌, ◌≤◌, ◌^◌, ℕ, Some};
 ghost use Rattle.farm_io.specs.Beside.{side};
-ghost use Rattle.farm_board.specs.Passes.{Calls};
 ghost use Rattle.judge_server.specs.Serving.{untaken, IsServed, HasCauseServed, AnswersAll};
-ghost use Rattle.judge_server.specs.Exchanges.{around_of};
-ghost use Rattle.judge_server.specs.PassCalls.{MakesCalls};
+ghost use Rattle.judge_server.specs.Jobs.{gives_by};
+ghost use Rattle.judge_server.specs.Exchanges.{around_of, giving};
+ghost use Rattle.judge_server.specs.PassCalls.{PassSteps, MakesCalls};
 
 use crate::ends::{ConnEnd, ConnHow};
+use crate::jobs::write_case;
 use crate::paths::Paths;
 use crate::replier::Replier;
 use crate::serving::serve_on;
+use case_run::Cases;
 use farm_board::{Admission, Anyone, Board, Pass};
 use farm_io::{Clock, Peer, Sink, Source};
-use farm_kinds::{Event, Reply};
+use farm_kinds::{Event, NoMemory, Reply, Text};
 use std::alloc::Global;
 use std::sync::Wait;
 
-/// Answers events by a board, each in its turn, on a pass.
+/// Answers events by a board, each in its turn, on a pass, looks by asking for the board, and gives jobs of these cases.
 #[derive(Drop)]
-struct BoardReplier<'a, W: Wait, A: Admission> {
+struct BoardReplier<'a, W: Wait, A: Admission, Q: Cases> {
     rt: &'a W,
     board: &'a Board<Anyone, A>,
+    cases: &'a Q,
 }
 
-impl<'a, W: Wait, A: Admission> Replier for BoardReplier<'a, W, A> {
+impl<'a, W: Wait, A: Admission, Q: Cases> Replier for BoardReplier<'a, W, A, Q> {
     type State = Pass<A>;
 
     ghost suits = { λ r pass. pass.board ≡ r.board.now.id };
 
-    ghost steps = { λ old event reply new. Calls old new event reply × (new.kept ≡ false) };
+    ghost steps = { PassSteps };
 
     ghost left = { λ pass. pass.left };
 
+    ghost gives = { λ r. gives_by (Q.case_at r.cases.now) };
+
     fn step(&self, state: &mut Pass<A>, event: &Event) -> Reply {
         self.board.step(self.rt, state, event)
+    }
+
+    fn look(&self, _alloc: Global, state: &mut Pass<A>) -> Reply {
+        self.board.step(self.rt, state, &Event::Board)
+    }
+
+    fn job(
+        &self,
+        alloc: Global,
+        submission: u32,
+        judging: u32,
+        test: u32,
+    ) -> Result<Option<Text>, NoMemory> {
+        write_case(alloc, self.cases, submission, judging, test)
     }
 }
 
@@ -42,13 +61,15 @@ fn is_unheard(how: ConnHow) -> bool {
 }
 
 /// Answers the requests of a connection by calls of a board until it ends, one after the other, each by at most three
-/// calls. Whoever is at its other end then sees that it has ended.
-pub fn serve_conn<W: Wait, A: Admission, C: Clock, N: Source + Sink + Peer>(
+/// calls. Whoever is at its other end then sees that it has ended. The job of a judging is the case that `cases` have for
+/// the first judging of its submission, whose number is the submission's.
+pub fn serve_conn<W: Wait, A: Admission, Q: Cases, C: Clock, N: Source + Sink + Peer>(
     rt: &W,
     alloc: Global,
     paths: &Paths,
     pass: &mut Pass<A>,
     board: &Board<Anyone, A>,
+    cases: &Q,
     conn: &mut N,
     clock: &C,
 ) -> ConnEnd
@@ -56,7 +77,7 @@ pub fn serve_conn<W: Wait, A: Admission, C: Clock, N: Source + Sink + Peer>(
     requires calls { 2 ^ 42 ≤ pass.old.left }
     requires source { (n : N) → N.Source.beside n ≡ side (N.held n) (N.Sink.faults n) }
     requires sink { (n : N) → N.Sink.beside n ≡ side (N.left n) (N.Source.faults n) }
-    ensures served { IsServed MakesCalls (around_of (C.shows clock.now) N.Peer.asks)
+    ensures served { IsServed MakesCalls (giving (gives_by (Q.case_at cases.now)) (around_of (C.shows clock.now) N.Peer.asks))
         (untaken pass.old (N.left conn.old) (N.held conn.old)) (untaken pass.new (N.left conn.new) (N.held conn.new))
         result.requests result.how }
     ensures cause { HasCauseServed (N.Source.faults conn.old) (N.Source.faults conn.new)
@@ -64,7 +85,7 @@ pub fn serve_conn<W: Wait, A: Admission, C: Clock, N: Source + Sink + Peer>(
     ensures complete { AnswersAll N.Peer.asks (N.left conn.old) (N.Source.faults conn.old) (N.Source.faults conn.new)
         (N.Sink.faults conn.old) (N.Sink.faults conn.new) result.requests result.how }
 {
-    let replier = BoardReplier { rt, board };
+    let replier = BoardReplier { rt, board, cases };
     let end = serve_on(alloc, paths, &replier, pass, clock, conn);
     conn.finish(is_unheard(end.how));
     end

@@ -4,9 +4,10 @@
 //! connection by a [`Replier`], until it ends as a [`ConnEnd`] says. [`serve_conn`] does so on a running board.
 //!
 //! Where things stand: `paths.rt` the table of paths and its router, `routes.rt` the route of a request,
-//! `asking.rt` its event, `answering.rt` responses; `replier.rt` what answers events, and how those of a request
-//! are entered, `serving.rt` is `serve_on`, which answers a connection by whatever answers events, and `calling.rt`
-//! is `serve_conn`, which does so by calls of a board, on a pass; `ends.rt` how a connection ends.
+//! `asking.rt` its event, `answering.rt` responses, `jobs.rt` those that give a job, `publishing.rt` those that give what the
+//! public sees; `replier.rt` what answers events, and how those of a request are entered, `serving.rt` is `serve_on`, which
+//! answers a connection by whatever answers events, and `calling.rt` is `serve_conn`, which does so by calls of a board, on
+//! a pass; `ends.rt` how a connection ends.
 //! `specs/Exchanges.antt` is what is entered and answered for a request, `specs/Serving.antt` what for a
 //! connection, `specs/PassCalls.antt` what that makes of a pass.
 //!
@@ -18,7 +19,9 @@ mod answering;
 mod asking;
 mod calling;
 mod ends;
+mod jobs;
 mod paths;
+mod publishing;
 mod replier;
 mod routes;
 mod serving;

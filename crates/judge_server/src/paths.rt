@@ -5,7 +5,7 @@ use farm_kinds::NoMemory;
 use matchit::{InsertError, Router};
 use std::alloc::Global;
 
-/// A path of the server, without its id.
+/// A path of the server, without its ids.
 #[derive(Clone, Copy, Debug, PartialEq, Eq)]
 pub enum Place {
     Hosts,
@@ -13,11 +13,13 @@ pub enum Place {
     AddRun,
     Renew,
     Down,
+    Job,
     Judgement,
     Submission,
     Verify,
     Ask,
     Board,
+    Public,
     Audit,
     Rejudgings,
     Rejudging,
@@ -25,17 +27,19 @@ pub enum Place {
     Cancel,
 }
 
-static TABLE: [(&str, Place); 15] = [
+static TABLE: [(&str, Place); 17] = [
     ("/judgehosts", Place::Hosts),
     ("/judgehosts/fetch-work", Place::FetchWork),
     ("/judgehosts/add-judging-run", Place::AddRun),
     ("/judgehosts/renew", Place::Renew),
     ("/judgehosts/down", Place::Down),
+    ("/judgehosts/job/{judging}/{test}", Place::Job),
     ("/judgements/{id}", Place::Judgement),
     ("/judgements/{id}/submission", Place::Submission),
     ("/judgements/{id}/verify", Place::Verify),
     ("/judgements/{id}/ask", Place::Ask),
     ("/board", Place::Board),
+    ("/public", Place::Public),
     ("/audit", Place::Audit),
     ("/rejudgings", Place::Rejudgings),
     ("/rejudgings/{id}", Place::Rejudging),
@@ -85,7 +89,7 @@ impl Paths {
         }
     }
 
-    /// The place that a path names, whatever stands where it has an id.
+    /// The place that a path names, whatever stands where it has ids.
     pub fn find(&self, path: &str) -> Option<Place>
         ensures { result ≡ place_in rows path.now }
     {

@@ -1,30 +1,51 @@
-ghost use Rattle.std.specs.Prelude.{◌≡◌, ◌≢◌, ◌+◌, ◌<◌, ◌≤◌, ◌∷◌, [], ℕ, IfOk};
-ghost use Rattle.farm_kinds.specs.declared.events.Event.{Event as Asking};
-ghost use Rattle.farm_kinds.specs.declared.events.Reply.{Reply as Answer};
+ghost use Rattle.std.specs.Prelude.{◌≡◌, ◌≢◌, ◌+◌, ◌<◌, ◌≤◌, ◌∷◌, [], ℕ, Option, IfOk};
+ghost use Rattle.case_run.specs.Cases.{TestCase};
+ghost use Rattle.judge_server.specs.Jobs.{IsJobText};
 ghost use Rattle.judge_server.specs.Conversation.{tick, down_after};
-ghost use Rattle.judge_server.specs.Entering.{EntersAside, is_no_memory, Enters};
+ghost use Rattle.judge_server.specs.Entering.{Entered, with_reply, with_look, EntersAside, is_no_memory, Enters};
 
-use farm_kinds::{Event, NoMemory, Reply};
+use farm_kinds::{Event, NoMemory, Reply, Text};
+use std::alloc::Global;
 
-/// What answers events, one after the other.
+/// What answers events, one after the other, looks at what the public sees, and gives jobs.
 pub trait Replier {
-    /// What events change.
+    /// What events and looks change.
     type State;
 
     /// Whether it answers events in this state.
     ghost suits: { Self → Self.State → Type 0 };
-    /// From a state, by an event with this reply, into a state.
-    ghost steps: { Self.State → Asking → Answer → Self.State → Type 0 };
+    /// From a state, by an event with its reply or by a look, into a state.
+    ghost steps: { Self.State → Entered → Self.State → Type 0 };
     /// How many events may still be answered.
     ghost left: { Self.State → ℕ };
+    /// What may be given for the number of a submission and that of a test.
+    ghost gives: { Self → ℕ → ℕ → Option TestCase → Type 0 };
 
     /// Answers an event.
     fn step(&self, state: &mut Self::State, event: &Event) -> Reply
         requires suits { suits self.now state.old }
         requires left { 0 < left state.old }
-        ensures steps { steps state.old event.now result state.new }
+        ensures steps { steps state.old (with_reply event.now result) state.new }
         ensures left { left state.old ≤ left state.new + 1 }
         ensures suits { suits self.now state.new };
+
+    /// Looks at what the public sees. It is `Board`, or another reply where nothing is to be had.
+    fn look(&self, alloc: Global, state: &mut Self::State) -> Reply
+        requires suits { suits self.now state.old }
+        requires left { 0 < left state.old }
+        ensures steps { steps state.old (with_look result) state.new }
+        ensures left { left state.old ≤ left state.new + 1 }
+        ensures suits { suits self.now state.new };
+
+    /// The text of the job of a test of a judging of this submission. None where there is no case of it.
+    fn job(
+        &self,
+        alloc: Global,
+        submission: u32,
+        judging: u32,
+        test: u32,
+    ) -> Result<Option<Text>, NoMemory>
+        ensures { IfOk result (λ text. IsJobText (gives self.now submission test) judging test text) };
 }
 
 /// Whether the reply says that memory ran out.

@@ -1,7 +1,7 @@
 ghost use Rattle.std.specs.Prelude.{◌≡◌, ◌==◌, ◌≤◌, length, IsUtf8};
 ghost use Rattle.std.specs.List.{position, position_or_len};
 ghost use Rattle.judge_server.specs.Table.{rows, place_in};
-ghost use Rattle.judge_server.specs.Routes.{before, behind, path_of, id_of, route_at, route_of, method_of, routed_by, routed_of};
+ghost use Rattle.judge_server.specs.Routes.{before, behind, path_of, id_of, job_with, job_of, route_at, method_of, routed_by, public_by, routed_at, routed_of};
 
 use crate::paths::{Paths, Place};
 use command_text::read_number;
@@ -12,6 +12,8 @@ use wire_json::Route;
 pub enum Routed {
     /// A route, by the method that it has.
     Route(Route),
+    /// What the public sees.
+    Public,
     /// No route has the path, or what stands there for an id is no number.
     NoRoute,
     /// The route of the path has another method.
@@ -62,9 +64,30 @@ fn id_of(path: &[u8]) -> Option<u32>
     read_number(before(tail, b'/'))
 }
 
-/// The route of a place and, where its path has one, an id.
-fn route_at(place: Place, id: Option<u32>) -> Option<Route>
-    ensures { result ≡ route_at place id }
+/// The route of a job of these, where both are numbers.
+fn job_with(judging: Option<u32>, test: Option<u32>) -> Option<Route>
+    ensures { result ≡ job_with judging test }
+{
+    match (judging, test) {
+        (Some(judging), Some(test)) => Some(Route::Job { judging, test }),
+        _ => None,
+    }
+}
+
+/// The route of a job: of the judging between the third slash of a path and the fourth, and the test behind that.
+fn job_of(path: &[u8]) -> Option<Route>
+    ensures { result ≡ job_of path.now }
+{
+    let tail = behind(behind(behind(path, b'/'), b'/'), b'/');
+    job_with(
+        read_number(before(tail, b'/')),
+        read_number(behind(tail, b'/')),
+    )
+}
+
+/// The route of a place and the ids that stand in the path.
+fn route_at(place: Place, path: &[u8]) -> Option<Route>
+    ensures { result ≡ route_at place path.now }
 {
     match place {
         Place::Hosts => Some(Route::Hosts),
@@ -72,16 +95,19 @@ fn route_at(place: Place, id: Option<u32>) -> Option<Route>
         Place::AddRun => Some(Route::AddRun),
         Place::Renew => Some(Route::Renew),
         Place::Down => Some(Route::Down),
-        Place::Judgement => id.map(Route::Judgement),
-        Place::Submission => id.map(Route::Submission),
-        Place::Verify => id.map(Route::Verify),
-        Place::Ask => id.map(Route::Ask),
+        Place::Job => job_of(path),
+        Place::Judgement => id_of(path).map(Route::Judgement),
+        Place::Submission => id_of(path).map(Route::Submission),
+        Place::Verify => id_of(path).map(Route::Verify),
+        Place::Ask => id_of(path).map(Route::Ask),
         Place::Board => Some(Route::Board),
+        // What the public sees is not asked by a body.
+        Place::Public => None,
         Place::Audit => Some(Route::Audit),
         Place::Rejudgings => Some(Route::Rejudgings),
-        Place::Rejudging => id.map(Route::Rejudging),
-        Place::Apply => id.map(Route::Apply),
-        Place::Cancel => id.map(Route::Cancel),
+        Place::Rejudging => id_of(path).map(Route::Rejudging),
+        Place::Apply => id_of(path).map(Route::Apply),
+        Place::Cancel => id_of(path).map(Route::Cancel),
     }
 }
 
@@ -91,20 +117,10 @@ fn method_of(route: Route) -> &'static [u8]
 {
     match route {
         Route::Judgement(_) | Route::Submission(_) | Route::Rejudging(_) => b"GET",
-        Route::Board | Route::Audit => b"GET",
+        Route::Job { .. } | Route::Board | Route::Audit => b"GET",
         Route::Hosts | Route::FetchWork | Route::AddRun | Route::Renew | Route::Down => b"POST",
         Route::Verify(_) | Route::Ask(_) | Route::Apply(_) | Route::Cancel(_) => b"POST",
         Route::Rejudgings => b"POST",
-    }
-}
-
-/// The route that a path names.
-fn route_of(paths: &Paths, path: &str) -> Option<Route>
-    ensures { result ≡ route_of path.now }
-{
-    match paths.find(path) {
-        None => None,
-        Some(place) => route_at(place, id_of(path.as_bytes())),
     }
 }
 
@@ -133,13 +149,41 @@ fn routed_by(method: &[u8], route: Option<Route>) -> Routed
     }
 }
 
+/// What the method makes of the place of what the public sees.
+fn public_by(method: &[u8]) -> Routed
+    ensures { result ≡ public_by method.now }
+{
+    if method == b"GET".as_slice() {
+        return Routed::Public;
+    }
+    Routed::NoMethod
+}
+
+/// What the method makes of a place and the ids that stand in the path.
+fn routed_at(method: &[u8], place: Option<Place>, path: &[u8]) -> Routed
+    ensures { result ≡ routed_at method.now place path.now }
+{
+    match place {
+        None => Routed::NoRoute,
+        Some(Place::Public) => public_by(method),
+        Some(place) => routed_by(method, route_at(place, path)),
+    }
+}
+
+/// What a method and a path ask for.
+fn routed_for(paths: &Paths, method: &[u8], path: &str) -> Routed
+    ensures { result ≡ routed_at method.now (place_in rows path.now) path.now }
+{
+    routed_at(method, paths.find(path), path.as_bytes())
+}
+
 /// What a request asks for, by its method and its target.
 pub fn find_route(paths: &Paths, method: &[u8], target: &[u8]) -> Routed
     requires { IsUtf8 target.now }
     ensures { result ≡ routed_of method.now target.now }
 {
     match str::from_utf8(target) {
-        Ok(target) => routed_by(method, route_of(paths, path_of(target))),
+        Ok(target) => routed_for(paths, method, path_of(target)),
         // The target is UTF-8.
         Err(_) => Routed::NoRoute,
     }

@@ -6,13 +6,15 @@ ghost use Rattle.http_door.specs.Responses.{Writes, HasCauseWritten};
 ghost use Rattle.http_door.specs.Reading.{request_with};
 ghost use Rattle.http_door.specs.ReaderValue.{budget};
 ghost use Rattle.judge_server.specs.Entering.{AreEntered};
-ghost use Rattle.judge_server.specs.Exchanges.{around_of};
+ghost use Rattle.judge_server.specs.Exchanges.{around_of, giving};
 ghost use Rattle.judge_server.specs.Serving.{PutsAnswer, close_or, how_after, OneAnswered, refusal_response, given_as, Refuses, PutsEnd, untaken, Turned, IsServed, answered_count, HasCauseServed};
 
 use crate::answering::{answer_fault, answer_reply};
 use crate::asking::{Asked, RequestFault, read_request};
 use crate::ends::{ConnEnd, ConnHow};
+use crate::jobs::answer_job;
 use crate::paths::Paths;
+use crate::publishing::answer_public;
 use crate::replier::{Replier, enter};
 use farm_io::{Clock, Peer, Sink, Source};
 use http_door::{Ending, Head, HttpReader, Next, Refusal, ResponseFault, write_response};
@@ -32,7 +34,7 @@ fn answer_asked<A: Replier, K: Sink>(
     requires suits { A.suits replier.now state.old }
     requires calls { 3 ≤ A.left state.old }
     requires told { asked.now ≢ Asked.Refused (RequestFault.BadBody BodyFault.NoMemory) }
-    ensures puts { PutsAnswer A.steps closing moment asked.now state.old state.new (K.held sink.old) (K.held sink.new) result }
+    ensures puts { PutsAnswer A.steps (A.gives replier.now) closing moment asked.now state.old state.new (K.held sink.old) (K.held sink.new) result }
     ensures cause { HasCauseWritten (K.faults sink.old) (K.faults sink.new) result }
     ensures beside { K.beside sink.new ≡ K.beside sink.old }
     ensures left { A.left state.old ≤ A.left state.new + 3 }
@@ -44,6 +46,10 @@ fn answer_asked<A: Replier, K: Sink>(
             Err(_) => Err(ResponseFault::NoMemory),
             Ok(reply) => answer_reply(alloc, sink, closing, &reply),
         },
+        Asked::Job { judging, test } => answer_job(
+            alloc, replier, state, moment, *judging, *test, closing, sink,
+        ),
+        Asked::Public => answer_public(alloc, replier, state, moment, closing, sink),
     }
 }
 
@@ -85,7 +91,7 @@ fn answer_one<A: Replier, C: Clock, K: Sink>(
     requires suits { A.suits replier.now state.old }
     requires calls { 3 ≤ A.left state.old }
     requires text { IsUtf8 head.now.target }
-    ensures puts { (asks : Bool) → (closing ≡ true → asks ≡ true) → OneAnswered A.steps (around_of (C.shows clock.now) asks)
+    ensures puts { (asks : Bool) → (closing ≡ true → asks ≡ true) → OneAnswered A.steps (giving (A.gives replier.now) (around_of (C.shows clock.now) asks))
         state.old state.new (request_with head.now body.now) (K.held sink.old) (K.held sink.new) result }
     ensures later { K.faults sink.old ≤ K.faults sink.new }
     ensures write { result ≡ Some ConnHow.WriteFault → Rose (K.faults sink.old) (K.faults sink.new) }
@@ -179,7 +185,7 @@ fn turn<A: Replier, C: Clock, N: Source + Sink + Peer>(
     requires calls { 3 * budget reader.old ≤ A.left state.old }
     requires source { (n : N) → N.Source.beside n ≡ side (N.held n) (N.Sink.faults n) }
     requires sink { (n : N) → N.Sink.beside n ≡ side (N.left n) (N.Source.faults n) }
-    ensures turned { Turned A.steps (around_of (C.shows clock.now) N.Peer.asks)
+    ensures turned { Turned A.steps (giving (A.gives replier.now) (around_of (C.shows clock.now) N.Peer.asks))
         (record { state = state.old; left = N.left conn.old; held = N.held conn.old; ahead = reader.old.ahead; taken = reader.old.taken })
         (record { state = state.new; left = N.left conn.new; held = N.held conn.new; ahead = reader.new.ahead; taken = reader.new.taken })
         result }
@@ -237,7 +243,7 @@ pub fn serve_on<A: Replier, C: Clock, N: Source + Sink + Peer>(
     requires calls { 2 ^ 42 ≤ A.left state.old }
     requires source { (n : N) → N.Source.beside n ≡ side (N.held n) (N.Sink.faults n) }
     requires sink { (n : N) → N.Sink.beside n ≡ side (N.left n) (N.Source.faults n) }
-    ensures served { IsServed (AreEntered A.steps) (around_of (C.shows clock.now) N.Peer.asks)
+    ensures served { IsServed (AreEntered A.steps) (giving (A.gives replier.now) (around_of (C.shows clock.now) N.Peer.asks))
         (untaken state.old (N.left conn.old) (N.held conn.old)) (untaken state.new (N.left conn.new) (N.held conn.new))
         result.requests result.how }
     ensures cause { HasCauseServed (N.Source.faults conn.old) (N.Source.faults conn.new)

@@ -1,13 +1,13 @@
 use Rattle.std.proofs.Common.{refl}
-use Rattle.judge_server.specs.Exchanges.{around_of}
+use Rattle.judge_server.specs.Exchanges.{around_of, giving}
 use Rattle.judge_server.proofs.OneAnswer.{one_answered, one_unread}
 use Rattle.judge_server.proofs.serving.answer_one.Goals as goal
 
 pub returns-in-Err-clause-puts : goal.returns-in-Err-clause-puts
 returns-in-Err-clause-puts g c asks may =
-    one_unread g.A.Replier.steps (around_of (g.C.Clock.shows c.args.clock.now) asks) c.now-moment.result _ _ _ c.now-moment.ensures
+    one_unread g.A.Replier.steps (giving (g.A.Replier.gives c.args.replier.now) (around_of (g.C.Clock.shows c.args.clock.now) asks)) c.now-moment.result _ _ _ c.now-moment.ensures
 
 pub returns-in-Ok-clause-puts : goal.returns-in-Ok-clause-puts
 returns-in-Ok-clause-puts g c asks may =
     rw (c.how_after.ensures, c.close_or.ensures)
-    (one_answered g.A.Replier.steps (around_of (g.C.Clock.shows c.args.clock.now) asks) c.args.head.now.close c.args.closing c.now-moment.result _ _ _ c.in-Ok.asked _ _ c.answer_asked-written.result c.now-moment.ensures may c.in-Ok.ensures.asked refl c.answer_asked-written.ensures.puts)
+    (one_answered g.A.Replier.steps (giving (g.A.Replier.gives c.args.replier.now) (around_of (g.C.Clock.shows c.args.clock.now) asks)) c.args.head.now.close c.args.closing c.now-moment.result _ _ _ c.in-Ok.asked _ _ c.answer_asked-written.result c.now-moment.ensures may c.in-Ok.ensures.asked refl c.answer_asked-written.ensures.puts)

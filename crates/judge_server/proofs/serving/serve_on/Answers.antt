@@ -1,5 +1,19 @@
-use Rattle.judge_server.proofs.Turning.{served_none, served_with}
+use Rattle.std.proofs.Common.{refl, arith}
+use Rattle.judge_server.proofs.Turning.{served_none, served_with, under_way_none}
 use Rattle.judge_server.proofs.serving.serve_on.Goals as goal
+
+pub loop-how-init : goal.loop-how-init
+loop-how-init g c =
+    let enough = c.requires.calls in
+    rw c.in-Ok.ensures (record {
+      under_way = under_way_none g.A.Replier.steps _ c.args.state.now _ _;
+      suits = c.requires.suits;
+      read_later = omega arith;
+      write_later = omega arith;
+      going = refl;
+      calls = omega (arith, enough);
+      count = omega arith;
+    })
 
 pub returns-in-Err-clause-served : goal.returns-in-Err-clause-served
 returns-in-Err-clause-served g c = served_none g.A.Replier.steps _ c.args.state.now _ _

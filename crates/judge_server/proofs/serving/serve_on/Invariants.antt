@@ -1,7 +1,7 @@
 use Rattle.std.proofs.Common.{◌≡◌, ◌+◌, ◌*◌, ◌≤◌, None}
 use Rattle.farm_io.specs.Lines.{input_limit}
 use Rattle.http_door.specs.ReaderValue.{budget}
-use Rattle.judge_server.specs.Exchanges.{around_of}
+use Rattle.judge_server.specs.Exchanges.{around_of, giving}
 use Rattle.judge_server.specs.Serving.{untaken, IsUnderWay}
 use Rattle.judge_server.proofs.serving.serve_on.Given as goal
 
@@ -10,7 +10,7 @@ invariant-loop-how g l =
     let left = g.N.Source.left in
     let held = g.N.Sink.held in
     record {
-      under_way : IsUnderWay g.A.Replier.steps (around_of (g.C.Clock.shows l.clock) g.N.Peer.asks)
+      under_way : IsUnderWay g.A.Replier.steps (giving (g.A.Replier.gives l.replier) (around_of (g.C.Clock.shows l.clock) g.N.Peer.asks))
           (untaken l.fn.state (left l.fn.conn) (held l.fn.conn))
           (record { state = l.state; left = left l.conn; held = held l.conn; ahead = l.reader.ahead; taken = l.reader.taken }) l.requests;
       suits : g.A.Replier.suits l.replier l.state;

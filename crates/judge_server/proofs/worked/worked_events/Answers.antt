@@ -24,3 +24,11 @@ returns-clause-differs c = refl
 pub returns-clause-fetch : goal.returns-clause-fetch
 unfolding rows is_utf8 chars serde_json_on_literals matchit_on_literals
 returns-clause-fetch c = refl
+
+pub returns-clause-job : goal.returns-clause-job
+unfolding rows is_utf8 chars serde_json_on_literals matchit_on_literals
+returns-clause-job c = refl
+
+pub returns-clause-public : goal.returns-clause-public
+unfolding rows is_utf8 chars serde_json_on_literals matchit_on_literals
+returns-clause-public c = refl

@@ -4,7 +4,7 @@ use Rattle.std.specs.Str.{is_utf8, chars}
 use Rattle.matchit.proofs.OnLiterals.{matchit_on_literals}
 use Rattle.serde_json.proofs.OnLiterals.{serde_json_on_literals}
 use Rattle.judge_server.specs.Table.{rows}
-use Rattle.judge_server.specs.Conversation.{reply_response, fault_response}
+use Rattle.judge_server.specs.Conversation.{reply_response, fault_response, job_response, rows_response}
 use Rattle.judge_server.proofs.worked.worked_responses.Goals as goal
 
 pub returns-clause-nothing : goal.returns-clause-nothing
@@ -50,3 +50,15 @@ returns-clause-already c = refl
 pub returns-clause-closing : goal.returns-clause-closing
 unfolding rows reply_response fault_response is_utf8 chars serde_json_on_literals matchit_on_literals digits
 returns-clause-closing c = refl
+
+pub returns-clause-no_job : goal.returns-clause-no_job
+unfolding rows reply_response fault_response job_response is_utf8 chars serde_json_on_literals matchit_on_literals digits
+returns-clause-no_job c = refl
+
+pub returns-clause-job_of_no_judging : goal.returns-clause-job_of_no_judging
+unfolding rows reply_response fault_response job_response is_utf8 chars serde_json_on_literals matchit_on_literals digits
+returns-clause-job_of_no_judging c = refl
+
+pub returns-clause-public : goal.returns-clause-public
+unfolding rows rows_response is_utf8 chars serde_json_on_literals matchit_on_literals digits
+returns-clause-public c = refl

@@ -38,3 +38,23 @@ returns-clause-ask c = refl
 pub returns-clause-submission : goal.returns-clause-submission
 unfolding rows matchit_on_literals
 returns-clause-submission c = refl
+
+pub returns-clause-job : goal.returns-clause-job
+unfolding rows matchit_on_literals
+returns-clause-job c = refl
+
+pub returns-clause-job_of_zero : goal.returns-clause-job_of_zero
+unfolding rows matchit_on_literals
+returns-clause-job_of_zero c = refl
+
+pub returns-clause-job_without_test : goal.returns-clause-job_without_test
+unfolding rows matchit_on_literals
+returns-clause-job_without_test c = refl
+
+pub returns-clause-job_of_a_word : goal.returns-clause-job_of_a_word
+unfolding rows matchit_on_literals
+returns-clause-job_of_a_word c = refl
+
+pub returns-clause-job_of_a_signed_number : goal.returns-clause-job_of_a_signed_number
+unfolding rows matchit_on_literals
+returns-clause-job_of_a_signed_number c = refl

@@ -18,3 +18,19 @@ returns-clause-lower_case c = refl
 pub returns-clause-no_route : goal.returns-clause-no_route
 unfolding rows matchit_on_literals
 returns-clause-no_route c = refl
+
+pub returns-clause-job_method : goal.returns-clause-job_method
+unfolding rows matchit_on_literals
+returns-clause-job_method c = refl
+
+pub returns-clause-public : goal.returns-clause-public
+unfolding rows matchit_on_literals
+returns-clause-public c = refl
+
+pub returns-clause-public_query : goal.returns-clause-public_query
+unfolding rows matchit_on_literals
+returns-clause-public_query c = refl
+
+pub returns-clause-public_method : goal.returns-clause-public_method
+unfolding rows matchit_on_literals
+returns-clause-public_method c = refl

@@ -1,0 +1,42 @@
+-- Jobs: what is given to a host that asks for the job of a test.
+use Rattle.std.specs.Prelude.{◌≡◌, ℕ, nat_le, List, Option, Some, None, option_map, if◌then◌else◌, codes}
+use Rattle.farm_kinds.specs.declared.outcomes.Task.{Task}
+use Rattle.farm_kinds.specs.declared.events.Reply.{Reply}
+use Rattle.farm_kinds.specs.declared.events.Reply.TheVariants as reply
+use Rattle.case_run.specs.Cases.{TestCase}
+use Rattle.wire_job.specs.Writing.{job_text}
+
+-- the submission that a reply names as that of a judging
+abbrev pub owner_in : Reply → Option ℕ
+owner_in (reply.Owned submission) = Some submission
+owner_in r = None
+
+-- what may be given for the number of a submission and that of a test: a case, or none
+abbrev pub Gives : Type 1
+Gives = ℕ → ℕ → Option TestCase → Type 0
+
+-- there are no cases
+abbrev pub gives_none : Gives
+gives_none submission test case = case ≡ None
+
+-- The case of a submission and a test, where cases are those of tasks: a submission's cases are those of its first
+-- judging, which has the submission's number. Tests have numbers up to 65,535.
+abbrev pub case_of : (Task → Option TestCase) → ℕ → ℕ → Option TestCase
+case_of case_at submission test =
+    if nat_le test 65535 then case_at (record { judging = submission; test = test }) else None
+
+-- what is given is that case, and none where there is none
+abbrev pub gives_by : (Task → Option TestCase) → Gives
+gives_by case_at submission test case = case ≡ case_of case_at submission test
+
+-- the text of a judging's job
+abbrev pub text_for : ℕ → ℕ → TestCase → List ℕ
+text_for judging test c = job_text (record { judging = judging; test = test }) c
+
+-- the text of the judging's job is that of a case which may be given; there is none where none may be
+abbrev pub IsJobText : (Option TestCase → Type 0) → ℕ → ℕ → Option (List ℕ) → Type 0
+IsJobText may judging test text =
+    (case : Option TestCase) × may case × (text ≡ option_map (text_for judging test) case)
+
+abbrev pub no_job : List ℕ
+no_job = codes "{\"reply\":\"no-job\"}"
