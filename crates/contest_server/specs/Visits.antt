@@ -5,7 +5,10 @@ use Rattle.farm_io.specs.Doors.{IsFresh}
 use Rattle.farm_board.specs.Passes.{PassValue}
 use Rattle.judge_server.specs.declared.ends.ConnHow.{ConnHow}
 use Rattle.judge_server.specs.declared.ends.ConnHow.TheVariants as how
-use Rattle.judge_server.specs.Exchanges.{Around}
+use Rattle.farm_kinds.specs.declared.outcomes.Task.{Task}
+use Rattle.case_run.specs.Cases.{TestCase}
+use Rattle.judge_server.specs.Jobs.{gives_by}
+use Rattle.judge_server.specs.Exchanges.{Around, giving}
 use Rattle.judge_server.specs.Serving.{untaken, IsServed, HasCauseServed, AnswersAll}
 use Rattle.judge_server.specs.PassCalls.{MakesCalls}
 
@@ -17,20 +20,30 @@ Telling N = N → Option (List ℕ)
 abbrev pub Counting : Type 0 → Type 0
 Counting N = N → ℕ
 
--- what is told of connections of one type, and of the clock by which they are served
-pub record Watch (N : Type 0) : Type 0 where
+-- what is told of connections of one type, and of the clock and the cases by which they are served
+pub record Watch (N : Type 0) : Type 1 where
   -- the bytes that a connection has left, and those that it holds, where it tells them
   pub left : Telling N
   pub held : Telling N
   -- how often reading and writing have failed on it
   pub reads : Counting N
   pub writes : Counting N
-  -- the numbers that the clock may show, and whether the server ever asks to close
+  -- the numbers that the clock may show, whether the server ever asks to close, and the cases that it may give
   pub around : Around
 
 abbrev pub watch : {N : Type 0} → Telling N → Telling N → Counting N → Counting N → Around → Watch N
 watch left held reads writes around =
     record { left = left; held = held; reads = reads; writes = writes; around = around }
+
+-- the same, where these cases are given
+abbrev pub with_cases : {N : Type 0} → (Task → Option TestCase) → Watch N → Watch N
+with_cases case_at w = record {
+  left = w.left;
+  held = w.held;
+  reads = w.reads;
+  writes = w.writes;
+  around = giving (gives_by case_at) w.around;
+}
 
 -- a connection as it came, and the pass that was split off for it
 pub record Start (N : Type 0) : Type 0 where

@@ -5,7 +5,7 @@ ghost use Rattle.farm_board.specs.BoardState.{BoardState};
 ghost use Rattle.farm_board.specs.Histories.{IsOpening};
 ghost use Rattle.parallel_judge.specs.Hosts.{HasEntered};
 ghost use Rattle.judge_server.specs.Exchanges.{around_of};
-ghost use Rattle.contest_server.specs.Visits.{watch};
+ghost use Rattle.contest_server.specs.Visits.{watch, with_cases};
 ghost use Rattle.contest_server.specs.Serving.{desk, share, IsOrderly, ServesLanes, HasCauseEnd};
 ghost use Rattle.contest_server.specs.Served.{HasServed, ShowsBoard};
 
@@ -13,6 +13,7 @@ use crate::bell::Bell;
 use crate::ends::ServeEnd;
 use crate::lines::put_text;
 use crate::serving::{end_of, serve_lanes};
+use case_run::Cases;
 use command_text::push_reply;
 use farm_board::{Admission, Anyone, Board, Pass};
 use farm_io::{Clock, Door, Sink};
@@ -30,12 +31,14 @@ fn serve_in_scope<
     K: Sink,
     A: Admission + Send + Sync,
     C: Clock + Sync,
+    Q: Cases + Sync,
 >(
     rt: &R,
     alloc: Global,
     paths: &Paths,
     board: &Board<Anyone, A>,
     clock: &C,
+    cases: &Q,
     bell: &Bell,
     door: &mut D,
     out: &mut K,
@@ -46,23 +49,23 @@ fn serve_in_scope<
 ) -> (Pass<A>, ServeEnd)
 where
     D::Conn: Drop,
-    requires orderly { IsOrderly (watch D.Conn.left D.Conn.held D.Conn.Source.faults D.Conn.Sink.faults (around_of (C.shows clock.now) D.Conn.Peer.asks)) board.now.id (desk (D.state door.old) pass []) }
+    requires orderly { IsOrderly (with_cases (Q.case_at cases.now) (watch D.Conn.left D.Conn.held D.Conn.Source.faults D.Conn.Sink.faults (around_of (C.shows clock.now) D.Conn.Peer.asks))) board.now.id (desk (D.state door.old) pass []) }
     requires some { 0 < most }
     requires seats { pass.spare ≡ most }
     requires left { connections * (share + 2) + 2 * most < pass.left }
-    ensures serves { ServesLanes (watch D.Conn.left D.Conn.held D.Conn.Source.faults D.Conn.Sink.faults (around_of (C.shows clock.now) D.Conn.Peer.asks)) board.now.id (desk (D.state door.old) pass []) (desk (D.state door.new) result.0 []) (K.held out.old) (K.held out.new) connections result.1 }
+    ensures serves { ServesLanes (with_cases (Q.case_at cases.now) (watch D.Conn.left D.Conn.held D.Conn.Source.faults D.Conn.Sink.faults (around_of (C.shows clock.now) D.Conn.Peer.asks))) board.now.id (desk (D.state door.old) pass []) (desk (D.state door.new) result.0 []) (K.held out.old) (K.held out.new) connections result.1 }
     ensures cause { HasCauseEnd (D.faults door.old) (D.faults door.new) (K.faults out.old) (K.faults out.new) result.1 }
 {
     let (lent_door, lent_out, pass, end) = thread::scope(
         thread::scope_env(),
         rt,
         |scope| -> (&mut D, &mut K, Pass<A>, ServeEnd)
-            requires orderly { IsOrderly (watch D.Conn.left D.Conn.held D.Conn.Source.faults D.Conn.Sink.faults (around_of (C.shows clock.now) D.Conn.Peer.asks)) board.now.id (desk (D.state door.now) pass []) }
+            requires orderly { IsOrderly (with_cases (Q.case_at cases.now) (watch D.Conn.left D.Conn.held D.Conn.Source.faults D.Conn.Sink.faults (around_of (C.shows clock.now) D.Conn.Peer.asks))) board.now.id (desk (D.state door.now) pass []) }
             requires some { 0 < most }
             requires seats { pass.spare ≡ most }
             requires left { connections * (share + 2) + 2 * most < pass.left }
             ensures { (result.0.ghost_name ≡ door.entry.ghost_name) × (result.1.ghost_name ≡ out.entry.ghost_name)
-                × ServesLanes (watch D.Conn.left D.Conn.held D.Conn.Source.faults D.Conn.Sink.faults (around_of (C.shows clock.entry.now) D.Conn.Peer.asks)) board.entry.now.id (desk (D.state door.entry.now) pass []) (desk (D.state result.0.now) result.2 []) (K.held out.entry.now) (K.held result.1.now) connections result.3
+                × ServesLanes (with_cases (Q.case_at cases.entry.now) (watch D.Conn.left D.Conn.held D.Conn.Source.faults D.Conn.Sink.faults (around_of (C.shows clock.entry.now) D.Conn.Peer.asks))) board.entry.now.id (desk (D.state door.entry.now) pass []) (desk (D.state result.0.now) result.2 []) (K.held out.entry.now) (K.held result.1.now) connections result.3
                 × HasCauseEnd (D.faults door.entry.now) (D.faults result.0.now) (K.faults out.entry.now) (K.faults result.1.now) result.3 }
         {
             let mut pass = pass;
@@ -72,6 +75,7 @@ where
                 paths,
                 board,
                 clock,
+                cases,
                 bell,
                 scope,
                 door,
@@ -130,12 +134,14 @@ pub(crate) fn serve_board<
     K: Sink,
     A: Admission + Send + Sync,
     C: Clock + Sync,
+    Q: Cases + Sync,
 >(
     rt: &R,
     alloc: Global,
     paths: &Paths,
     board: &Board<Anyone, A>,
     clock: &C,
+    cases: &Q,
     door: &mut D,
     out: &mut K,
     pass: Pass<A>,
@@ -145,12 +151,12 @@ pub(crate) fn serve_board<
 ) -> ServeEnd
 where
     D::Conn: Drop,
-    requires orderly { IsOrderly (watch D.Conn.left D.Conn.held D.Conn.Source.faults D.Conn.Sink.faults (around_of (C.shows clock.now) D.Conn.Peer.asks)) board.now.id (desk (D.state door.old) pass []) }
+    requires orderly { IsOrderly (with_cases (Q.case_at cases.now) (watch D.Conn.left D.Conn.held D.Conn.Source.faults D.Conn.Sink.faults (around_of (C.shows clock.now) D.Conn.Peer.asks))) board.now.id (desk (D.state door.old) pass []) }
     requires some { 0 < untold }
     requires seats { pass.spare ≡ untold }
     requires left { connections * (share + 2) + 4 * untold < pass.left }
     ensures served { (start : BoardState) (events : List EventValue) → IsOpening start → HasEntered start events pass
-        → HasServed (watch D.Conn.left D.Conn.held D.Conn.Source.faults D.Conn.Sink.faults (around_of (C.shows clock.now) D.Conn.Peer.asks)) start events (D.state door.old) (D.state door.new) (K.held out.old) (K.held out.new) connections result }
+        → HasServed (with_cases (Q.case_at cases.now) (watch D.Conn.left D.Conn.held D.Conn.Source.faults D.Conn.Sink.faults (around_of (C.shows clock.now) D.Conn.Peer.asks))) start events (D.state door.old) (D.state door.new) (K.held out.old) (K.held out.new) connections result }
     ensures cause { HasCauseEnd (D.faults door.old) (D.faults door.new) (K.faults out.old) (K.faults out.new) result }
 {
     let bell = Bell::new();
@@ -160,6 +166,7 @@ where
         paths,
         board,
         clock,
+        cases,
         &bell,
         door,
         out,

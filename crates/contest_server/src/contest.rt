@@ -6,7 +6,8 @@ ghost use Rattle.farm_board.specs.Histories.{opening_board};
 ghost use Rattle.parallel_judge.specs.Hosts.{HasEntered};
 ghost use Rattle.contest_server.specs.Contest.{entering_events, open_limit, seats};
 ghost use Rattle.judge_server.specs.Exchanges.{around_of};
-ghost use Rattle.contest_server.specs.Visits.{watch};
+ghost use Rattle.contest_folder.specs.JudgingCases.{case_at};
+ghost use Rattle.contest_server.specs.Visits.{watch, with_cases};
 ghost use Rattle.contest_server.specs.Serving.{HasCauseEnd};
 ghost use Rattle.contest_server.specs.Served.{Serves};
 
@@ -52,7 +53,7 @@ where
     requires connections { connections ≤ 100000 }
     requires door { (D.state door.old).returned ≤ (D.state door.old).accepted }
     requires listens { DoesListen (D.state door.old) }
-    ensures serves { Serves (watch D.Conn.left D.Conn.held D.Conn.Source.faults D.Conn.Sink.faults (around_of (C.shows clock.now) D.Conn.Peer.asks)) (opening_board (start roster.now.settings) (seats lanes) false)
+    ensures serves { Serves (with_cases (case_at roster.now) (watch D.Conn.left D.Conn.held D.Conn.Source.faults D.Conn.Sink.faults (around_of (C.shows clock.now) D.Conn.Peer.asks))) (opening_board (start roster.now.settings) (seats lanes) false)
         (entering_events roster.now) (D.state door.old) (D.state door.new) (K.held out.old) (K.held out.new) connections result }
     ensures cause { HasCauseEnd (D.faults door.old) (D.faults door.new) (K.faults out.old) (K.faults out.new) result }
     ensures complete { ¬ Rose (D.faults door.old) (D.faults door.new) → ¬ Rose (K.faults out.old) (K.faults out.new)
@@ -70,6 +71,7 @@ where
         &paths,
         &board,
         clock,
+        roster,
         door,
         out,
         pass,

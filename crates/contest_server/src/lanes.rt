@@ -3,9 +3,10 @@ ghost use Rattle.std.specs.VecDeque.{deque_len};
 ghost use Rattle.farm_io.specs.Beside.{side};
 ghost use Rattle.contest_server.specs.Lanes.{start_of, starts_of, visit_of, IsLane, AreLanes};
 ghost use Rattle.judge_server.specs.Exchanges.{around_of};
-ghost use Rattle.contest_server.specs.Visits.{watch, visit, IsAnswered};
+ghost use Rattle.contest_server.specs.Visits.{watch, with_cases, visit, IsAnswered};
 
 use crate::bell::Bell;
+use case_run::Cases;
 use farm_board::{Admission, Anyone, Board, Pass};
 use farm_io::{Clock, Peer, Sink, Source};
 use judge_server::{ConnEnd, Paths, serve_conn};
@@ -23,36 +24,39 @@ pub(crate) struct Served<N, P> {
     pub end: ConnEnd,
 }
 
-/// What a worker promises of the connection and the pass that it was given.
-pub(crate) struct Promised<N, P, C> {
+/// What a worker promises of the connection and the pass that it was given, by this clock and these cases.
+pub(crate) struct Promised<N, P, C, Q> {
     pub came: Snapshot<N>,
     pub begun: Snapshot<P>,
     pub clock: Snapshot<C>,
+    pub cases: Snapshot<Q>,
 }
 
-impl<N, P, C> Drop for Promised<N, P, C> {
+impl<N, P, C, Q> Drop for Promised<N, P, C, Q> {
     fn drop(self) {
         let Self {
             came: _,
             begun: _,
             clock: _,
+            cases: _,
         } = self;
     }
 }
 
-impl<N: Source + Sink + Peer, A: Admission, C: Clock> Promise<Served<N, Pass<A>>>
-    for Promised<N, Pass<A>, C> {
-    ghost kept_by = { λ p r. IsAnswered (watch N.left N.held N.Source.faults N.Sink.faults (around_of (C.shows p.clock.value) N.Peer.asks))
+impl<N: Source + Sink + Peer, A: Admission, C: Clock, Q: Cases> Promise<Served<N, Pass<A>>>
+    for Promised<N, Pass<A>, C, Q> {
+    ghost kept_by = { λ p r. IsAnswered (with_cases (Q.case_at p.cases.value) (watch N.left N.held N.Source.faults N.Sink.faults (around_of (C.shows p.clock.value) N.Peer.asks)))
         (visit p.came.value r.conn p.begun.value r.pass r.end.requests r.end.how) };
 }
 
 /// Serves a connection on a pass of its own, in this place.
-fn serve_one<W: Wait, A: Admission, C: Clock, N: Source + Sink + Peer>(
+fn serve_one<W: Wait, A: Admission, C: Clock, Q: Cases, N: Source + Sink + Peer>(
     rt: &W,
     alloc: Global,
     paths: &Paths,
     board: &Board<Anyone, A>,
     clock: &C,
+    cases: &Q,
     bell: &Bell,
     place: usize,
     mut pass: Pass<A>,
@@ -62,10 +66,10 @@ fn serve_one<W: Wait, A: Admission, C: Clock, N: Source + Sink + Peer>(
     requires calls { 2 ^ 42 ≤ pass.left }
     requires source { (n : N) → N.Source.beside n ≡ side (N.held n) (N.Sink.faults n) }
     requires sink { (n : N) → N.Sink.beside n ≡ side (N.left n) (N.Source.faults n) }
-    ensures answered { IsAnswered (watch N.left N.held N.Source.faults N.Sink.faults (around_of (C.shows clock.now) N.Peer.asks))
+    ensures answered { IsAnswered (with_cases (Q.case_at cases.now) (watch N.left N.held N.Source.faults N.Sink.faults (around_of (C.shows clock.now) N.Peer.asks)))
         (visit conn result.conn pass result.pass result.end.requests result.end.how) }
 {
-    let end = serve_conn(rt, alloc, paths, &mut pass, board, &mut conn, clock);
+    let end = serve_conn(rt, alloc, paths, &mut pass, board, cases, &mut conn, clock);
     bell.ring(rt, place);
     Served { conn, pass, end }
 }
@@ -79,7 +83,7 @@ pub(crate) struct Lane<T, P: Promise<T>> {
 }
 
 /// A connection that is being served, by the types of its worker.
-pub(crate) type Worker<N, A, C> = Lane<Served<N, Pass<A>>, Promised<N, Pass<A>, C>>;
+pub(crate) type Worker<N, A, C, Q> = Lane<Served<N, Pass<A>>, Promised<N, Pass<A>, C, Q>>;
 
 /// Begins to serve a connection by a worker. Where none can be started, the caller serves it.
 pub(crate) fn begin<
@@ -88,6 +92,7 @@ pub(crate) fn begin<
     W: Wait + Sync,
     A: Admission + Send + Sync,
     C: Clock + Sync,
+    Q: Cases + Sync,
     N: Source + Sink + Peer + Send + Drop + 's,
 >(
     rt: &'s W,
@@ -95,23 +100,25 @@ pub(crate) fn begin<
     paths: &'s Paths,
     board: &'s Board<Anyone, A>,
     clock: &'s C,
+    cases: &'s Q,
     bell: &'s Bell,
     scope: &Scope<'s, E>,
     place: usize,
     pass: Pass<A>,
     conn: N,
-) -> Worker<N, A, C>
+) -> Worker<N, A, C, Q>
     requires board { pass.board ≡ board.now.id }
     requires calls { 2 ^ 42 ≤ pass.left }
     requires source { (n : N) → N.Source.beside n ≡ side (N.held n) (N.Sink.faults n) }
     requires sink { (n : N) → N.Sink.beside n ≡ side (N.left n) (N.Source.faults n) }
     ensures start { start_of result ≡ record { came = conn; begun = pass } }
-    ensures lane { IsLane (watch N.left N.held N.Source.faults N.Sink.faults (around_of (C.shows clock.now) N.Peer.asks)) clock.now result }
+    ensures lane { IsLane (with_cases (Q.case_at cases.now) (watch N.left N.held N.Source.faults N.Sink.faults (around_of (C.shows clock.now) N.Peer.asks))) clock.now cases.now result }
 {
     let promise = Promised {
         came: Snapshot::of(&conn),
         begun: Snapshot::of(&pass),
         clock: Snapshot::of(clock),
+        cases: Snapshot::of(cases),
     };
     let promised = Snapshot::of(&promise);
     let started = scope.spawn_with(
@@ -121,9 +128,13 @@ pub(crate) fn begin<
             requires calls { 2 ^ 42 ≤ pass.left }
             requires source { (n : N) → N.Source.beside n ≡ side (N.held n) (N.Sink.faults n) }
             requires sink { (n : N) → N.Sink.beside n ≡ side (N.left n) (N.Source.faults n) }
-            ensures answered { IsAnswered (watch N.left N.held N.Source.faults N.Sink.faults (around_of (C.shows clock.entry.now) N.Peer.asks))
+            ensures answered { IsAnswered (with_cases (Q.case_at cases.entry.now) (watch N.left N.held N.Source.faults N.Sink.faults (around_of (C.shows clock.entry.now) N.Peer.asks)))
                 (visit conn result.conn pass result.pass result.end.requests result.end.how) }
-        { serve_one(rt, alloc, paths, board, clock, bell, place, pass, conn) },
+        {
+            serve_one(
+                rt, alloc, paths, board, clock, cases, bell, place, pass, conn,
+            )
+        },
     );
     match started {
         Ok(handle) => Lane {
@@ -140,13 +151,14 @@ pub(crate) fn begin<
 }
 
 /// Waits until the connection was served.
-pub(crate) fn end<R: Threads, N: Source + Sink + Peer + Drop, A: Admission, C: Clock>(
+pub(crate) fn end<R: Threads, N: Source + Sink + Peer + Drop, A: Admission, C: Clock, Q: Cases>(
     rt: &R,
     clock: &C,
-    lane: Worker<N, A, C>,
+    cases: &Q,
+    lane: Worker<N, A, C, Q>,
 ) -> Served<N, Pass<A>>
-    requires lane { IsLane (watch N.left N.held N.Source.faults N.Sink.faults (around_of (C.shows clock.now) N.Peer.asks)) clock.now lane }
-    ensures answered { IsAnswered (watch N.left N.held N.Source.faults N.Sink.faults (around_of (C.shows clock.now) N.Peer.asks))
+    requires lane { IsLane (with_cases (Q.case_at cases.now) (watch N.left N.held N.Source.faults N.Sink.faults (around_of (C.shows clock.now) N.Peer.asks))) clock.now cases.now lane }
+    ensures answered { IsAnswered (with_cases (Q.case_at cases.now) (watch N.left N.held N.Source.faults N.Sink.faults (around_of (C.shows clock.now) N.Peer.asks)))
         (visit_of (start_of lane) result) }
 {
     let Lane {
@@ -165,14 +177,15 @@ pub(crate) fn end<R: Threads, N: Source + Sink + Peer + Drop, A: Admission, C: C
 }
 
 /// Waits until the connection was served, and keeps what came of it: no thread is left.
-pub(crate) fn settle<R: Threads, N: Source + Sink + Peer + Drop, A: Admission, C: Clock>(
+pub(crate) fn settle<R: Threads, N: Source + Sink + Peer + Drop, A: Admission, C: Clock, Q: Cases>(
     rt: &R,
     clock: &C,
-    lane: &mut Worker<N, A, C>,
+    cases: &Q,
+    lane: &mut Worker<N, A, C, Q>,
 )
-    requires lane { IsLane (watch N.left N.held N.Source.faults N.Sink.faults (around_of (C.shows clock.now) N.Peer.asks)) clock.now lane.old }
+    requires lane { IsLane (with_cases (Q.case_at cases.now) (watch N.left N.held N.Source.faults N.Sink.faults (around_of (C.shows clock.now) N.Peer.asks))) clock.now cases.now lane.old }
     ensures start { start_of lane.new ≡ start_of lane.old }
-    ensures lane { IsLane (watch N.left N.held N.Source.faults N.Sink.faults (around_of (C.shows clock.now) N.Peer.asks)) clock.now lane.new }
+    ensures lane { IsLane (with_cases (Q.case_at cases.now) (watch N.left N.held N.Source.faults N.Sink.faults (around_of (C.shows clock.now) N.Peer.asks))) clock.now cases.now lane.new }
 {
     if let Some(handle) = lane.worker.take() {
         lane.served = Some(handle.join(rt));
@@ -180,25 +193,26 @@ pub(crate) fn settle<R: Threads, N: Source + Sink + Peer + Drop, A: Admission, C
 }
 
 /// Waits until the connection at this index was served.
-pub(crate) fn settle_at<R: Threads, N: Source + Sink + Peer + Drop, A: Admission, C: Clock>(
-    rt: &R,
-    clock: &C,
-    lanes: &mut VecDeque<Worker<N, A, C>>,
-    index: usize,
-)
-    requires lanes { AreLanes (watch N.left N.held N.Source.faults N.Sink.faults (around_of (C.shows clock.now) N.Peer.asks)) clock.now lanes.old.items }
+pub(crate) fn settle_at<
+    R: Threads,
+    N: Source + Sink + Peer + Drop,
+    A: Admission,
+    C: Clock,
+    Q: Cases,
+>(rt: &R, clock: &C, cases: &Q, lanes: &mut VecDeque<Worker<N, A, C, Q>>, index: usize)
+    requires lanes { AreLanes (with_cases (Q.case_at cases.now) (watch N.left N.held N.Source.faults N.Sink.faults (around_of (C.shows clock.now) N.Peer.asks))) clock.now cases.now lanes.old.items }
     ensures starts { starts_of lanes.new.items ≡ starts_of lanes.old.items }
-    ensures lanes { AreLanes (watch N.left N.held N.Source.faults N.Sink.faults (around_of (C.shows clock.now) N.Peer.asks)) clock.now lanes.new.items }
+    ensures lanes { AreLanes (with_cases (Q.case_at cases.now) (watch N.left N.held N.Source.faults N.Sink.faults (around_of (C.shows clock.now) N.Peer.asks))) clock.now cases.now lanes.new.items }
     ensures len { deque_len lanes.new ≡ deque_len lanes.old }
 {
     if index < lanes.len() {
-        settle(rt, clock, &mut lanes[index]);
+        settle(rt, clock, cases, &mut lanes[index]);
     }
 }
 
 /// Whether the connection was served, and no thread is left.
-pub(crate) fn is_settled<N: Source + Sink + Peer, A: Admission, C: Clock>(
-    lane: &Worker<N, A, C>,
+pub(crate) fn is_settled<N: Source + Sink + Peer, A: Admission, C: Clock, Q: Cases>(
+    lane: &Worker<N, A, C, Q>,
 ) -> bool {
     lane.worker.is_none()
 }

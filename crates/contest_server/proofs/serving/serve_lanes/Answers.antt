@@ -1,6 +1,6 @@
 use Rattle.std.proofs.Common.{[], ap, subst, arith, length}
 use Rattle.judge_server.specs.Exchanges.{around_of}
-use Rattle.contest_server.specs.Visits.{watch}
+use Rattle.contest_server.specs.Visits.{watch, with_cases}
 use Rattle.contest_server.specs.Lanes.{starts_of}
 use Rattle.contest_server.specs.Serving.{desk, ServesLanes}
 use Rattle.contest_server.proofs.Ending.{serves_lanes}
@@ -9,7 +9,7 @@ use Rattle.contest_server.proofs.serving.serve_lanes.Goals as goal
 
 pub returns-clause-serves : goal.returns-clause-serves
 returns-clause-serves g c =
-    let w = watch g.D.Conn.Source.left g.D.Conn.Sink.held g.D.Conn.Source.faults g.D.Conn.Sink.faults (around_of (g.C.Clock.shows c.args.clock.now) g.D.Conn.Peer.asks) in
+    let w = with_cases (g.Q.Cases.case_at c.args.cases.now) (watch g.D.Conn.Source.left g.D.Conn.Sink.held g.D.Conn.Source.faults g.D.Conn.Sink.faults (around_of (g.C.Clock.shows c.args.clock.now) g.D.Conn.Peer.asks)) in
     let board = c.args.board.now.id in
     let door = g.D.Door.state c.args.door.now in
     let held = g.K.Sink.held c.args.out.now in

@@ -2,7 +2,7 @@ use Rattle.std.proofs.Common.{Err, sym, ap, subst, arith}
 use Rattle.std.proofs.lemmas.List.{length-map}
 use Rattle.contest_server.specs.declared.lines.TextFault.TheVariants as fault
 use Rattle.judge_server.specs.Exchanges.{around_of}
-use Rattle.contest_server.specs.Visits.{watch}
+use Rattle.contest_server.specs.Visits.{watch, with_cases}
 use Rattle.contest_server.specs.Lanes.{start_of, starts_of}
 use Rattle.contest_server.specs.Serving.{desk, ServesNext}
 use Rattle.contest_server.proofs.Ending.{no_memory_next}
@@ -10,7 +10,7 @@ use Rattle.contest_server.proofs.serving.serve_ready.Goals as goal
 
 pub returns-then-is_err-clause-serves : goal.returns-then-is_err-clause-serves
 returns-then-is_err-clause-serves g c =
-    let w = watch g.D.Conn.Source.left g.D.Conn.Sink.held g.D.Conn.Source.faults g.D.Conn.Sink.faults (around_of (g.C.Clock.shows c.args.clock.now) g.D.Conn.Peer.asks) in
+    let w = with_cases (g.Q.Cases.case_at c.args.cases.now) (watch g.D.Conn.Source.left g.D.Conn.Sink.held g.D.Conn.Source.faults g.D.Conn.Sink.faults (around_of (g.C.Clock.shows c.args.clock.now) g.D.Conn.Peer.asks)) in
     let board = c.args.board.now.id in
     let old = desk (g.D.Door.state c.args.door.now) c.args.pass.now (starts_of c.args.lanes.now.items) in
     let door = g.D.Door.state c.make_room.new.door in

@@ -1,13 +1,13 @@
 use Rattle.std.proofs.Common.{◌≡◌}
 use Rattle.std.specs.VecDeque.{deque_len}
 use Rattle.judge_server.specs.Exchanges.{around_of}
-use Rattle.contest_server.specs.Visits.{watch}
+use Rattle.contest_server.specs.Visits.{watch, with_cases}
 use Rattle.contest_server.specs.Lanes.{starts_of, AreLanes}
 use Rattle.contest_server.proofs.serving.settle_done.Given as goal
 
 abbrev pub invariant-loop-place : goal.invariant-loop-place
 invariant-loop-place g l = record {
   starts : starts_of l.lanes.items ≡ starts_of l.initial.lanes.items;
-  lanes : AreLanes (watch g.N.Source.left g.N.Sink.held g.N.Source.faults g.N.Sink.faults (around_of (g.C.Clock.shows l.clock) g.N.Peer.asks)) l.clock l.lanes.items;
+  lanes : AreLanes (with_cases (g.Q.Cases.case_at l.cases) (watch g.N.Source.left g.N.Sink.held g.N.Source.faults g.N.Sink.faults (around_of (g.C.Clock.shows l.clock) g.N.Peer.asks))) l.clock l.cases l.lanes.items;
   len : deque_len l.lanes ≡ deque_len l.initial.lanes;
 }
