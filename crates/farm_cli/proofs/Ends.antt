@@ -1,21 +1,22 @@
 -- How a script ends, by how its session does.
-use Rattle.std.proofs.Common.{ℕ, ◌≡◌, List, ◌++◌, inr, Option, Some, None, Ok, Err, refl, sym, ap, ◌∙◌, subst, append_assoc}
+use Rattle.std.proofs.Common.{ℕ, ◌≡◌, List, ◌++◌, ◌⊎◌, IsTrue, inr, Option, Some, None, Ok, Err, refl, sym, ap, ◌∙◌, subst, append_assoc}
 use Rattle.std.specs.Option.{option_map, IfSome}
 use Rattle.std.specs.Borrow.{Bor}
 use Rattle.farm_tree.specs.declared.reads.TreeFile.{TreeFile}
 use Rattle.farm_model.specs.State.{State, SettingsValue, start}
 use Rattle.farm_model.specs.Script.{output_from}
 use Rattle.farm_laws.proofs.Outputs.{state_behind, output_from-append}
-use Rattle.script_session.specs.Session.{SessionState, Answers, AllAnswered, LinesAnswered, PrefixAnswered}
+use Rattle.script_session.specs.Session.{Answers, AllAnswered, LinesAnswered, PrefixAnswered}
 use Rattle.farm_cli.specs.declared.config.BadConfig.{BadConfig}
 use Rattle.farm_cli.specs.declared.exit.Exit.{Exit}
-use Rattle.command_line.specs.CommandLine.{CommandValue, Script}
+use Rattle.farm_cli.specs.declared.exit.Exit.TheVariants as exit
+use Rattle.store_listing.specs.Listing.{is_store}
+use Rattle.command_line.specs.CommandLine.{CommandValue, Script, Store}
 use Rattle.farm_cli.specs.Config.{ConfigIs}
-use Rattle.farm_cli.specs.Scripted.{Streams, Answered, AllDone, LinesDone, PrefixDone, NoSettingsEnds, ScriptEnds, HasSettings, ScriptIsDone, CommandIsDone}
-
--- a session with this farm over these streams
-abbrev pub session : State → Streams → SessionState
-session farm streams = record { farm = farm; left = streams.left; held = streams.held }
+use Rattle.farm_cli.specs.Hosting.{LinkUse}
+use Rattle.farm_cli.specs.Stored.{StoreUse, file_before, StoredIsDone, ListIsDone}
+use Rattle.farm_cli.specs.Commands.{CommandIsDone}
+use Rattle.farm_cli.specs.Scripted.{Streams, session, Answered, AllDone, LinesDone, PrefixDone, NoSettingsEnds, ScriptEnds, HasSettings, ScriptIsDone}
 
 -- these settings
 abbrev pub These : SettingsValue → SettingsValue → Type 0
@@ -67,13 +68,28 @@ refused_ends files config path old new unread unwritten e is untouched ends =
 
 -- Commands
 
--- T, S, K and D: the tree, the input, the output and the door have failed
-pub script_complete : (files : Option (List TreeFile)) (config : Option (List ℕ)) (command : Option CommandValue) (left : Option (List ℕ)) (T S K D : Type 0) (e : Exit)
-    → Some (Script config) ≡ command → ScriptIsDone files config left (¬ T × ¬ S × ¬ K) e → IfSome command (λ command. CommandIsDone files command left (¬ T × ¬ S × ¬ K × ¬ D) e)
+-- T, S, K, D, L and Y: the tree, the input, the output, the door, the link and the disk have failed
+pub script_complete : {M : Type 0} (files : Option (List TreeFile)) (config : Option (List ℕ)) (command : Option CommandValue) (link : LinkUse M) (store : StoreUse) (left : Option (List ℕ)) (T S K D L Y : Type 0) (e : Exit)
+    → Some (Script config None) ≡ command → ScriptIsDone files config left (¬ T × ¬ S × ¬ K) e → IfSome command (λ command. CommandIsDone files command link store left (¬ T × ¬ S × ¬ K × ¬ D × ¬ L × ¬ Y) e)
 unfolding ScriptIsDone
-script_complete files config command left T S K D e is done =
-    subst (λ (o : Option CommandValue). IfSome o (λ command. CommandIsDone files command left (¬ T × ¬ S × ¬ K × ¬ D) e)) is
+script_complete files config command link store left T S K D L Y e is done =
+    subst (λ (o : Option CommandValue). IfSome o (λ command. CommandIsDone files command link store left (¬ T × ¬ S × ¬ K × ¬ D × ¬ L × ¬ Y) e)) is
     (λ has short faultless. done has short (faultless.0, faultless.1, faultless.2))
+
+pub stored_complete : {M : Type 0} (files : Option (List TreeFile)) (config : Option (List ℕ)) (path : List ℕ) (command : Option CommandValue) (link : LinkUse M) (store : StoreUse) (left : Option (List ℕ)) (T S K D L Y : Type 0) (e : Exit)
+    → Some (Script config (Some path)) ≡ command → StoredIsDone files config store left (¬ T × ¬ S × ¬ K × ¬ Y) e → IfSome command (λ command. CommandIsDone files command link store left (¬ T × ¬ S × ¬ K × ¬ D × ¬ L × ¬ Y) e)
+unfolding StoredIsDone
+stored_complete files config path command link store left T S K D L Y e is done =
+    subst (λ (o : Option CommandValue). IfSome o (λ command. CommandIsDone files command link store left (¬ T × ¬ S × ¬ K × ¬ D × ¬ L × ¬ Y) e)) is
+    (λ has short faultless not_full. done has short (faultless.0, faultless.1, faultless.2, faultless.5) not_full)
+
+pub list_complete : {M : Type 0} (files : Option (List TreeFile)) (path : List ℕ) (command : Option CommandValue) (link : LinkUse M) (store : StoreUse) (left : Option (List ℕ)) (T S K D L Y : Type 0) (e : Exit)
+    → Some (Store path) ≡ command → (IsTrue store.tells → IsTrue (is_store (file_before store)) → ¬ K → ¬ Y → (e ≡ exit.Done) ⊎ (e ≡ exit.Memory))
+    → IfSome command (λ command. CommandIsDone files command link store left (¬ T × ¬ S × ¬ K × ¬ D × ¬ L × ¬ Y) e)
+unfolding ListIsDone
+list_complete files path command link store left T S K D L Y e is done =
+    subst (λ (o : Option CommandValue). IfSome o (λ command. CommandIsDone files command link store left (¬ T × ¬ S × ¬ K × ¬ D × ¬ L × ¬ Y) e)) is
+    (λ told is_one faultless. done told is_one faultless.2 faultless.5)
 
 pub if_asked : (o : Option CommandValue) (P : CommandValue → Type 0) (command : CommandValue) → Some command ≡ o → P command → IfSome o P
 if_asked o P command e p = subst (λ (x : Option CommandValue). IfSome x P) e p

@@ -9,15 +9,17 @@ use Rattle.farm_cli.specs.declared.exit.Exit.{Exit}
 use Rattle.farm_cli.specs.declared.exit.Exit.TheVariants as exit
 use Rattle.command_line.specs.CommandLine.{CommandValue, Judge}
 use Rattle.farm_cli.specs.Judged.{ContestIs, NoContestEnds, JudgeEnds, HasContest, ContestIsDone}
-use Rattle.farm_cli.specs.Scripted.{CommandIsDone}
+use Rattle.farm_cli.specs.Hosting.{LinkUse}
+use Rattle.farm_cli.specs.Stored.{StoreUse}
+use Rattle.farm_cli.specs.Commands.{CommandIsDone}
 
--- T, S, K and D: the tree, the input, the output and the door have failed
-pub judge_complete : (files : Option (List TreeFile)) (folder : List ℕ) (hosts : ℕ) (journal : Bool) (command : Option CommandValue) (left : Option (List ℕ)) (T S K D : Type 0) (e : Exit)
+-- T, S, K, D, L and Y: the tree, the input, the output, the door, the link and the disk have failed
+pub judge_complete : {M : Type 0} (files : Option (List TreeFile)) (folder : List ℕ) (hosts : ℕ) (journal : Bool) (command : Option CommandValue) (link : LinkUse M) (store : StoreUse) (left : Option (List ℕ)) (T S K D L Y : Type 0) (e : Exit)
     → Some (Judge folder hosts journal) ≡ command → (HasContest files folder → ¬ T → ¬ K → (e ≡ exit.Done) ⊎ (e ≡ exit.Memory))
-    → IfSome command (λ command. CommandIsDone files command left (¬ T × ¬ S × ¬ K × ¬ D) e)
+    → IfSome command (λ command. CommandIsDone files command link store left (¬ T × ¬ S × ¬ K × ¬ D × ¬ L × ¬ Y) e)
 unfolding ContestIsDone
-judge_complete files folder hosts journal command left T S K D e is done =
-    subst (λ (o : Option CommandValue). IfSome o (λ command. CommandIsDone files command left (¬ T × ¬ S × ¬ K × ¬ D) e)) is (λ has faultless. done has faultless.0 faultless.2)
+judge_complete files folder hosts journal command link store left T S K D L Y e is done =
+    subst (λ (o : Option CommandValue). IfSome o (λ command. CommandIsDone files command link store left (¬ T × ¬ S × ¬ K × ¬ D × ¬ L × ¬ Y) e)) is (λ has faultless. done has faultless.0 faultless.2)
 
 -- what the reading of a folder answered is what the folder is, where the tree tells its files
 pub fault_told : (files : Option (List TreeFile)) (folder : List ℕ) (fault : ContestFault)
@@ -36,3 +38,8 @@ no_contest files folder hosts journal held held' unwritten exit.Memory h = h
 no_contest files folder hosts journal held held' unwritten exit.TreeFault h = h
 no_contest files folder hosts journal held held' unwritten exit.DoorFault h = h
 no_contest files folder hosts journal held held' unwritten exit.InputLimit h = h
+no_contest files folder hosts journal held held' unwritten exit.LinkFault h = h
+no_contest files folder hosts journal held held' unwritten (exit.BadAnswer answer) h = h
+no_contest files folder hosts journal held held' unwritten exit.StoreFault h = h
+no_contest files folder hosts journal held held' unwritten (exit.BadStore flaw) h = h
+no_contest files folder hosts journal held held' unwritten (exit.StoreFull mark) h = h

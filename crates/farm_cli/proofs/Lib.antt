@@ -6,3 +6,5 @@ pub mod Summaries
 pub mod Makings
 pub mod Unread
 pub mod Servings
+pub mod Hostings
+pub mod Stores

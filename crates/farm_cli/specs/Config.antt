@@ -1,5 +1,7 @@
 -- The settings' file: what it gives, and the line that says why it gives nothing.
 use Rattle.std.specs.Prelude.{◌≡◌, ℕ, List, [], ◌∷◌, ◌++◌, map, length, Option, Some, None, Result, Ok, Err, IfSome, nat_le, nat_lt, ◌||◌, ◌==◌, if◌then◌else◌, codes}
+use Rattle.std.specs.Option.{option_map}
+use Rattle.sha2.specs.Sha256.{sha256}
 use Rattle.farm_tree.specs.declared.reads.TreeFile.{TreeFile}
 use Rattle.farm_tree.specs.Reading.{file_at, file_limit}
 use Rattle.farm_model.specs.State.{SettingsValue}
@@ -22,6 +24,10 @@ config_in (Some bytes) =
 -- what the file at the path gives, where the tree tells its files
 abbrev pub ConfigIs : Option (List TreeFile) → List ℕ → Result SettingsValue BadConfig → Type 0
 ConfigIs files path config = IfSome files (λ held. config_in (file_at held path) ≡ config)
+
+-- the SHA-256 digest of the file at the path, where the tree tells its files
+abbrev pub DigestIs : Option (List TreeFile) → List ℕ → List ℕ → Type 0
+DigestIs files path digest = IfSome files (λ held. option_map sha256 (file_at held path) ≡ Some digest)
 
 -- a name as it is printed: each control character is `?`
 abbrev pub printed : List ℕ → List ℕ

@@ -86,6 +86,11 @@ NoContestEnds files folder held held' unwritten exit.Memory = unwritten
 NoContestEnds files folder held held' unwritten exit.TreeFault = unwritten
 NoContestEnds files folder held held' unwritten exit.DoorFault = ⊥
 NoContestEnds files folder held held' unwritten exit.InputLimit = ⊥
+NoContestEnds files folder held held' unwritten exit.LinkFault = ⊥
+NoContestEnds files folder held held' unwritten (exit.BadAnswer answer) = ⊥
+NoContestEnds files folder held held' unwritten exit.StoreFault = ⊥
+NoContestEnds files folder held held' unwritten (exit.BadStore flaw) = ⊥
+NoContestEnds files folder held held' unwritten (exit.StoreFull mark) = ⊥
 
 -- how a contest's judging ends
 abbrev pub JudgeEnds
@@ -101,6 +106,11 @@ JudgeEnds files folder hosts journal held held' unwritten exit.Memory = unwritte
 JudgeEnds files folder hosts journal held held' unwritten exit.TreeFault = unwritten
 JudgeEnds files folder hosts journal held held' unwritten exit.DoorFault = ⊥
 JudgeEnds files folder hosts journal held held' unwritten exit.InputLimit = ⊥
+JudgeEnds files folder hosts journal held held' unwritten exit.LinkFault = ⊥
+JudgeEnds files folder hosts journal held held' unwritten (exit.BadAnswer answer) = ⊥
+JudgeEnds files folder hosts journal held held' unwritten exit.StoreFault = ⊥
+JudgeEnds files folder hosts journal held held' unwritten (exit.BadStore flaw) = ⊥
+JudgeEnds files folder hosts journal held held' unwritten (exit.StoreFull mark) = ⊥
 
 -- the tree tells that the folder is a contest
 abbrev pub HasContest : Option (List TreeFile) → List ℕ → Type 0

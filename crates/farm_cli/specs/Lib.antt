@@ -4,3 +4,6 @@ pub mod Making
 pub mod Scripted
 pub mod Statuses
 pub mod ServedContest
+pub mod Hosting
+pub mod Stored
+pub mod Commands

@@ -55,6 +55,11 @@ MakeEnds number size held held' unwritten exit.Memory = unwritten
 MakeEnds number size held held' unwritten exit.TreeFault = ⊥
 MakeEnds number size held held' unwritten exit.DoorFault = ⊥
 MakeEnds number size held held' unwritten exit.InputLimit = ⊥
+MakeEnds number size held held' unwritten exit.LinkFault = ⊥
+MakeEnds number size held held' unwritten (exit.BadAnswer answer) = ⊥
+MakeEnds number size held held' unwritten exit.StoreFault = ⊥
+MakeEnds number size held held' unwritten (exit.BadStore flaw) = ⊥
+MakeEnds number size held held' unwritten (exit.StoreFull mark) = ⊥
 
 -- without a fault it is done unless memory is wanting
 unfoldable pub MakeIsDone : Type 0 → Exit → Type 0

@@ -1,27 +1,27 @@
--- What a command does, and how it ends.
+-- What a script does, and how it ends.
 use Rattle.std.specs.Prelude.{◌≡◌, ◌⊎◌, ℕ, List, ◌++◌, Option, Some, None, Ok, Err, take, ⊤}
 use Rattle.std.specs.Option.{IsSomeAnd}
 use Rattle.std.specs.Io.KnownBytes.{Appends, Consumes, IsAtEnd}
 use Rattle.farm_io.specs.Lines.{through_last_feed}
 use Rattle.farm_tree.specs.declared.reads.TreeFile.{TreeFile}
 use Rattle.farm_tree.specs.Reading.{file_at}
-use Rattle.farm_model.specs.State.{SettingsValue, standard_settings}
+use Rattle.farm_model.specs.State.{State, SettingsValue, standard_settings}
 use Rattle.farm_model.specs.Script.{script_output}
 use Rattle.farm_laws.specs.Output.{OutputKeepsPromise, EachLineIsWritten}
-use Rattle.script_session.specs.Session.{TookLimit, IsShort}
-use Rattle.command_line.specs.CommandLine.{CommandValue, Script, Judge, Make, Serve}
+use Rattle.script_session.specs.Session.{SessionState, TookLimit, IsShort}
 use Rattle.farm_cli.specs.declared.config.BadConfig.{BadConfig}
 use Rattle.farm_cli.specs.declared.exit.Exit.{Exit}
 use Rattle.farm_cli.specs.declared.exit.Exit.TheVariants as exit
 use Rattle.farm_cli.specs.Config.{config_in, ConfigIs, bad_contest_line}
-use Rattle.farm_cli.specs.Judged.{JudgeEnds, ContestIsDone}
-use Rattle.farm_cli.specs.Making.{MakeEnds, MakeIsDone}
-use Rattle.farm_cli.specs.ServedContest.{DoorUse, at_loopback, ServeEnds}
 
 -- what the input has left and the output holds, as far as these tell, before a command and after it
 pub record Streams : Type 0 where
   pub left : Option (List ℕ)
   pub held : Option (List ℕ)
+
+-- a session with this farm over these streams
+abbrev pub session : State → Streams → SessionState
+session farm streams = record { farm = farm; left = streams.left; held = streams.held }
 
 -- Lines that were read and answered, from the empty farm, by settings that are in use
 
@@ -71,6 +71,11 @@ RunEnds InUse old new exit.Memory = PrefixDone InUse old new
 RunEnds InUse old new exit.TreeFault = ⊥
 RunEnds InUse old new exit.DoorFault = ⊥
 RunEnds InUse old new exit.InputLimit = LinesDone InUse old new × TookLimit old.left new.left
+RunEnds InUse old new exit.LinkFault = ⊥
+RunEnds InUse old new (exit.BadAnswer answer) = ⊥
+RunEnds InUse old new exit.StoreFault = ⊥
+RunEnds InUse old new (exit.BadStore flaw) = ⊥
+RunEnds InUse old new (exit.StoreFull mark) = ⊥
 
 -- Settings that the file at the path does not give
 
@@ -98,8 +103,11 @@ NoSettingsEnds files path held held' unwritten exit.Memory = unwritten
 NoSettingsEnds files path held held' unwritten exit.TreeFault = unwritten
 NoSettingsEnds files path held held' unwritten exit.DoorFault = ⊥
 NoSettingsEnds files path held held' unwritten exit.InputLimit = ⊥
-
--- Commands
+NoSettingsEnds files path held held' unwritten exit.LinkFault = ⊥
+NoSettingsEnds files path held held' unwritten (exit.BadAnswer answer) = ⊥
+NoSettingsEnds files path held held' unwritten exit.StoreFault = ⊥
+NoSettingsEnds files path held held' unwritten (exit.BadStore flaw) = ⊥
+NoSettingsEnds files path held held' unwritten (exit.StoreFull mark) = ⊥
 
 -- How a script ends: it runs by the standard settings, or by those that the file gives, where the tree tells its
 -- files; or the file gives none, and no line is read. `unread` and `unwritten` say that the input and the output are
@@ -109,31 +117,6 @@ ScriptEnds files None old new unread unwritten e = RunEnds (λ settings. setting
 ScriptEnds files (Some path) old new unread unwritten e =
     RunEnds (λ settings. ConfigIs files path (Ok settings)) old new e
     ⊎ (unread × NoSettingsEnds files path old.held new.held unwritten e)
-
--- how a command ends
-abbrev pub CommandEnds : {N : Type 0} → Option (List TreeFile) → CommandValue → DoorUse N → Streams → Streams
-    → Type 0 → Type 0 → Exit → Type 0
-CommandEnds files (Script config) door old new unread unwritten e = ScriptEnds files config old new unread unwritten e
-CommandEnds files (Judge folder hosts journal) door old new unread unwritten e =
-    unread × JudgeEnds files folder hosts journal old.held new.held unwritten e
-CommandEnds files (Make number size) door old new unread unwritten e =
-    unread × MakeEnds number size old.held new.held unwritten e
-CommandEnds files (Serve folder port lanes connections) door old new unread unwritten e =
-    unread × ServeEnds files folder (at_loopback port) lanes connections door old.held new.held unwritten e
-
--- the path of the file or the folder that a command reads, where it reads one
-abbrev pub file_of : CommandValue → Option (List ℕ)
-file_of (Script config) = config
-file_of (Judge folder hosts journal) = Some folder
-file_of (Make number size) = None
-file_of (Serve folder port lanes connections) = Some folder
-
--- this holds, unless the command serves
-abbrev pub UnlessServing : CommandValue → Type 0 → Type 0
-UnlessServing (Script config) fact = fact
-UnlessServing (Judge folder hosts journal) fact = fact
-UnlessServing (Make number size) fact = fact
-UnlessServing (Serve folder port lanes connections) fact = ⊤
 
 -- there is no file of settings, or the tree tells one that gives settings
 abbrev pub HasSettings : Option (List TreeFile) → Option (List ℕ) → Type 0
@@ -145,9 +128,3 @@ HasSettings files (Some path) =
 unfoldable pub ScriptIsDone : Option (List TreeFile) → Option (List ℕ) → Option (List ℕ) → Type 0 → Exit → Type 0
 ScriptIsDone files config left faultless e =
     HasSettings files config → IsShort left → faultless → (e ≡ exit.Done) ⊎ (e ≡ exit.Memory)
-
-abbrev pub CommandIsDone : Option (List TreeFile) → CommandValue → Option (List ℕ) → Type 0 → Exit → Type 0
-CommandIsDone files (Script config) left faultless e = ScriptIsDone files config left faultless e
-CommandIsDone files (Judge folder hosts journal) left faultless e = ContestIsDone files folder faultless e
-CommandIsDone files (Make number size) left faultless e = MakeIsDone faultless e
-CommandIsDone files (Serve folder port lanes connections) left faultless e = ContestIsDone files folder faultless e

@@ -1,16 +1,17 @@
 -- How the serving of a contest ends.
-use Rattle.std.specs.Prelude.{◌≡◌, ◌⊎◌, ◌+◌, ℕ, false, List, [], ◌∷◌, Option, Ok}
-use Rattle.std.specs.declared.net.ip_addr.IpAddr.TheVariants as ip
+use Rattle.std.specs.Prelude.{◌≡◌, ◌⊎◌, ◌+◌, ℕ, Bool, false, List, Option, Ok}
+use Rattle.std.specs.declared.net.ip_addr.IpAddr.{IpAddr}
 use Rattle.farm_tree.specs.declared.reads.TreeFile.{TreeFile}
 use Rattle.farm_io.specs.declared.door.Listening.{Listening}
 use Rattle.farm_io.specs.Doors.{DoorState, listening_at}
 use Rattle.farm_model.specs.State.{start}
 use Rattle.farm_board.specs.Histories.{opening_board}
 use Rattle.contest_folder.specs.RosterValue.{RosterValue}
+use Rattle.contest_folder.specs.JudgingCases.{case_at}
 use Rattle.contest_server.specs.declared.ends.ServeEnd.{ServeEnd}
 use Rattle.contest_server.specs.declared.ends.ServeEnd.TheVariants as end
 use Rattle.contest_server.specs.Contest.{entering_events, seats}
-use Rattle.contest_server.specs.Visits.{Watch}
+use Rattle.contest_server.specs.Visits.{Watch, with_cases}
 use Rattle.contest_server.specs.Served.{Serves}
 use Rattle.farm_cli.specs.declared.exit.Exit.{Exit}
 use Rattle.farm_cli.specs.declared.exit.Exit.TheVariants as exit
@@ -18,27 +19,27 @@ use Rattle.farm_cli.specs.Judged.{ContestIs, Writes, WritesFront, IsFaultLine}
 
 -- what is told of connections and of the clock by which they are served, and the door to which they come, before a
 -- command and after it
-pub record DoorUse (N : Type 0) : Type 0 where
+pub record DoorUse (N : Type 0) : Type 1 where
   pub watch : Watch N
   pub old : DoorState N
   pub new : DoorState N
 
 -- The folder is a contest, and it was served over the connections that came to a door that listened there: one legal
--- history stands behind all that was answered and written.
+-- history stands behind all that was answered and written, and jobs are of the contest's cases.
 pub record IsServed {N : Type 0} (files : Option (List TreeFile)) (folder : List ℕ) (at : Listening)
     (lanes connections : ℕ) (door : DoorUse N) (held held' : Option (List ℕ)) (e : ServeEnd) : Type 0 where
   pub roster : RosterValue
   pub read : ContestIs files folder (Ok roster)
-  pub serves : Serves door.watch (opening_board (start roster.settings) (seats lanes) false) (entering_events roster)
-      (listening_at door.old at) door.new held held' connections e
+  pub serves : Serves (with_cases (case_at roster) door.watch) (opening_board (start roster.settings) (seats lanes) false)
+      (entering_events roster) (listening_at door.old at) door.new held held' connections e
 
--- at this port of the machine itself, with the patience of a minute
-abbrev pub at_loopback : ℕ → Listening
-at_loopback port = record {
-  address = ip.V4 (record { octets = 127 ∷ 0 ∷ 0 ∷ 1 ∷ [] });
+-- where a door is to listen, and how patient it is to be, by the words of the command
+abbrev pub listening_of : IpAddr → ℕ → ℕ → Bool → Listening
+listening_of address port patience until_input_ends = record {
+  address = address;
   port = port;
-  patience = 60;
-  until_input_ends = false;
+  patience = patience;
+  until_input_ends = until_input_ends;
 }
 
 -- no connection was asked for
@@ -63,3 +64,8 @@ ServeEnds files folder at lanes connections door held held' unwritten exit.TreeF
 ServeEnds files folder at lanes connections door held held' unwritten exit.DoorFault =
     IsServed files folder at lanes connections door held held' end.DoorFault ⊎ (IsUnasked door × unwritten)
 ServeEnds files folder at lanes connections door held held' unwritten exit.InputLimit = ⊥
+ServeEnds files folder at lanes connections door held held' unwritten exit.LinkFault = ⊥
+ServeEnds files folder at lanes connections door held held' unwritten (exit.BadAnswer answer) = ⊥
+ServeEnds files folder at lanes connections door held held' unwritten exit.StoreFault = ⊥
+ServeEnds files folder at lanes connections door held held' unwritten (exit.BadStore flaw) = ⊥
+ServeEnds files folder at lanes connections door held held' unwritten (exit.StoreFull mark) = ⊥

@@ -1,11 +1,23 @@
-ghost use Rattle.std.specs.Prelude.{◌≡◌, ◌≤◌, ◌++◌, ◌∷◌, [], Ok, Err, IfOk, OnOk};
+ghost use Rattle.std.specs.Prelude.{◌≡◌, ◌≢◌, ◌≤◌, ◌++◌, ◌∷◌, [], List, Option, Ok, Err, IfOk, OnOk};
 ghost use Rattle.farm_io.specs.Streams.{Rose};
-ghost use Rattle.farm_cli.specs.Config.{ConfigIs, printed, named_line, settings_line, bad_contest_line};
+ghost use Rattle.farm_tree.specs.declared.reads.TreeFile.{TreeFile};
+ghost use Rattle.farm_cli.specs.Config.{ConfigIs, DigestIs, printed, named_line, settings_line, bad_contest_line};
+ghost use Rattle.farm_cli.specs.Scripted.{NoSettingsEnds};
 
+use crate::exit::Exit;
+use farm_io::{PutEnd, Sink};
 use farm_kinds::NoMemory;
 use farm_settings::{Settings, SettingsErr, SettingsFault, read_settings};
 use farm_tree::{Tree, TreeErr};
+use sha2::{Digest, Sha256};
 use std::alloc::Global;
+
+/// The settings of a file, and the SHA-256 digest of its bytes.
+#[derive(Drop)]
+pub struct Configured {
+    pub settings: Settings,
+    pub digest: [u8; 32],
+}
 
 /// Why the settings' file gives no settings.
 #[derive(Debug, Drop)]
@@ -29,9 +41,14 @@ pub enum ConfigEnd {
     NoMemory,
 }
 
-/// The settings that the file at the path gives.
-pub fn read_config<T: Tree>(alloc: Global, tree: &mut T, path: &str) -> Result<Settings, ConfigEnd>
-    ensures settings { IfOk result (λ settings. ConfigIs (T.files tree.old) path.now (Ok settings)) }
+/// The settings that the file at the path gives, and the digest of its bytes.
+pub fn read_config<T: Tree>(
+    alloc: Global,
+    tree: &mut T,
+    path: &str,
+) -> Result<Configured, ConfigEnd>
+    ensures settings { IfOk result (λ read. ConfigIs (T.files tree.old) path.now (Ok read.settings)) }
+    ensures digest { IfOk result (λ read. DigestIs (T.files tree.old) path.now read.digest) }
     ensures bad { (fault : BadConfig) → result ≡ Err (ConfigEnd.Bad fault) → ConfigIs (T.files tree.old) path.now (Err fault) }
     ensures cause { result ≡ Err ConfigEnd.TreeFault → Rose (T.faults tree.old) (T.faults tree.new) }
     ensures later { T.faults tree.old ≤ T.faults tree.new }
@@ -39,7 +56,10 @@ pub fn read_config<T: Tree>(alloc: Global, tree: &mut T, path: &str) -> Result<S
 {
     match tree.read(path) {
         Ok(text) => match read_settings(alloc, text.as_slice()) {
-            Ok(settings) => Ok(settings),
+            Ok(settings) => {
+                let digest = Sha256::digest(text.as_slice());
+                Ok(Configured { settings, digest })
+            }
             Err(SettingsErr::Bad(fault)) => Err(ConfigEnd::Bad(BadConfig::Settings(fault))),
             Err(SettingsErr::NoMemory) => Err(ConfigEnd::NoMemory),
         },
@@ -47,6 +67,25 @@ pub fn read_config<T: Tree>(alloc: Global, tree: &mut T, path: &str) -> Result<S
         Err(TreeErr::TooLarge { .. }) => Err(ConfigEnd::Bad(BadConfig::TooLarge)),
         Err(TreeErr::Failed) => Err(ConfigEnd::TreeFault),
         Err(TreeErr::NoMemory) => Err(ConfigEnd::NoMemory),
+    }
+}
+
+/// Writes the line that says why the file at the path gives no settings.
+pub(crate) fn refuse<K: Sink>(alloc: Global, path: &str, bad: &BadConfig, out: &mut K) -> Exit
+    ensures command { result ≢ Exit.Usage }
+    ensures door_fault { result ≢ Exit.DoorFault }
+    ensures tree_fault { result ≢ Exit.TreeFault }
+    ensures read_fault { result ≢ Exit.ReadFault }
+    ensures ends { (files : Option (List TreeFile)) → ConfigIs files path.now (Err bad.now)
+        → NoSettingsEnds files path.now (K.held out.old) (K.held out.new) (out.new ≡ out.old) result }
+    ensures write_fault { result ≡ Exit.WriteFault → Rose (K.faults out.old) (K.faults out.new) }
+{
+    match bad_contest_line(alloc, path, bad) {
+        Ok(line) => match out.put(line.as_slice()) {
+            PutEnd::Done => Exit::BadContest,
+            PutEnd::Failed => Exit::WriteFault,
+        },
+        Err(_) => Exit::Memory,
     }
 }
 

@@ -1,6 +1,9 @@
 ghost use Rattle.std.specs.Prelude.{◌≡◌};
 ghost use Rattle.farm_cli.specs.Statuses.{status_of};
 
+use crate::flaw::StoreFlaw;
+use remote_host::Wrong;
+
 /// How the program ends.
 #[derive(Clone, Copy, Debug, PartialEq, Eq)]
 pub enum Exit {
@@ -22,6 +25,16 @@ pub enum Exit {
     DoorFault,
     /// As many bytes were taken from the input as are taken at most, 2^40, and its end was not among them.
     InputLimit,
+    /// The link to a server failed, or the connection that it made.
+    LinkFault,
+    /// The server gave this answer, which is none that it may give.
+    BadAnswer { wrong: Wrong },
+    /// The disk of a store failed.
+    StoreFault,
+    /// The file is no store of this farm, for this reason, and one line says so.
+    BadStore { flaw: StoreFlaw },
+    /// The record of an event would end here, which is more than a store holds.
+    StoreFull { end: u64 },
 }
 
 impl Exit {
@@ -39,6 +52,11 @@ impl Exit {
             Exit::TreeFault => 7,
             Exit::DoorFault => 8,
             Exit::InputLimit => 9,
+            Exit::LinkFault => 10,
+            Exit::BadAnswer { .. } => 11,
+            Exit::StoreFault => 12,
+            Exit::BadStore { .. } => 13,
+            Exit::StoreFull { .. } => 14,
         }
     }
 }

@@ -31,7 +31,7 @@ fn push_journal_line(alloc: Global, out: &mut Vec<u8>, call: &Call) -> Result<()
 }
 
 /// Puts the bytes behind what is there.
-fn push(out: &mut Vec<u8>, bytes: &[u8]) -> Result<(), NoMemory>
+pub(crate) fn push(out: &mut Vec<u8>, bytes: &[u8]) -> Result<(), NoMemory>
     ensures { OnOk result (out.new.items ≡ out.old.items ++ bytes.now) }
 {
     out.extend_from_slice(bytes).map_err(|_| NoMemory)

@@ -4,7 +4,7 @@ ghost use Rattle.farm_tree.specs.declared.reads.TreeFile.{TreeFile};
 ghost use Rattle.judge_server.specs.Exchanges.{around_of};
 ghost use Rattle.contest_server.specs.Visits.{watch};
 ghost use Rattle.farm_cli.specs.Judged.{ContestIs, HasContest};
-ghost use Rattle.farm_cli.specs.ServedContest.{DoorUse, at_loopback, ServeEnds};
+ghost use Rattle.farm_cli.specs.ServedContest.{DoorUse, ServeEnds};
 
 use crate::exit::Exit;
 use crate::judging::refuse;
@@ -13,21 +13,8 @@ use contest_server::{ServeEnd, serve_contest};
 use farm_io::{Clock, Door, Listening, Sink};
 use farm_tree::Tree;
 use std::alloc::Global;
-use std::net::{IpAddr, Ipv4Addr};
 use std::sync::Wait;
 use std::thread::Threads;
-
-/// At this port of the machine itself, with the patience of a minute.
-pub fn at_loopback(port: u16) -> Listening
-    ensures { result ≡ at_loopback port }
-{
-    Listening {
-        address: IpAddr::V4(Ipv4Addr::LOCALHOST),
-        port,
-        patience: 60,
-        until_input_ends: false,
-    }
-}
 
 /// `farm serve`: serves the contest in the folder to at most so many connections that come where the door is to listen,
 /// at most `lanes` of them at the same time. A line is written for each connection, and behind them the board.

@@ -1,28 +1,30 @@
-ghost use Rattle.std.specs.Prelude.{◌≡◌, ◌≢◌, ◌↔◌, ◌⊎◌, ◌≤◌, ℕ, List, Option, None, Err, IfOk, IfSome, map, option_map, string_bytes, take};
-ghost use Rattle.std.specs.Io.KnownBytes.{Appends};
+ghost use Rattle.std.specs.Prelude.{◌≡◌, ◌≢◌, ◌↔◌, ◌⊎◌, ◌≤◌, ◌+◌, None, IfSome, map, option_map, string_bytes};
 ghost use Rattle.farm_io.specs.Streams.{Rose};
-ghost use Rattle.farm_tree.specs.declared.reads.TreeFile.{TreeFile};
 ghost use Rattle.farm_model.specs.State.{SettingsValue, start};
 ghost use Rattle.script_session.specs.Session.{IsShort};
 ghost use Rattle.command_line.specs.CommandLine.{command_of};
 ghost use Rattle.judge_server.specs.Exchanges.{around_of};
 ghost use Rattle.contest_server.specs.Visits.{watch};
-ghost use Rattle.farm_cli.specs.Config.{ConfigIs};
-ghost use Rattle.farm_cli.specs.Scripted.{file_of, UnlessServing, RunEnds, NoSettingsEnds, ScriptEnds, CommandEnds, ScriptIsDone, CommandIsDone};
+ghost use Rattle.farm_cli.specs.Scripted.{RunEnds, ScriptEnds, ScriptIsDone};
+ghost use Rattle.farm_cli.specs.Commands.{file_of, UnlessServing, UnlessHosting, UnlessStoring, CommandEnds, CommandIsDone};
 
-use crate::config::{BadConfig, ConfigEnd, bad_contest_line, read_config};
+use crate::config::{ConfigEnd, read_config, refuse};
 use crate::exit::Exit;
+use crate::hosting::host;
 use crate::judging::judge;
+use crate::listing::list;
 use crate::making::make;
-use crate::serving::{at_loopback, serve};
+use crate::serving::serve;
+use crate::stored::script_stored;
 use command_line::{Command, read_command};
 use farm_core::Farm;
-use farm_io::{Clock, Door, PutEnd, Sink, Source};
-use farm_kinds::NoMemory;
+use farm_io::{Clock, Door, Link, Listening, Sink, Source};
 use farm_settings::Settings;
 use farm_tree::Tree;
-use judgehost::Gate;
+use judgehost::{Gate, Go};
 use parallel_judge::Progress;
+use record_store::Disk;
+use remote_host::Pause;
 use script_session::{ScriptEnd, run_script};
 use std::alloc::Global;
 use std::mem;
@@ -32,7 +34,10 @@ use std::thread::Threads;
 /// The whole program. The first word is its name, which is not looked at.
 ///
 /// `farm script` starts an empty farm with the standard settings, or with those of a file, reads lines to the
-/// end of the input, and writes a reply to each line that is no comment.
+/// end of the input, and writes a reply to each line that is no comment. With a store it starts with the farm that the store
+/// holds, and stores each event that changes the farm before it writes the reply.
+///
+/// `farm store` writes the lines of a store as a script.
 ///
 /// `farm judge` reads the contest in a folder, judges each of its submissions by host threads and the caller, and
 /// writes a line for each with its verdict; where a journal is asked for, then a line for each call by which the
@@ -43,6 +48,9 @@ use std::thread::Threads;
 ///
 /// `farm serve` reads the contest in a folder, listens at a port, and answers judgehosts and the jury by HTTP, each connection
 /// in a thread of its own; it writes a line for each connection and behind them the board.
+///
+/// `farm host` works as a judgehost over a connection of the link: it enters its name, claims one task after the other, runs
+/// its case and posts the result, and writes a line on what it did. Where it is to wait, the pause passes the time.
 pub fn farm_main<
     R: Threads + Wait + Sync,
     T: Tree,
@@ -52,6 +60,9 @@ pub fn farm_main<
     D: Door,
     G: Gate + Sync,
     P: Progress,
+    N: Link,
+    Q: Pause,
+    Y: Disk,
 >(
     rt: &R,
     alloc: Global,
@@ -63,24 +74,33 @@ pub fn farm_main<
     door: &mut D,
     gate: &G,
     progress: &mut P,
+    link: &mut N,
+    pause: &Q,
+    disk: &mut Y,
 ) -> Exit
 where
     D::Conn: Drop,
-    // Of the connections that the door let in, no more were given back than came.
+    // Of the connections that the door let in and that the link made, no more were given back than came.
     requires door { (D.state door.old).returned ≤ (D.state door.old).accepted }
+    requires link { (N.state link.old).returned ≤ (N.state link.old).accepted }
 
     // `Usage` comes for other words alone, and for all of them, unless memory is wanting while they are read. Whatever
     // comes for them, nothing is read, and nothing is written.
     ensures usage { (result ≡ Exit.Usage) ↔ ((command_of (map string_bytes words.now) ≡ None) × (result ≢ Exit.Memory)) }
-    ensures silent { command_of (map string_bytes words.now) ≡ None → (tree.new ≡ tree.old) × (input.new ≡ input.old) × (out.new ≡ out.old) × (door.new ≡ door.old) }
+    ensures silent { command_of (map string_bytes words.now) ≡ None → (tree.new ≡ tree.old) × (input.new ≡ input.old) × (out.new ≡ out.old) × (door.new ≡ door.old) × (link.new ≡ link.old) × (disk.new ≡ disk.old) }
 
     // How each command ends: what was read and what was written, which keeps the promise. Whatever lines come,
     // and so whatever hosts claim, answer, repeat, lose leases or die, a judging is reported final exactly where
     // no outcome of its unjudged tests could change its verdict, or with full judging where every test is judged;
     // that verdict is what running every test in rank order on one thread gives; final stays; each result counts
-    // once. A contest's verdicts are the same whatever the number of its hosts, the gate and the schedule.
+    // once. A contest's verdicts are the same whatever the number of its hosts, the gate and the schedule. What a host on
+    // another machine asks and posts is its talk, in which each result is the value of the case that it was sent. Where events
+    // are stored, a crash at any moment leaves those that the store held and a front of this run's, and with the end those
+    // of each reply of which a part was written; the file that is opened is the one that the words name.
     ensures ends { IfSome (command_of (map string_bytes words.now)) (λ command. CommandEnds (T.files tree.old) command
         (record { watch = watch D.Conn.left D.Conn.held D.Conn.Source.faults D.Conn.Sink.faults (around_of (C.shows clock.now) D.Conn.Peer.asks); old = D.state door.old; new = D.state door.new })
+        (record { held = N.Conn.held; left = N.Conn.left; faults = (λ c. N.Conn.Source.faults c + N.Conn.Sink.faults c); may_die = (λ point turn. G.may_answer gate.now 1 point turn Go.Die); old = N.state link.old; new = N.state link.new; before = N.faults link.old; now = N.faults link.new })
+        (record { tells = Y.tells disk.old; old = record { time = Y.time disk.old; opened = Y.opened disk.old; faults = Y.faults disk.old }; new = record { time = Y.time disk.new; opened = Y.opened disk.new; faults = Y.faults disk.new } })
         (record { left = S.left input.old; held = K.held out.old }) (record { left = S.left input.new; held = K.held out.new })
         (input.new ≡ input.old) (out.new ≡ out.old) result) }
 
@@ -88,17 +108,24 @@ where
     ensures tree { IfSome (command_of (map string_bytes words.now)) (λ command. file_of command ≡ None → tree.new ≡ tree.old) }
     ensures files { T.files tree.new ≡ T.files tree.old }
 
-    // The door is as it was unless the command serves.
+    // The door is as it was unless the command serves, the link unless it works as a host, and the disk unless it opens a
+    // store.
     ensures door { IfSome (command_of (map string_bytes words.now)) (λ command. UnlessServing command (door.new ≡ door.old)) }
+    ensures link { IfSome (command_of (map string_bytes words.now)) (λ command. UnlessHosting command (link.new ≡ link.old)) }
+    ensures disk { IfSome (command_of (map string_bytes words.now)) (λ command. UnlessStoring command (disk.new ≡ disk.old)) }
 
     // Each fault has its cause, and without one the command is done unless memory is wanting.
     ensures read_fault { result ≡ Exit.ReadFault → Rose (S.faults input.old) (S.faults input.new) }
     ensures write_fault { result ≡ Exit.WriteFault → Rose (K.faults out.old) (K.faults out.new) }
     ensures tree_fault { result ≡ Exit.TreeFault → Rose (T.faults tree.old) (T.faults tree.new) }
     ensures door_fault { result ≡ Exit.DoorFault → Rose (D.faults door.old) (D.faults door.new) }
-    ensures complete { IfSome (command_of (map string_bytes words.now)) (λ command. CommandIsDone (T.files tree.old) command (S.left input.old)
+    ensures store_fault { result ≡ Exit.StoreFault → Rose (Y.faults disk.old) (Y.faults disk.new) }
+    ensures complete { IfSome (command_of (map string_bytes words.now)) (λ command. CommandIsDone (T.files tree.old) command
+        (record { held = N.Conn.held; left = N.Conn.left; faults = (λ c. N.Conn.Source.faults c + N.Conn.Sink.faults c); may_die = (λ point turn. G.may_answer gate.now 1 point turn Go.Die); old = N.state link.old; new = N.state link.new; before = N.faults link.old; now = N.faults link.new })
+        (record { tells = Y.tells disk.old; old = record { time = Y.time disk.old; opened = Y.opened disk.old; faults = Y.faults disk.old }; new = record { time = Y.time disk.new; opened = Y.opened disk.new; faults = Y.faults disk.new } })
+        (S.left input.old)
         (¬ Rose (T.faults tree.old) (T.faults tree.new) × ¬ Rose (S.faults input.old) (S.faults input.new) × ¬ Rose (K.faults out.old) (K.faults out.new)
-        × ¬ Rose (D.faults door.old) (D.faults door.new)) result) }
+        × ¬ Rose (D.faults door.old) (D.faults door.new) × ¬ Rose (N.faults link.old) (N.faults link.new) × ¬ Rose (Y.faults disk.old) (Y.faults disk.new)) result) }
 {
     let Ok(command) = read_command(alloc, words) else {
         return Exit::Memory;
@@ -107,7 +134,11 @@ where
         return Exit::Usage;
     };
     match command {
-        Command::Script { config } => script(alloc, config, tree, input, out),
+        Command::Script { config, store } => match store {
+            None => script(alloc, config, tree, input, out),
+            Some(path) => script_stored(alloc, config, path, tree, input, out, disk),
+        },
+        Command::Store { path } => list(alloc, path, out, disk),
         Command::Judge {
             folder,
             hosts,
@@ -126,20 +157,37 @@ where
         Command::Make { number, size } => make(rt, alloc, number, size, out, gate, progress),
         Command::Serve {
             folder,
+            address,
             port,
             lanes,
             connections,
+            patience,
+            until_input_ends,
         } => serve(
             rt,
             alloc,
             folder,
-            at_loopback(port),
+            Listening {
+                address,
+                port,
+                patience: patience.get(),
+                until_input_ends,
+            },
             lanes.get(),
             connections.get(),
             tree,
             out,
             clock,
             door,
+        ),
+        Command::Host {
+            address,
+            port,
+            name,
+            fuel,
+            wait,
+        } => host(
+            alloc, address, port, name, fuel, wait, out, gate, link, pause,
         ),
     }
 }
@@ -171,7 +219,7 @@ fn script<T: Tree, S: Source, K: Sink>(
         return run(alloc, Settings::standard(alloc), input, out);
     };
     match read_config(alloc, tree, path) {
-        Ok(settings) => run(alloc, settings, input, out),
+        Ok(read) => run(alloc, read.settings, input, out),
         Err(ConfigEnd::Bad(bad)) => refuse(alloc, path, &bad, out),
         Err(ConfigEnd::TreeFault) => Exit::TreeFault,
         Err(ConfigEnd::NoMemory) => Exit::Memory,
@@ -217,24 +265,5 @@ fn answer<S: Source, K: Sink>(alloc: Global, farm: &mut Farm, input: &mut S, out
         ScriptEnd::WriteFault => Exit::WriteFault,
         ScriptEnd::InputLimit => Exit::InputLimit,
         ScriptEnd::NoMemory => Exit::Memory,
-    }
-}
-
-/// Writes the line that says why the file at the path gives no settings.
-fn refuse<K: Sink>(alloc: Global, path: &str, bad: &BadConfig, out: &mut K) -> Exit
-    ensures command { result ≢ Exit.Usage }
-    ensures door_fault { result ≢ Exit.DoorFault }
-    ensures tree_fault { result ≢ Exit.TreeFault }
-    ensures read_fault { result ≢ Exit.ReadFault }
-    ensures ends { (files : Option (List TreeFile)) → ConfigIs files path.now (Err bad.now)
-        → NoSettingsEnds files path.now (K.held out.old) (K.held out.new) (out.new ≡ out.old) result }
-    ensures write_fault { result ≡ Exit.WriteFault → Rose (K.faults out.old) (K.faults out.new) }
-{
-    match bad_contest_line(alloc, path, bad) {
-        Ok(line) => match out.put(line.as_slice()) {
-            PutEnd::Done => Exit::BadContest,
-            PutEnd::Failed => Exit::WriteFault,
-        },
-        Err(_) => Exit::Memory,
     }
 }

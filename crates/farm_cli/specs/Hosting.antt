@@ -1,0 +1,165 @@
+-- How the work of a judgehost over a link ends.
+use Rattle.std.specs.Prelude.{◌≡◌, ◌≤◌, ◌⊎◌, ℕ, List, [], ◌++◌, codes, Option, Some, None, IfSome, is_some, Bool, true, ⊤}
+use Rattle.std.specs.Fmt.{decimal}
+use Rattle.farm_io.specs.Streams.{Rose}
+use Rattle.farm_io.specs.Doors.{DoorState, LetsIn, TakesBack}
+use Rattle.judgehost.specs.declared.gate.Point.{Point}
+use Rattle.judgehost.specs.declared.bench.BenchFault.TheVariants as fault
+use Rattle.judgehost.specs.declared.host.HostEnd.{HostEnd}
+use Rattle.judgehost.specs.declared.host.HostEnd.TheVariants as host
+use Rattle.remote_host.specs.declared.asks.Caller.{Caller}
+use Rattle.remote_host.specs.declared.asks.Wrong.{Wrong}
+use Rattle.remote_host.specs.Standing.{Line}
+use Rattle.remote_host.specs.Ends.{WorkedAs}
+use Rattle.farm_cli.specs.declared.exit.Exit.{Exit}
+use Rattle.farm_cli.specs.declared.exit.Exit.TheVariants as exit
+use Rattle.farm_cli.specs.Judged.{Writes, WritesFront}
+
+-- What is told of the connections of a link, and where the gate may let the host die; and the link with the count of its
+-- faults, before a command and after it.
+pub record LinkUse (N : Type 0) : Type 0 where
+  pub held : N → Option (List ℕ)
+  pub left : N → Option (List ℕ)
+  -- how often either side of a connection has failed
+  pub faults : N → ℕ
+  pub may_die : Point → ℕ → Bool
+  pub old : DoorState N
+  pub new : DoorState N
+  pub before : ℕ
+  pub now : ℕ
+
+-- no connection was asked for, or none came
+abbrev pub IsUnlinked : {N : Type 0} → LinkUse N → Type 0
+IsUnlinked link = link.new ≡ link.old
+
+-- One connection came, with nothing put on it and without a fault, and it went back.
+pub record Lends {N : Type 0} (link : LinkUse N) (conn back : N) : Type 0 where
+  pub between : DoorState N
+  pub came : LetsIn link.old between conn
+  pub bare : IfSome (link.held conn) (λ bytes. bytes ≡ [])
+  pub sound : link.faults conn ≡ 0
+  pub went : TakesBack between link.new back
+
+-- a connection as it stands on the link, where so much of its bytes was taken and is in no response yet
+abbrev pub line_of : {N : Type 0} → LinkUse N → N → List ℕ → Line
+line_of link conn ahead = record { held = link.held conn; left = link.left conn; ahead = ahead }
+
+-- The host worked over the connection that came and went back: what was put on it is its talk, as far as it got.
+pub record Hosted {N : Type 0} (link : LinkUse N) (who : Caller) (fuel : ℕ) : Type 0 where
+  pub conn : N
+  pub back : N
+  pub lends : Lends link conn back
+  pub ahead : List ℕ
+  pub claims : ℕ
+  pub posts : ℕ
+  pub wrong : Option Wrong
+  pub end : HostEnd
+  pub worked : WorkedAs who (line_of link conn []) (line_of link back ahead) fuel claims posts wrong end
+  pub died : (point : Point) (turn : ℕ) → end ≡ host.Died point turn → link.may_die point turn ≡ true
+
+-- the judgehost of this name, which waits where it is said for how long
+abbrev pub host_of : List ℕ → Option ℕ → Caller
+host_of name wait = record { name = name; waits = is_some wait; lines = [] }
+
+-- how a host's end is called, where its line is written
+abbrev pub end_word : HostEnd → Option (List ℕ)
+end_word host.Idle = Some (codes "idle")
+end_word (host.Died point turn) = Some (codes "died")
+end_word host.Fuel = Some (codes "fuel")
+end_word (host.Bench fault.Link) = None
+end_word (host.Bench fault.Holding) = Some (codes "holding")
+end_word (host.Bench fault.NoHost) = Some (codes "no-host")
+end_word (host.Bench (fault.NoCase task)) = None
+end_word (host.Bench fault.NoMemory) = None
+end_word host.NoMemory = None
+
+-- `host NAME claims C posted R END`
+abbrev pub host_line : List ℕ → ℕ → ℕ → List ℕ → List ℕ
+host_line name claims posts word =
+    codes "host " ++ (name ++ (codes " claims " ++ (decimal claims ++ (codes " posted "
+    ++ (decimal posts ++ (codes " " ++ (word ++ codes "\n")))))))
+
+-- the line of a host that ended so
+pub record IsHostLine (name : List ℕ) (claims posts : ℕ) (end : HostEnd) (text : List ℕ) : Type 0 where
+  pub word : List ℕ
+  pub called : end_word end ≡ Some word
+  pub is : text ≡ host_line name claims posts word
+
+-- the connection failed, and no answer was wrong
+pub record IsCutOff (wrong : Option Wrong) (end : HostEnd) (faults : ℕ) : Type 0 where
+  pub ended : end ≡ host.Bench fault.Link
+  pub fine : wrong ≡ None
+  pub failed : 1 ≤ faults
+
+-- this wrong answer was met, as the first one
+pub record IsMisled (wrong : Option Wrong) (end : HostEnd) (answer : Wrong) : Type 0 where
+  pub ended : end ≡ host.Bench fault.Link
+  pub kept : wrong ≡ Some answer
+
+-- how a command ends whose host did not come to an end that has a line
+abbrev pub FaultEnds : Option Wrong → HostEnd → (faults : ℕ) → Exit → Type 0
+FaultEnds wrong end faults exit.Done = ⊥
+FaultEnds wrong end faults exit.Usage = ⊥
+FaultEnds wrong end faults exit.BadContest = ⊥
+FaultEnds wrong end faults exit.ReadFault = ⊥
+FaultEnds wrong end faults exit.WriteFault = ⊥
+FaultEnds wrong end faults exit.Memory = ⊤
+FaultEnds wrong end faults exit.TreeFault = ⊥
+FaultEnds wrong end faults exit.DoorFault = ⊥
+FaultEnds wrong end faults exit.InputLimit = ⊥
+FaultEnds wrong end faults exit.LinkFault = IsCutOff wrong end faults
+FaultEnds wrong end faults (exit.BadAnswer answer) = IsMisled wrong end answer
+FaultEnds wrong end faults exit.StoreFault = ⊥
+FaultEnds wrong end faults (exit.BadStore flaw) = ⊥
+FaultEnds wrong end faults (exit.StoreFull mark) = ⊥
+
+-- What is told of a host that worked. `faults` is how often its connection failed, and `unwritten` says that the output is
+-- as it was.
+abbrev pub ToldEnds : List ℕ → (claims posts : ℕ) → Option Wrong → HostEnd → (faults : ℕ) → Option (List ℕ)
+    → Option (List ℕ) → Type 0 → Exit → Type 0
+ToldEnds name claims posts wrong end faults held held' unwritten exit.Done =
+    Writes (IsHostLine name claims posts end) held held'
+ToldEnds name claims posts wrong end faults held held' unwritten exit.Usage = ⊥
+ToldEnds name claims posts wrong end faults held held' unwritten exit.BadContest = ⊥
+ToldEnds name claims posts wrong end faults held held' unwritten exit.ReadFault = ⊥
+ToldEnds name claims posts wrong end faults held held' unwritten exit.WriteFault =
+    WritesFront (IsHostLine name claims posts end) held held'
+ToldEnds name claims posts wrong end faults held held' unwritten exit.Memory = unwritten
+ToldEnds name claims posts wrong end faults held held' unwritten exit.TreeFault = ⊥
+ToldEnds name claims posts wrong end faults held held' unwritten exit.DoorFault = ⊥
+ToldEnds name claims posts wrong end faults held held' unwritten exit.InputLimit = ⊥
+ToldEnds name claims posts wrong end faults held held' unwritten exit.LinkFault = unwritten × IsCutOff wrong end faults
+ToldEnds name claims posts wrong end faults held held' unwritten (exit.BadAnswer answer) = unwritten × IsMisled wrong end answer
+ToldEnds name claims posts wrong end faults held held' unwritten exit.StoreFault = ⊥
+ToldEnds name claims posts wrong end faults held held' unwritten (exit.BadStore flaw) = ⊥
+ToldEnds name claims posts wrong end faults held held' unwritten (exit.StoreFull mark) = ⊥
+
+-- how it ends without a connection: memory was wanting, or none could be made
+abbrev pub UnlinkedEnds : {N : Type 0} → LinkUse N → Type 0 → Exit → Type 0
+UnlinkedEnds link unwritten exit.Done = ⊥
+UnlinkedEnds link unwritten exit.Usage = ⊥
+UnlinkedEnds link unwritten exit.BadContest = ⊥
+UnlinkedEnds link unwritten exit.ReadFault = ⊥
+UnlinkedEnds link unwritten exit.WriteFault = ⊥
+UnlinkedEnds link unwritten exit.Memory = unwritten
+UnlinkedEnds link unwritten exit.TreeFault = ⊥
+UnlinkedEnds link unwritten exit.DoorFault = ⊥
+UnlinkedEnds link unwritten exit.InputLimit = ⊥
+UnlinkedEnds link unwritten exit.LinkFault = unwritten × Rose link.before link.now
+UnlinkedEnds link unwritten (exit.BadAnswer answer) = ⊥
+UnlinkedEnds link unwritten exit.StoreFault = ⊥
+UnlinkedEnds link unwritten (exit.BadStore flaw) = ⊥
+UnlinkedEnds link unwritten (exit.StoreFull mark) = ⊥
+
+-- How it ends: no connection came, or one did and went back, and the host worked over it.
+abbrev pub HostEnds : {N : Type 0} → LinkUse N → Caller → ℕ → Option (List ℕ) → Option (List ℕ) → Type 0 → Exit → Type 0
+HostEnds link who fuel held held' unwritten e =
+    (IsUnlinked link × UnlinkedEnds link unwritten e)
+    ⊎ ((h : Hosted link who fuel)
+    × ToldEnds who.name h.claims h.posts h.wrong h.end (link.faults h.back) held held' unwritten e)
+
+-- without a fault, where its connection did not fail and no answer was wrong, it is done unless memory is wanting
+unfoldable pub HostIsDone : {N : Type 0} → LinkUse N → Caller → ℕ → Type 0 → Exit → Type 0
+HostIsDone link who fuel faultless e =
+    faultless → ¬ ((h : Hosted link who fuel) × IsCutOff h.wrong h.end (link.faults h.back))
+    → ¬ ((h : Hosted link who fuel) × (answer : Wrong) × IsMisled h.wrong h.end answer) → (e ≡ exit.Done) ⊎ (e ≡ exit.Memory)
