@@ -1,17 +1,33 @@
 //! Why the program ended as it did, on standard error.
 //!
 //! Where standard error cannot be written, nobody can be told.
+use crate::stores::{explain_flaw, explain_full, explain_listing, explain_store_fault};
+use crate::unread::{Watched, unread_reason};
 use command_line::Command;
+use contest_notes::{contest_reason, file_reason};
 use farm_cli::Exit;
+use record_store::Access;
+use remote_host::Wrong;
+use std::alloc::AllocError;
 use std::io;
+use std::net::IpAddr;
 
 /// Says why the command is not done, and what can be done about it.
-pub(crate) fn explain(rt: &HostRuntime, exit: Exit, command: Command<'_>) {
+pub(crate) fn explain(rt: &HostRuntime, exit: Exit, command: &Command<'_>) {
     let _ = match command {
         Command::Judge { folder, .. } => explain_judging(rt, exit, folder),
-        Command::Script { config } => explain_script(rt, exit, config.unwrap_or("")),
+        Command::Script { config, store } => {
+            explain_script(rt, exit, config.unwrap_or(""), store.unwrap_or(""))
+        }
+        Command::Store { path } => explain_listing(rt, exit, path),
         Command::Make { .. } => explain_making(rt, exit),
-        Command::Serve { folder, port, .. } => explain_serving(rt, exit, folder, port),
+        Command::Serve {
+            folder,
+            address,
+            port,
+            ..
+        } => explain_serving(rt, exit, folder, *address, *port),
+        Command::Host { address, port, .. } => explain_hosting(rt, exit, address, *port),
     };
 }
 
@@ -40,42 +56,128 @@ Usage: farm <COMMAND>
 For more information, try '--help'.
 ";
 
+/// Says why the folder is no contest, or which file of it cannot be read: what was found is looked for once more. `end` is
+/// what came of it.
+fn explain_contest(rt: &HostRuntime, folder: &str, end: &str) -> io::Result<()> {
+    let mut tree = Watched::new(rt);
+    let reason = contest_reason(rt.alloc(), &mut tree, folder)?;
+    if let Some(reason) = reason {
+        return eprintln!(rt; "farm: {folder} is no contest: {reason}; {end}");
+    }
+    match unread(rt, &tree)? {
+        Some(reason) => eprintln!(rt; "farm: {folder} cannot be read: {reason}; {end}"),
+        None => eprintln!(rt;
+            "farm: {folder} is no contest, or could not be read, for a reason that is gone by now; {end}"
+        ),
+    }
+}
+
+/// Says why the file gives no settings, or cannot be read.
+fn explain_settings(rt: &HostRuntime, file: &str) -> io::Result<()> {
+    let mut tree = Watched::new(rt);
+    let reason = file_reason(rt.alloc(), &mut tree, file)?;
+    if let Some(reason) = reason {
+        return eprintln!(rt; "farm: {file} gives no settings: {reason}; no line was read");
+    }
+    match unread(rt, &tree)? {
+        Some(reason) => eprintln!(rt;
+            "farm: the settings cannot be read: {reason}; no line was read"
+        ),
+        None => eprintln!(rt;
+            "farm: {file} gives no settings, or could not be read, for a reason that is gone by now; no line was read"
+        ),
+    }
+}
+
+/// Why what the tree could not read cannot be read.
+fn unread(rt: &HostRuntime, tree: &Watched<'_>) -> Result<Option<String>, AllocError> {
+    match tree.failed() {
+        Some(path) => unread_reason(rt, path),
+        None => Ok(None),
+    }
+}
+
 fn explain_judging(rt: &HostRuntime, exit: Exit, folder: &str) -> io::Result<()> {
     match exit {
-        Exit::BadContest => eprintln!(rt;
-            "farm: {folder} is no contest, for the reason on standard output; nothing was judged"
-        ),
+        Exit::BadContest | Exit::TreeFault => explain_contest(rt, folder, "nothing was judged"),
         Exit::WriteFault => rt.eprintln(
             "farm: standard output could not be written (is the disk full, or its reader gone?); lines are missing",
         ),
         Exit::Memory => rt.eprintln(
             "farm: out of memory; nothing was written. Run it again with more memory, or with fewer hosts",
         ),
-        Exit::TreeFault => eprintln!(rt;
-            "farm: a file or folder of {folder} could not be read: check their permissions; nothing was judged"
-        ),
         _ => Ok(()),
     }
 }
 
-fn explain_serving(rt: &HostRuntime, exit: Exit, folder: &str, port: u16) -> io::Result<()> {
+fn explain_serving(
+    rt: &HostRuntime,
+    exit: Exit,
+    folder: &str,
+    address: IpAddr,
+    port: u16,
+) -> io::Result<()> {
     match exit {
-        Exit::BadContest => eprintln!(rt;
-            "farm: {folder} is no contest, for the reason on standard output; nobody was served"
-        ),
+        Exit::BadContest | Exit::TreeFault => explain_contest(rt, folder, "nobody was served"),
         Exit::WriteFault => rt.eprintln(
             "farm: standard output could not be written (is the disk full, or its reader gone?); who was connected was served to the end",
         ),
         Exit::Memory => rt.eprintln(
             "farm: out of memory; who was connected was served to the end. Run it again with more memory, or with fewer lanes",
         ),
-        Exit::TreeFault => eprintln!(rt;
-            "farm: a file or folder of {folder} could not be read: check their permissions; nobody was served"
-        ),
         Exit::DoorFault => eprintln!(rt;
-            "farm: no connection can be had at port {port}: it is taken, may not be used, or the system has none left; who was connected was served to the end"
+            "farm: no connection can be had at port {port} of {address}: it is taken or may not be used, the address is not this machine's, or the system has no connection left; who was connected was served to the end"
         ),
         _ => Ok(()),
+    }
+}
+
+fn explain_hosting(rt: &HostRuntime, exit: Exit, address: &str, port: u16) -> io::Result<()> {
+    match exit {
+        Exit::WriteFault => rt.eprintln(
+            "farm: standard output could not be written (is the disk full, or its reader gone?); what was run was posted",
+        ),
+        Exit::Memory => rt.eprintln(
+            "farm: out of memory; the server hands out again what was not posted. Run it again with more memory",
+        ),
+        Exit::LinkFault => eprintln!(rt;
+            "farm: no connection to port {port} of {address}, or it broke off or was silent for a minute: is 'farm serve' running there, and can it be reached?"
+        ),
+        Exit::BadAnswer { wrong } => explain_answer(rt, wrong, address, port),
+        _ => Ok(()),
+    }
+}
+
+/// Says which answer of a server was a wrong one.
+fn explain_answer(rt: &HostRuntime, wrong: Wrong, address: &str, port: u16) -> io::Result<()> {
+    let _ = eprint!(rt; "farm: a wrong answer from port {port} of {address}: ");
+    match wrong {
+        Wrong::Cut => rt.eprintln("the connection was closed before the whole answer came"),
+        Wrong::BadHead => {
+            rt.eprintln(
+                "its head is not one of HTTP/1.1 with one content-length; is 'farm serve' running there?",
+            )
+        }
+        Wrong::TooLong { len } => {
+            eprintln!(rt; "its content-length is {len}, and at most 100663296 is wanted")
+        }
+        Wrong::Status { code } => {
+            eprintln!(rt;
+                "its status is {code}, and 200, 404 or 409 is wanted; is 'farm serve' running there?"
+            )
+        }
+        Wrong::BadBody => {
+            rt.eprintln(
+                "its body is none that 'farm serve' writes to this request; is 'farm serve' running there?",
+            )
+        }
+        Wrong::OtherTask { task } => {
+            let judging = task.judging;
+            let test = task.test;
+            eprintln!(rt;
+                "the job is of test {test} of judging {judging}, which was not handed out"
+            )
+        }
     }
 }
 
@@ -91,11 +193,9 @@ fn explain_making(rt: &HostRuntime, exit: Exit) -> io::Result<()> {
     }
 }
 
-fn explain_script(rt: &HostRuntime, exit: Exit, file: &str) -> io::Result<()> {
+fn explain_script(rt: &HostRuntime, exit: Exit, file: &str, store: &str) -> io::Result<()> {
     match exit {
-        Exit::BadContest => eprintln!(rt;
-            "farm: {file} gives no settings, for the reason on standard output; no line was read"
-        ),
+        Exit::BadContest | Exit::TreeFault => explain_settings(rt, file),
         Exit::ReadFault => rt.eprintln(
             "farm: standard input could not be read on; all complete lines before that were answered",
         ),
@@ -105,12 +205,12 @@ fn explain_script(rt: &HostRuntime, exit: Exit, file: &str) -> io::Result<()> {
         Exit::Memory => rt.eprintln(
             "farm: out of memory; the replies on standard output end early. Run it again with more memory",
         ),
-        Exit::TreeFault => eprintln!(rt;
-            "farm: {file} could not be read: check its name and permissions; no line was read"
-        ),
         Exit::InputLimit => rt.eprintln(
             "farm: standard input has more than 2^40 bytes, of which no more is read; all complete lines before that were answered",
         ),
-        Exit::Done | Exit::Usage | Exit::DoorFault => Ok(()),
+        Exit::StoreFault => explain_store_fault(rt, store, Access::Change),
+        Exit::BadStore { flaw } => explain_flaw(rt, flaw, store),
+        Exit::StoreFull { end } => explain_full(rt, store, end),
+        _ => Ok(()),
     }
 }

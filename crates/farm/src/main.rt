@@ -1,23 +1,29 @@
 //! `farm`: the judging back end of a programming contest.
 //!
 //! Each file beside this one has one subject: `name.rt` the words with the program's name, `progress.rt` how far it is,
-//! `port.rt` where it listens, and `explanations.rt` why it ended.
+//! `port.rt` where it listens, `notes.rt` what is told before, `explanations.rt` why it ended, `stores.rt` what is wrong with a
+//! store, and `unread.rt` what could not be read.
 #![tactic(auto)]
 
 mod explanations;
 mod name;
+mod notes;
 mod port;
 mod progress;
+mod stores;
+mod unread;
 
 use crate::explanations::{explain, explain_memory, explain_unread, explain_unwritten};
 use crate::name::own_words;
+use crate::notes::tell_notes;
 use crate::port::Announced;
-use crate::progress::Shown;
-use command_line::{Asked, read_words};
+use crate::progress::{Counted, Meter};
+use command_line::{Asked, Command, read_words};
 use farm_cli::{Exit, farm_main};
-use farm_io::{ReadSource, SystemClock, WriteSink};
+use farm_io::{ReadSource, SystemClock, TcpLink, WriteSink};
 use farm_tree::DiskTree;
-use judgehost::AlwaysOn;
+use record_store::FileDisk;
+use remote_host::SystemPause;
 use std::io;
 use std::io::Write;
 use std::process::ExitCode;
@@ -36,8 +42,9 @@ fn main(rt: HostRuntime) -> ExitCode {
 fn answer(rt: &HostRuntime, threads: &(impl Threads + Wait + Sync), words: &[String]) -> Exit {
     match read_words(rt.alloc(), words) {
         Ok(Asked::Command(command)) => {
-            let exit = run(rt, threads, words);
-            explain(rt, exit, command);
+            tell_notes(rt, &command);
+            let exit = run(rt, threads, words, &command);
+            explain(rt, exit, &command);
             exit
         }
         Ok(Asked::Help(text)) => print_help(rt, text.as_str()),
@@ -64,14 +71,35 @@ fn print_help(rt: &HostRuntime, text: &str) -> Exit {
     }
 }
 
-/// Runs the command of the words over the files, standard input and output, with hosts as threads that `threads`
-/// starts.
-fn run(rt: &HostRuntime, threads: &(impl Threads + Wait + Sync), words: &[String]) -> Exit {
+/// For how many seconds a host pauses before it asks again. 0 where it does not.
+fn pause_seconds(command: &Command<'_>) -> u64 {
+    match command {
+        Command::Host {
+            wait: Some(seconds),
+            ..
+        } => u64::from(*seconds),
+        _ => 0,
+    }
+}
+
+/// Whether the command judges a contest by itself, so that how far it is may be shown.
+fn judges(command: &Command<'_>) -> bool {
+    matches!(command, Command::Judge { .. } | Command::Make { .. })
+}
+
+/// Runs the command of the words over the files, standard input and output and the sockets of the machine, with hosts as
+/// threads that `threads` starts.
+fn run(
+    rt: &HostRuntime,
+    threads: &(impl Threads + Wait + Sync),
+    words: &[String],
+    command: &Command<'_>,
+) -> Exit {
     let alloc = rt.alloc();
     let mut input = ReadSource::new(rt.reader());
     let mut out = WriteSink::new(io::writer(rt));
     let mut tree = DiskTree::new(rt, alloc);
-    let mut progress = Shown::new(rt);
+    let meter = Meter::new(rt, judges(command));
     farm_main(
         threads,
         alloc,
@@ -80,9 +108,12 @@ fn run(rt: &HostRuntime, threads: &(impl Threads + Wait + Sync), words: &[String
         &mut input,
         &mut out,
         &SystemClock::new(rt),
-        &mut Announced::new(rt),
-        &AlwaysOn,
-        &mut progress,
+        &mut Announced::new(rt, threads),
+        &meter,
+        &mut Counted::new(&meter),
+        &mut TcpLink::new(rt, alloc),
+        &SystemPause::new(rt, pause_seconds(command)),
+        &mut FileDisk::new(alloc, rt),
     )
 }
 

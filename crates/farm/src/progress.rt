@@ -1,61 +1,110 @@
-//! How far the program is, on a terminal.
+//! How far the judging is, on a terminal.
 use farm_kinds::Task;
+use judgehost::{Gate, Go, Point};
 use parallel_judge::Progress;
 use std::io::IsTerminal;
-use std::time::{Duration, Instant};
+use std::sync::atomic::{AtomicU64, Ordering};
+use std::time::Instant;
 
 /// How long the line of progress stays as it is.
-const PAUSE_MILLISECONDS: u64 = 100;
+const PAUSE_MILLISECONDS: u128 = 100;
 
-/// How many tests the program has run by itself, as a line on standard error that is written over: where that is a
-/// terminal, and at most ten times a second. Hosts tell nothing.
+/// How many tests were run, by hosts and by the program itself, as a line on standard error that is written over: where
+/// that is a terminal, and at most ten times a second. As a gate it lets every host go on.
 #[derive(Drop)]
-pub(crate) struct Shown<'a> {
+pub(crate) struct Meter<'a> {
     rt: &'a HostRuntime,
-    is_terminal: bool,
-    tests: u64,
-    last: Option<Instant>,
+    /// Since when the pauses are counted. None where nothing is to be shown.
+    begun: Option<Instant>,
+    tests: AtomicU64,
+    /// The pause in which the line was written last. The first one is 1, and 0 stands where no line was written.
+    written: AtomicU64,
 }
 
-impl<'a> Shown<'a> {
-    pub(crate) fn new(rt: &'a HostRuntime) -> Shown<'a> {
-        Shown {
+impl<'a> Meter<'a> {
+    /// Shows the tests where the command judges a contest, standard error is a terminal and the time is known.
+    pub(crate) fn new(rt: &'a HostRuntime, judges: bool) -> Meter<'a> {
+        let begun = if judges && rt.stderr().is_terminal() {
+            Instant::now(rt).ok()
+        } else {
+            None
+        };
+        Meter {
             rt,
-            is_terminal: rt.stderr().is_terminal(),
-            tests: 0,
-            last: None,
+            begun,
+            tests: AtomicU64::new(0),
+            written: AtomicU64::new(0),
         }
     }
 
-    /// Whether the line is due again.
-    fn is_due(&mut self) -> bool {
+    /// One more test was run.
+    fn count(&self) {
+        let Some(begun) = self.begun else {
+            return;
+        };
+        let tests = self.tests.fetch_add(1, Ordering::Relaxed).wrapping_add(1);
+        if self.is_due(begun) {
+            let _ = eprint!(self.rt; "\r\x1b[K{tests} tests run");
+        }
+    }
+
+    /// Whether the line is due again, and this thread is the one to write it.
+    fn is_due(&self, begun: Instant) -> bool {
         let Ok(now) = Instant::now(self.rt) else {
             return false;
         };
-        if let Some(last) = self.last {
-            if now.saturating_duration_since(last) < Duration::from_millis(PAUSE_MILLISECONDS) {
-                return false;
-            }
-        }
-        self.last = Some(now);
-        true
-    }
-}
-
-impl Progress for Shown<'_> {
-    fn runs(&mut self, task: Task) {
-        if self.is_terminal && self.is_due() {
-            let tests = self.tests;
-            let submission = task.judging;
-            let _ = eprint!(self.rt; "\r\x1b[K{tests} tests run, submission {submission}");
-        }
-        self.tests = self.tests.wrapping_add(1);
+        let pauses = now.saturating_duration_since(begun).as_millis() / PAUSE_MILLISECONDS;
+        let Ok(pauses) = u64::try_from(pauses) else {
+            return false;
+        };
+        let pause = pauses.wrapping_add(1);
+        let last = self.written.load(Ordering::Relaxed);
+        last < pause
+            && self
+                .written
+                .compare_exchange(last, pause, Ordering::Relaxed, Ordering::Relaxed)
+                .is_ok()
     }
 
     /// Takes the line away.
-    fn ends(&mut self) {
-        if self.last.is_some() {
+    fn clear(&self) {
+        if self.written.load(Ordering::Relaxed) > 0 {
             let _ = self.rt.eprint("\r\x1b[K");
         }
+    }
+}
+
+impl Gate for Meter<'_> {
+    ghost use Rattle.judgehost.specs.Gates.{is_on};
+
+    ghost may_answer = { λ gate host point turn go. is_on go };
+
+    fn pass(&self, _host: u32, point: Point, _turn: u64) -> Go {
+        if point == Point::BeforePost {
+            self.count();
+        }
+        Go::On
+    }
+}
+
+/// Counts the tests that the program runs by itself.
+#[derive(Drop)]
+pub(crate) struct Counted<'a> {
+    meter: &'a Meter<'a>,
+}
+
+impl<'a> Counted<'a> {
+    pub(crate) fn new(meter: &'a Meter<'a>) -> Counted<'a> {
+        Counted { meter }
+    }
+}
+
+impl Progress for Counted<'_> {
+    fn runs(&mut self, _task: Task) {
+        self.meter.count();
+    }
+
+    fn ends(&mut self) {
+        self.meter.clear();
     }
 }
