@@ -81,7 +81,7 @@ fn door_of(alloc: Global, talks: &str) -> Result<ReliableDoor, AllocError>
 }
 
 /// How two connections are served, and the door to which they came.
-fn serve_two<R: Threads + Wait + Sync, K: Sink>(
+pub(crate) fn serve_two<R: Threads + Wait + Sync, K: Sink>(
     rt: &R,
     alloc: Global,
     roster: &Roster,

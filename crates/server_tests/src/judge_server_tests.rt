@@ -22,8 +22,8 @@ fn head(alloc: Global, method: &str, target: &str) -> Result<Head, AllocError>
     })
 }
 
-/// What a request asks: the line of its event, behind the word `tick` where time goes on first, or why it asks
-/// nothing.
+/// What a request asks: the line of its event, behind the word `tick` where time goes on first; `job` and the numbers of
+/// a judging and a test; `public`; or why it asks nothing.
 fn shown(alloc: Global, asked: &Asked) -> Result<Text, NoMemory>
     requires { asked.now ≢ Asked.Refused (RequestFault.BadBody BodyFault.NoMemory) }
 {
@@ -36,6 +36,11 @@ fn shown(alloc: Global, asked: &Asked) -> Result<Text, NoMemory>
             shown.extend_from_slice(write_event(alloc, event)?.as_slice())?;
             Ok(Text::from_vec(shown))
         }
+        Asked::Job { judging, test } => {
+            let shown = format!(in alloc; "job {judging} {test}")?;
+            Ok(Text::from_vec(shown.into_bytes()))
+        }
+        Asked::Public => Ok(Text::from_vec(Vec::from_slice(alloc, b"public")?)),
         Asked::Refused(fault) => {
             let mut sink = ReliableSink::new(Vec::with_capacity(alloc, 1000)?);
             let _end = answer_fault(alloc, &mut sink, false, fault);
@@ -65,6 +70,8 @@ const ASKED: &str = concat!(
     "POST /judgehosts/add-judging-run|{\"hostname\":\"h1\",\"judging\":1,\"test\":2,\"result\":\"correct\"} => result h1 1 2 correct\n",
     "POST /judgehosts/renew|{\"test\":2,\"judging\":1,\"hostname\":\"h1\"} => tick renew h1 1 2\n",
     "POST /judgehosts/down|{\"hostname\":\"h1\"} => down h1\n",
+    "GET /judgehosts/job/12/3| => job 12 3\n",
+    "GET /judgehosts/job/4294967295/4294967295?x| => job 4294967295 4294967295\n",
     "GET /judgements/12|{ => show 12\n",
     "GET /judgements/12?strict=true| => show 12\n",
     "POST /judgements/12/verify| => verify 12\n",
@@ -72,6 +79,7 @@ const ASKED: &str = concat!(
     "GET /judgements/12/submission| => owner 12\n",
     "POST /judgements/12/ask|{\"who\":\"eve\"} => @eve ask 12\n",
     "GET /board| => board\n",
+    "GET /public?again|{ => public\n",
     "GET /audit| => audit\n",
     "POST /rejudgings|{\"submissions\":[3,1]} => rejudge 3,1\n",
     "GET /rejudgings/4| => matrix 4\n",
@@ -86,7 +94,11 @@ const REFUSED: &str = concat!(
     "GET /judgements/012| => HTTP/1.1 404 Not Found^~content-length: 20^~content-type: application/json^~^~{\"reply\":\"no-route\"}\n",
     "GET /judgements/4294967296| => HTTP/1.1 404 Not Found^~content-length: 20^~content-type: application/json^~^~{\"reply\":\"no-route\"}\n",
     "PUT /judgements/x/verify| => HTTP/1.1 404 Not Found^~content-length: 20^~content-type: application/json^~^~{\"reply\":\"no-route\"}\n",
+    "GET /judgehosts/job/12| => HTTP/1.1 404 Not Found^~content-length: 20^~content-type: application/json^~^~{\"reply\":\"no-route\"}\n",
+    "GET /judgehosts/job/12/x| => HTTP/1.1 404 Not Found^~content-length: 20^~content-type: application/json^~^~{\"reply\":\"no-route\"}\n",
+    "POST /judgehosts/job/12/3| => HTTP/1.1 405 Method Not Allowed^~content-length: 21^~content-type: application/json^~^~{\"reply\":\"no-method\"}\n",
     "POST /board| => HTTP/1.1 405 Method Not Allowed^~content-length: 21^~content-type: application/json^~^~{\"reply\":\"no-method\"}\n",
+    "POST /public| => HTTP/1.1 405 Method Not Allowed^~content-length: 21^~content-type: application/json^~^~{\"reply\":\"no-method\"}\n",
     "get /board| => HTTP/1.1 405 Method Not Allowed^~content-length: 21^~content-type: application/json^~^~{\"reply\":\"no-method\"}\n",
     "POST /judgehosts|[] => HTTP/1.1 400 Bad Request^~content-length: 37^~content-type: application/json^~^~{\"reply\":\"bad-body\",\"why\":\"not-json\"}\n",
     "POST /judgehosts/down| => HTTP/1.1 400 Bad Request^~content-length: 45^~content-type: application/json^~^~{\"reply\":\"bad-body\",\"why\":\"missing hostname\"}\n",

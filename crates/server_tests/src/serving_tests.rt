@@ -1,21 +1,23 @@
 ghost use Rattle.std.specs.Prelude.{◌≡◌, ℕ, ⊤};
+ghost use Rattle.judge_server.specs.Jobs.{gives_none};
 
 use crate::talks::{check_bytes, check_end, conn_of, end_told, said};
 use command_text::write_event;
 use farm_io::{FixedClock, ReliableConn};
-use farm_kinds::{Event, Kind, NoMemory, Reply};
+use farm_kinds::{Answer, Answers, Event, Kind, NoMemory, Reply, Text};
 use judge_server::{ConnEnd, Paths, Replier, serve_on};
 use std::alloc::Global;
 use std::process::Abort;
 use std::test::Fail;
 
-/// Finds that every result differs, and has nothing else to say.
+/// Finds that every result differs, that every judging is of submission 3, and has nothing else to say. What the public
+/// sees is that submission 1 is pending. It has no cases.
 #[derive(Drop)]
 struct Differing {
     alloc: Global,
 }
 
-/// The events that were asked, each with a bar behind it, and how many may follow.
+/// The events and looks that were asked, each with a bar behind it, and how many may follow.
 #[derive(Drop)]
 struct Asked {
     text: Vec<u8>,
@@ -35,9 +37,11 @@ impl Replier for Differing {
 
     ghost suits = { λ replier asked. ⊤ };
 
-    ghost steps = { λ old event reply new. ⊤ };
+    ghost steps = { λ old entered new. ⊤ };
 
     ghost left = { λ asked. asked.left };
+
+    ghost gives = { λ replier. gives_none };
 
     fn step(&self, state: &mut Asked, event: &Event) -> Reply {
         state.left -= 1;
@@ -48,8 +52,29 @@ impl Replier for Differing {
                 kept: Kind::Correct,
                 given: *kind,
             },
+            Event::Owner { .. } => Reply::Owned { submission: 3 },
             _ => Reply::Nothing,
         }
+    }
+
+    fn look(&self, alloc: Global, state: &mut Asked) -> Reply {
+        state.left -= 1;
+        let mut rows = Answers::new(alloc);
+        let noted = state.text.extend_from_slice(b"look|");
+        if noted.is_err() || rows.push(Answer::Pending).is_err() {
+            return Reply::NoMemory;
+        }
+        Reply::Board { rows }
+    }
+
+    fn job(
+        &self,
+        _alloc: Global,
+        _submission: u32,
+        _judging: u32,
+        _test: u32,
+    ) -> Result<Option<Text>, NoMemory> {
+        Ok(None)
     }
 }
 
@@ -58,6 +83,8 @@ impl Replier for Differing {
 const TALKS: &str = concat!(
     "host fetch => 2 End => host h1|tick 7|claim h1| => nothing nothing\n",
     "last-timelimit host => 1 Closed => result h1 1 1 timelimit|down h1| => differs-timelimit\n",
+    "rejudged-job => 1 End => owner 2| => no-job\n",
+    "public host => 2 End => look|host h1| => public-pending nothing\n",
     "host cut => 1 Cut => host h1| => nothing\n",
     "host no-head => 1 BadRequest => host h1| => nothing bad-head\n",
     " => 0 End =>  => \n",
