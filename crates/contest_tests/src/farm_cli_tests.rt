@@ -1,14 +1,17 @@
-use crate::contest_folder_tests::check_text;
 use crate::rejudging_rows::REJUDGINGS;
 use crate::script_rows::SCRIPTS;
 use farm_cli::{Exit, farm_main};
 use farm_io::{
-    FixedClock, MemorySink, MemorySource, ReliableDoor, ReliableSink, ReliableSource, Sink, Source,
+    FixedClock, MemoryLink, MemorySink, MemorySource, ReliableDoor, ReliableSink, ReliableSource,
+    Sink, Source,
 };
 use farm_kinds::NoMemory;
 use farm_tree::{MemoryTree, ReliableTree, Tree, TreeFiles};
+use folder_tests::rows::check_text;
 use judgehost::{AlwaysOn, Gate};
 use parallel_judge::Silent;
+use record_store::MemoryDisk;
+use remote_host::NoPause;
 use std::alloc::{AllocError, Global};
 use std::process::Abort;
 use std::sync::Wait;
@@ -33,7 +36,7 @@ pub(crate) fn words_of(alloc: Global, line: &str) -> Result<Vec<String>, AllocEr
 }
 
 /// The bytes that a text writes, in which `~` is a line feed and `^` a carriage return.
-fn bytes_of(alloc: Global, text: &str) -> Result<Vec<u8>, AllocError> {
+pub(crate) fn bytes_of(alloc: Global, text: &str) -> Result<Vec<u8>, AllocError> {
     let text = text.replace(alloc, '~', "\n")?;
     Ok(text.replace(alloc, '^', "\r")?.into_bytes())
 }
@@ -57,8 +60,24 @@ pub(crate) fn end_of<T: Tree, S: Source, K: Sink, G: Gate + Sync>(
     out: &mut K,
     gate: &G,
 ) -> Result<Exit, AllocError> {
+    let mut disk = MemoryDisk::new(alloc, Vec::new(alloc), Vec::new(alloc))?;
+    end_on(rt, alloc, line, tree, input, out, gate, &mut disk)
+}
+
+/// The same on this disk.
+pub(crate) fn end_on<T: Tree, S: Source, K: Sink, G: Gate + Sync>(
+    rt: &(impl Threads + Wait + Sync),
+    alloc: Global,
+    line: &str,
+    tree: &mut T,
+    input: &mut S,
+    out: &mut K,
+    gate: &G,
+    disk: &mut MemoryDisk,
+) -> Result<Exit, AllocError> {
     let words = words_of(alloc, line)?;
     let mut door = ReliableDoor::new(alloc, Vec::new(alloc))?;
+    let mut link = MemoryLink::new(alloc, Vec::new(alloc), Vec::new(alloc))?;
     Ok(farm_main(
         rt,
         alloc,
@@ -70,6 +89,9 @@ pub(crate) fn end_of<T: Tree, S: Source, K: Sink, G: Gate + Sync>(
         &mut door,
         gate,
         &mut Silent,
+        &mut link,
+        &NoPause,
+        disk,
     ))
 }
 

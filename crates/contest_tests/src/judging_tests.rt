@@ -2,10 +2,10 @@ use crate::farm_cli_tests::{check_ended, end_of};
 use crate::gates::{DeathGate, Meeting, MeetingGate, RecordingGate, SeededGate};
 use farm_cli::Exit;
 use farm_io::{ReliableSink, ReliableSource};
-use farm_kinds::Text;
-use farm_tree::{MemoryTree, ReliableTree, TreeFile, TreeFiles};
+use farm_tree::{MemoryTree, ReliableTree};
+use folder_tests::files::files_of;
 use judgehost::{AlwaysOn, Gate, Point};
-use std::alloc::{AllocError, Global};
+use std::alloc::Global;
 use std::process::Abort;
 use std::str;
 use std::sync::{Mutex, Wait};
@@ -104,66 +104,6 @@ const ROWS: &str = concat!(
     "c/farm.json={\"lazy_eval_results\":false} => 1 alpha echo correct~2 beta echo no-output~3 gamma echo timelimit~4 delta echo compiler-error~5 alpha guess correct~6 beta guess judging-error~7 gamma guess wrong-answer~\n",
     "c/farm.json={\"results_remap\":{\"timelimit\":\"run-error\"}} => 1 alpha echo correct~2 beta echo no-output~3 gamma echo run-error~4 delta echo compiler-error~5 alpha guess correct~6 beta guess judging-error~7 gamma guess wrong-answer~\n",
 );
-
-/// The bytes of a file's content.
-pub(crate) fn bytes_of(alloc: Global, content: &str) -> Result<Vec<u8>, AllocError> {
-    match content.strip_prefix("#") {
-        Some(digits) => bytes_of_digits(alloc, digits.as_bytes()),
-        None => Ok(content.replace(alloc, '~', "\n")?.into_bytes()),
-    }
-}
-
-fn bytes_of_digits(alloc: Global, digits: &[u8]) -> Result<Vec<u8>, AllocError> {
-    let mut bytes = Vec::new(alloc);
-    for pair in digits.chunks(2) {
-        let byte = pair.iter().fold(
-            0u8,
-            |value, digit| value.wrapping_mul(16).wrapping_add(value_of(*digit)),
-        );
-        bytes.push(byte)?;
-    }
-    Ok(bytes)
-}
-
-fn value_of(digit: u8) -> u8 {
-    if digit < b'a' {
-        digit.wrapping_sub(b'0')
-    } else {
-        digit.wrapping_sub(b'a' - 10)
-    }
-}
-
-/// The path of a change.
-fn path_of(change: &str) -> &str {
-    match change.split_once('=') {
-        Some((path, _)) => path,
-        None => change,
-    }
-}
-
-/// A contest's files with this change.
-pub(crate) fn files_of(alloc: Global, contest: &str, change: &str) -> Result<TreeFiles, Fail> {
-    let mut files = TreeFiles::new(alloc);
-    for line in contest.lines() {
-        if let Some((path, content)) = line.split_once('|') {
-            if path != path_of(change) {
-                put(alloc, &mut files, path, content)?;
-            }
-        }
-    }
-    if let Some((path, content)) = change.split_once('=') {
-        put(alloc, &mut files, path, content)?;
-    }
-    Ok(files)
-}
-
-fn put(alloc: Global, files: &mut TreeFiles, path: &str, content: &str) -> Result<(), Fail> {
-    if path.len() <= 4096 {
-        let bytes = Text::from_vec(bytes_of(alloc, content)?);
-        files.push(TreeFile::new(String::from_str(alloc, path)?, bytes))?;
-    }
-    Ok(())
-}
 
 /// What a command line writes over a contest's files with this change, and how it ends.
 fn judged<G: Gate + Sync>(

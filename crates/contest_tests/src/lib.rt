@@ -1,17 +1,13 @@
-//! Tests of the crates that read and make contests, and of the commands of the program.
+//! Tests of the commands of the program: scripts, contests that are judged and served, hosts and stores.
 #![tactic(auto)]
 
 #[cfg(test)]
-mod contest_folder_tests;
-#[cfg(test)]
 mod farm_cli_tests;
-#[cfg(test)]
-mod farm_tree_tests;
 pub mod gates;
 #[cfg(test)]
-mod judging_tests;
+mod hosting_tests;
 #[cfg(test)]
-mod package_folder_tests;
+mod judging_tests;
 #[cfg(test)]
 mod rejudging_rows;
 #[cfg(test)]
@@ -19,4 +15,4 @@ mod script_rows;
 #[cfg(test)]
 mod serving_tests;
 #[cfg(test)]
-mod work_maker_tests;
+mod storing_tests;

@@ -4,11 +4,13 @@ ghost use Rattle.farm_io.specs.MemoryDoors.{IsReliableNew};
 use crate::farm_cli_tests::{check_ended, tree_of, words_of};
 use farm_cli::{Exit, farm_main};
 use farm_io::{
-    Connection, Door, FixedClock, MemoryDoor, ReliableConn, ReliableDoor, ReliableSink,
+    Connection, Door, FixedClock, MemoryDoor, MemoryLink, ReliableConn, ReliableDoor, ReliableSink,
     ReliableSource,
 };
 use judgehost::AlwaysOn;
 use parallel_judge::Silent;
+use record_store::MemoryDisk;
+use remote_host::NoPause;
 use std::alloc::{AllocError, Global};
 use std::sync::Wait;
 use std::test::Fail;
@@ -51,6 +53,8 @@ where
     let mut input = ReliableSource::new(Vec::new(alloc));
     let mut out = ReliableSink::new(Vec::with_capacity(alloc, ROOM)?);
     let mut tree = tree_of(alloc, "c/submissions.txt", b"")?;
+    let mut link = MemoryLink::new(alloc, Vec::new(alloc), Vec::new(alloc))?;
+    let mut disk = MemoryDisk::new(alloc, Vec::new(alloc), Vec::new(alloc))?;
     let exit = farm_main(
         rt,
         alloc,
@@ -62,6 +66,9 @@ where
         door,
         &AlwaysOn,
         &mut Silent,
+        &mut link,
+        &NoPause,
+        &mut disk,
     );
     Ok((exit, out))
 }

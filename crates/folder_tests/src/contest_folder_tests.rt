@@ -1,5 +1,6 @@
 ghost use Rattle.std.specs.Prelude.{None};
 
+use crate::rows::check_text;
 use case_run::{Cases, Check};
 use contest_folder::{
     ContestFault, Roster, RosterProblem, RosterSubmission, push_contest_fault, read_contest,
@@ -230,11 +231,6 @@ fn push_submission(
 /// What is read of the files with these changes, in words.
 fn changed_told(alloc: Global, changes: &str) -> Result<String, Fail> {
     files_told(alloc, changed(alloc, changes)?, "c")
-}
-
-/// Compares a text with the one that is expected.
-pub(crate) fn check_text(rt: &impl Abort, shown: &str, expected: &str, name: &str) {
-    assert_eq!(rt; shown, expected, "{name}");
 }
 
 fn check_row(rt: &impl Abort, alloc: Global, row: &str) -> Result<(), Fail> {

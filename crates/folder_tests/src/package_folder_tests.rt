@@ -1,4 +1,4 @@
-use crate::judging_tests::files_of;
+use crate::files::files_of;
 use farm_tree::MemoryTree;
 use package_folder::{PackageFault, read_package};
 use std::alloc::Global;

@@ -1,4 +1,4 @@
-use crate::judging_tests::bytes_of;
+use crate::files::bytes_of;
 use farm_tree::{MemoryTree, Tree, TreeErr};
 use std::alloc::Global;
 use std::process::Abort;

@@ -1,0 +1,13 @@
+//! Tests of the crates that read folders and make contests, and what tests of contests are made with.
+#![tactic(auto)]
+
+#[cfg(test)]
+mod contest_folder_tests;
+#[cfg(test)]
+mod farm_tree_tests;
+pub mod files;
+#[cfg(test)]
+mod package_folder_tests;
+pub mod rows;
+#[cfg(test)]
+mod work_maker_tests;
