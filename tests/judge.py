@@ -5,7 +5,7 @@
 
 PROGRAM is the built program, `crates/farm/out/farm` of this repository if none is given. One line is printed for each
 look, and the status is 1 where one shows something else than is wanted. Every end but the first says one line on
-standard error, which names the contest's folder where it lies in it, and a faulty command line which word is wrong.
+standard error behind the notes (`tests/reasons.py` looks at what they say), which names the contest's folder where it lies in it, and a faulty command line which word is wrong.
 """
 
 import os
@@ -17,7 +17,7 @@ sys.dont_write_bytecode = True
 
 import judge_model as model  # noqa: E402
 import package_model  # noqa: E402
-from place import program_and_numbers  # noqa: E402
+from place import program_and_numbers, without_notes  # noqa: E402
 
 # The realistic contest: two problems, one with a validator of its own, and a submission of every kind of verdict.
 REALISTIC = {
@@ -79,10 +79,10 @@ def judged(program, folder, hosts="0"):
 
 
 def ended(program, words, **more):
-    """The status, what was written to standard output, and to standard error."""
+    """The status, what was written to standard output, and to standard error but notes."""
     more = {"stdin": subprocess.DEVNULL, "stdout": subprocess.PIPE} | more
     done = subprocess.run([program, *words], stderr=subprocess.PIPE, timeout=120, check=False, **more)
-    return done.returncode, done.stdout or b"", done.stderr
+    return done.returncode, done.stdout or b"", without_notes(done.stderr)
 
 
 def fault_of(got, status, written, said=b""):

@@ -18,16 +18,16 @@ sys.dont_write_bytecode = True
 
 from judge import REALISTIC, TABLE, write  # noqa: E402
 from memory import make_refuser, refuse_each  # noqa: E402
-from place import OUT, program_and_numbers  # noqa: E402
+from place import OUT, program_and_numbers, without_notes  # noqa: E402
 
 
 def play(program, library, folder, hosts, refused):
-    """The status, what was written to standard output and to standard error, and how many allocations were asked for."""
+    """The status, what was written to standard output and to standard error but notes, and how many allocations were asked for."""
     asked = os.path.join(OUT, "asked")
     env = dict(os.environ, LD_PRELOAD=library, REFUSE=str(refused), REFUSE_COUNT=asked)
     done = subprocess.run([program, "judge", folder, "--hosts", str(hosts)], capture_output=True, env=env, check=False)
     with open(asked) as file:
-        return done.returncode, done.stdout, done.stderr, int(file.read())
+        return done.returncode, done.stdout, without_notes(done.stderr), int(file.read())
 
 
 def main():

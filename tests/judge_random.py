@@ -20,7 +20,7 @@ import tempfile
 sys.dont_write_bytecode = True
 
 import judge_model as model  # noqa: E402
-from place import program_and_numbers  # noqa: E402
+from place import program_and_numbers, without_notes  # noqa: E402
 from rule_model import KINDS  # noqa: E402
 
 KNOWN = [model.ECHO] * 12 + [model.SILENT, model.LOOP, model.FAIL, model.HALF, model.GREEDY, model.BROKEN, model.byte(55), model.byte(57), model.byte(65)]
@@ -141,7 +141,7 @@ def fault_of(program, seed, counts):
     hosts = str(drawn.random.randrange(17))
     done = subprocess.run([program, "judge", folder, "--hosts", hosts], capture_output=True, check=False)
     status, wanted = model.judge(folder)
-    if (done.returncode, done.stdout) != (status, wanted) or done.stderr.count(b"\n") != (1 if status else 0):
+    if (done.returncode, done.stdout) != (status, wanted) or without_notes(done.stderr).count(b"\n") != (1 if status else 0):
         differ = [(w, g) for w, g in zip(wanted.split(b"\n"), done.stdout.split(b"\n")) if w != g]
         return f"contest {seed} in {folder} with {hosts} hosts: status {done.returncode}, wanted {status}, said {done.stderr!r}, (wanted, written): {differ[:5]}"
     shutil.rmtree(folder)

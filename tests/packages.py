@@ -43,22 +43,76 @@ tests 4
 
 # What is changed in the plain package (None takes a file away), and what is said then.
 FAULTS = [
-    ({"problem.yaml": None}, "no problem.yaml"),
-    ({"problem.yaml": "name: a\n\tlimits:\n"}, "problem.yaml line 2: Tab"),
-    ({"problem.yaml": "name: a\nname: b\n"}, "problem.yaml line 2: Repeated"),
-    ({"problem.yaml": "# one\nname: 'a\n"}, "problem.yaml line 2: Open"),
-    ({"domjudge-problem.ini": "color=red\ntimelimit=0\n"}, "domjudge-problem.ini line 2: no time limit"),
-    ({"problem.yaml": "validator_flags: fast\n"}, "flags word 1 is no flag"),
-    ({"data/secret/g/testdata.yaml": ""}, "test groups secret/g/testdata.yaml"),
-    ({"data/secret/b.ans": None}, "missing answer secret/b"),
-    ({name: None for name in PLAIN if name.endswith(".in")}, "no tests"),
-    ({f"data/secret/{n}.{end}": "" for n in range(1000) for end in ("in", "ans")}, "too many tests: 1004"),
-    ({"data/secret/b.ans": "1 1e12\n"}, "wide answer secret/b token 1"),
-    ({"problem.yaml": "validation: custom\n"}, "no validator"),
-    ({"problem.yaml": "validation: custom\n", "output_validators/check.cpp": ""}, "source validator check.cpp"),
-    ({"problem.yaml": "validation: custom\n", "output_validators/a.rv32": "abc"}, "bad validator a.rv32"),
-    ({"problem.yaml": "validation: custom\n", "output_validators/a.rv32": "", "output_validators/b": ""}, "many validators: 2"),
-    ({"data/secret/b.in": "x" * 16_777_217}, "too large data/secret/b.in: 16777217 bytes"),
+    ({"problem.yaml": None}, "there is no problem.yaml"),
+    ({"problem.yaml": "name: a\n\tlimits:\n"}, "problem.yaml line 2: a tab stands in the indentation"),
+    ({"problem.yaml": "name: a\nvalidation: default\n  x: y\n"}, "problem.yaml line 3: it is indented, and no such line may stand there"),
+    ({"problem.yaml": "name: a\nlimits\n"}, "problem.yaml line 2: there is no colon behind a key"),
+    ({"problem.yaml": "name: a\nname: b\n"}, "problem.yaml line 2: its key stood before"),
+    ({"problem.yaml": "# one\nname: 'a\n"}, "problem.yaml line 2: a quote is not closed"),
+    ({"problem.yaml": 'name: "\\a"\n'}, 'problem.yaml line 1: a backslash stands before another character than ", \\, n and t'),
+    ({"problem.yaml": "name: [a]\n"}, "problem.yaml line 1: the value has a form of YAML that is not read, or goes on behind its closing quote"),
+    ({"problem.yaml": "limits:\n  memory: many\n"}, "problem.yaml line 2: memory is no whole number of MiB from 1 to 1000000"),
+    ({"problem.yaml": "limits:\n  output: 0\n"}, "problem.yaml line 2: output is no whole number of MiB from 1 to 1000000"),
+    ({"problem.yaml": "limits: {memory: 0}\n"}, "problem.yaml line 1: memory or output is no whole number of MiB from 1 to 1000000"),
+    ({"problem.yaml": "validation: fast\n"}, "problem.yaml line 1: validation is neither default nor custom"),
+    ({"problem.yaml": "validation: custom interactive\n"}, "problem.yaml line 1: the problem is interactive, and such problems are not judged"),
+    ({"problem.yaml": "validation: custom score\n"}, "problem.yaml line 1: the validator gives scores, and such problems are not judged"),
+    ({"domjudge-problem.ini": "color=red\ntimelimit=0\n"}, "domjudge-problem.ini line 2: timelimit is no number of seconds from 0.001 to 1000"),
+    ({"problem.yaml": "validator_flags: fast\n"}, "problem.yaml: validator_flags: word 1 of the flags is no flag"),
+    ({"problem.yaml": "validator_flags: float_tolerance\n"}, "problem.yaml: validator_flags: word 1 of the flags wants a value behind it"),
+    ({"problem.yaml": "validator_flags: float_tolerance -1\n"}, "problem.yaml: validator_flags: word 2 of the flags is no tolerance"),
+    ({"data/secret/g/testdata.yaml": ""}, "data/secret/g/testdata.yaml: groups of tests are not judged"),
+    ({"data/secret/b.ans": None}, "data/secret/b: there is no .ans file beside the .in file"),
+    ({name: None for name in PLAIN if name.endswith(".in")}, "there are no tests, which are .in files below data/sample and data/secret"),
+    ({f"data/secret/{n}.{end}": "" for n in range(1000) for end in ("in", "ans")}, "there are 1004 tests, and at most 1000 are judged"),
+    ({"data/secret/b.ans": "1 1e12\n"},
+     "data/secret/b.ans: token 1 (from 0) is a number of 10^12 or more, which a tolerance cannot be used with"),
+    ({"problem.yaml": "validation: custom\n"}, "there is no validator in output_validators, for which validation: custom asks"),
+    ({"problem.yaml": "validation: custom\n", "output_validators/check.cpp": ""},
+     "output_validators/check.cpp: source text is not built: a raw image NAME.rv32 is wanted"),
+    ({"problem.yaml": "validation: custom\n", "output_validators/a.rv32": "abc"},
+     "output_validators/a.rv32: it is no raw image, which has 1 to 262144 words of 4 bytes"),
+    ({"problem.yaml": "validation: custom\n", "output_validators/a.rv32": "", "output_validators/b": ""},
+     "there are 2 files and folders in output_validators, where one validator is wanted"),
+    ({"data/secret/b.in": "x" * 16_777_217}, "data/secret/b.in: the file has 16777217 bytes, and at most 16777216 are read"),
+]
+
+YAML = PLAIN["problem.yaml"]
+# What is changed in the plain package, and the notes on it. Behind each note stands a near miss that gives none.
+NOTES = [
+    ({}, []),
+    ({"problem.yaml": YAML + "memroy: 64\n"}, ["problem.yaml line 3: memroy is not read"]),
+    ({"problem.yaml": YAML + "# memroy: 64\n"}, []),
+    ({"problem.yaml": YAML + "keywords:\n- memroy: 1\n- b\n"}, ["problem.yaml line 3: keywords is not read"]),
+    ({"problem.yaml": YAML + "limits:\n  memroy: 64\n"}, ["problem.yaml line 4: limits: memroy is not read"]),
+    ({"problem.yaml": YAML + "limits: {memroy: 64}\n"}, ["problem.yaml line 3: limits: memroy is not read"]),
+    ({"problem.yaml": YAML + "limits:\n  memory: 64\n"}, []),
+    ({"problem.yaml": YAML + "limits:\n  memory: 257\n"}, ["problem.yaml: memory of 257 MiB is cut down to 256, the most that there is"]),
+    ({"problem.yaml": YAML + "limits:\n  output: 65\n"}, ["problem.yaml: output of 65 MiB is cut down to 64, the most that there is"]),
+    ({"problem.yaml": YAML + "limits:\n  memory: 256\n  output: 64\n"}, []),
+    ({"domjudge-problem.ini": "color=red\ntimelimit=1\n"}, ["domjudge-problem.ini line 1: color is not read"]),
+    ({"domjudge-problem.ini": "; color=red\ntimelimit=1\n"}, []),
+    ({"domjudge-problem.ini": None}, ["domjudge-problem.ini: nothing sets timelimit, so it is 1 second"]),
+    ({"domjudge-problem.ini": "# timelimit=1\n"}, ["domjudge-problem.ini: nothing sets timelimit, so it is 1 second"]),
+    ({"data/secret/x.ans": ""}, ["data/secret/x.ans: there is no input beside this answer, so it is not read"]),
+    ({"data/secret/x.ans": "", "data/secret/x.in": ""}, []),
+    ({"data/secret/01.IN": ""}, ["data/secret/01.IN: it ends neither in .in nor in .ans, so it is not read"]),
+    ({"data/sample/g/a.desc": ""}, ["data/sample/g/a.desc: it ends neither in .in nor in .ans, so it is not read"]),
+    ({"data/1.in": ""}, ["data/1.in: it lies neither in data/sample nor in data/secret, so it is not read"]),
+    ({"data/secrets/1.in": "", "data/secrets/1.ans": ""}, ["data/secrets: it is neither data/sample nor data/secret, so it is not read"]),
+    ({"output_validators/a.rv32": "1234"}, ["output_validators: problem.yaml does not set validation to custom, so it is not read"]),
+    ({"output_validators/a.rv32": "1234", "problem.yaml": "validation: custom\n"}, []),
+    ({"problem_statement/problem.tex": "", "submissions/accepted/a.c": "", "output_validator/a": ""}, []),
+    ({"problem.yaml": "memroy: 5\nlimits:\n  memory: 512\n", "domjudge-problem.ini": "color=red\n", "data/secret/c.ans": "", "data/secret/A": "",
+      "data/x": "", "data/more/y": "", "data/more/z": "", "data/again/x": "", "output_validators/v.cpp": ""},
+     ["problem.yaml line 1: memroy is not read", "problem.yaml: memory of 512 MiB is cut down to 256, the most that there is",
+      "domjudge-problem.ini line 1: color is not read", "domjudge-problem.ini: nothing sets timelimit, so it is 1 second",
+      "data/secret/A: it ends neither in .in nor in .ans, so it is not read",
+      "data/secret/c.ans: there is no input beside this answer, so it is not read",
+      "data/x: it lies neither in data/sample nor in data/secret, so it is not read",
+      "data/again: it is neither data/sample nor data/secret, so it is not read",
+      "data/more: it is neither data/sample nor data/secret, so it is not read",
+      "output_validators: problem.yaml does not set validation to custom, so it is not read"]),
 ]
 
 
@@ -72,12 +126,17 @@ def write(folder, files):
 
 
 def run(*words):
-    return subprocess.run([PROGRAM, *words], capture_output=True, check=False)
+    return subprocess.run([PROGRAM, *words], capture_output=True, timeout=120, check=False)
 
 
 def is_fault(done, said):
     line = done.stderr.decode()
     return done.returncode == 1 and not done.stdout and line.count("\n") == 1 and said in line
+
+
+def is_noted(done, notes):
+    """Whether the package is told, and these notes on it."""
+    return done.returncode == 0 and done.stdout and done.stderr.decode() == "".join(f"note: {note}\n" for note in notes)
 
 
 def is_said(done, said):
@@ -103,7 +162,7 @@ def rows(top):
     just = os.path.join(top, "just")
     write(just, {**ECHO, "data/secret/01.in": "x" * (LARGE - 1)})
     yield "a byte less", ("Echo", 100000, "default", "sample/1 secret/01"), run(just)
-    for count, said in [(8, ("Echo", 100000, "default", " ".join(f"secret/{n}" for n in range(8)))), (9, "too much: 285212672 bytes")]:
+    for count, said in [(8, ("Echo", 100000, "default", " ".join(f"secret/{n}" for n in range(8)))), (9, "the files of the tests have 285212672 bytes and more, and at most 268435456 are read")]:
         folder = os.path.join(top, f"{count} heavy tests")
         write(folder, {name: text for name, text in ECHO.items() if not name.startswith("data/")})
         for number in range(count):
@@ -115,6 +174,32 @@ def rows(top):
     write(many, ECHO | {f"data/secret/g/{n}.{end}": "" for n in range(998) for end in ("in", "ans")})
     names = sorted(f"secret/g/{n}" for n in range(998))
     yield "1,000 tests", ("Echo", 100000, "default", " ".join(["sample/1", "secret/01", *names])), run(many)
+
+
+# What is read and is no file, and links that lead back (the target of each link): in their place is none of it.
+SPECIAL = [
+    ("a pipe in the place of an input", "data/secret/b.in", None),
+    ("a pipe in the place of problem.yaml", "problem.yaml", None),
+    ("a link to a device", "data/secret/b.ans", "/dev/zero"),
+    ("links that lead back", "data/x", "."),
+    ("links that lead back further", "data/secret/x", "../.."),
+]
+# What is not read, and a link that leads to another folder.
+BESIDE = [
+    ("a pipe that is no test", "data/secret/b.txt", None, b"tests 4\n"),
+    ("a link to a folder beside", "data/sample/more", "../secret", b"tests 10\n"),
+    ("a link above data", "inner", ".", b"tests 4\n"),
+]
+
+
+def special(folder, path, target):
+    """The plain package with a pipe at the path, or with a link, and beside it another one of the same target."""
+    write(folder, {name: text for name, text in PLAIN.items() if name != path})
+    if target is None:
+        os.mkfifo(os.path.join(folder, path))
+        return
+    for place in (path, path + "2"):
+        os.symlink(target, os.path.join(folder, place))
 
 
 def unreadable(folder):
@@ -134,6 +219,11 @@ def looks():
             write(folder, {**PLAIN, **changes})
             done = run(folder)
             yield said, is_fault(done, said), done
+        for number, (changes, notes) in enumerate(NOTES):
+            folder = os.path.join(top, f"note {number}")
+            write(folder, {**PLAIN, **changes})
+            done = run(folder)
+            yield f"{len(notes)} notes: {' '.join(notes)[:60] or list(changes)}", is_noted(done, notes), done
         for name, said, done in rows(top):
             yield name, is_said(done, said), done
         deep = os.path.join(top, "deep")
@@ -146,6 +236,16 @@ def looks():
         unreadable(loop)
         done = run(loop)
         yield "a link to itself", is_fault(done, "could not be read"), done
+        for name, path, target in SPECIAL:
+            folder = os.path.join(top, name)
+            special(folder, path, target)
+            done = run(folder)
+            yield name, is_fault(done, "could not be read"), done
+        for name, path, target, said in BESIDE:
+            folder = os.path.join(top, name)
+            special(folder, path, target)
+            done = run(folder)
+            yield name, done.returncode == 0 and said in done.stdout, done
     for name, status, said in [("circle", 0, b"tests 4\n"), ("sum", 0, b"check custom\n"), ("broken", 1, b"")]:
         done = run(os.path.join(EXAMPLES, name))
         yield f"examples/packages/{name}", done.returncode == status and said in done.stdout, done

@@ -7,6 +7,11 @@ FARM = os.path.join(TOP, "crates", "farm", "out", "farm")
 OUT = os.path.join(TOP, "bench", "out", "script")
 
 
+def without_notes(said):
+    """What was said on standard error but the notes on a contest."""
+    return b"".join(line for line in said.splitlines(True) if not line.startswith(b"note: "))
+
+
 def program_and_numbers(words):
     """The program that the first word names, or else the built one, and the numbers behind it."""
     program = FARM

@@ -8,6 +8,7 @@ Some texts are also cut at each byte. The status is 1 where a reply is not the m
 
 import os
 import random
+import re
 import subprocess
 import sys
 import tempfile
@@ -86,18 +87,33 @@ class Drawn:
         return b"".join(line + self.pick([b"\n", b"\n", b"\r\n"]) for line in lines)
 
 
+# What is told of a faulty line.
+WHY = {
+    "Tab": "a tab stands in the indentation",
+    "Indent": "it is indented, and no such line may stand there",
+    "NoColon": "there is no colon behind a key",
+    "Repeated": "its key stood before",
+    "Open": "a quote is not closed",
+    "BadEscape": "a backslash stands before another character",
+    "Form": "the value has a form of YAML that is not read",
+    "Interactive": "the problem is interactive",
+    "Score": "the validator gives scores",
+}
+BAD_VALUE = re.compile(rb": (memory is|output is|memory or output is) no whole number of MiB |: validation is neither default nor custom\n")
+
+
 def wanted(yaml, ini):
     """What the program says of a package with these texts, one test, and a validator of its own."""
     try:
         said = Yaml(yaml).said
     except Fault as fault:
-        return 1, b"problem.yaml line %d: %s" % (fault.args[0], fault.args[1].encode())
+        return 1, b"problem.yaml line %d: %s" % (fault.args[0], WHY.get(fault.args[1], "").encode())
     try:
         limit = read_ini(ini)
     except Fault as fault:
-        return 1, b"domjudge-problem.ini line %d: %s" % (fault.args[0], fault.args[1].encode())
+        return 1, b"domjudge-problem.ini line %d: timelimit is no number" % fault.args[0]
     if said["validation"] == "default" and said["flags"] not in FLAGS_READ:
-        return 1, b"flags word"
+        return 1, b": validator_flags: word "
     return 0, b"name %s\nlimits instructions %d pages %d output %d\ncheck %s\ntest secret/1 input 0 answer 0\ntests 1\n" % (
         said["name"], limit * 10_000, said["memory"] * 256, said["output"] << 20, said["validation"].encode())
 
@@ -109,6 +125,10 @@ def is_said(folder, yaml, ini):
     done = subprocess.run([PROGRAM, folder], capture_output=True, check=False)
     status, said = wanted(yaml, ini)
     sound = done.returncode == status and (done.stdout == said if status == 0 else said in done.stderr and not done.stdout)
+    # Behind a byte order mark the key of line 1 is not told.
+    marked = yaml.startswith(b"\xef\xbb\xbf") and b" line 1: its key takes no such value\n" in done.stderr
+    if status == 1 and said.endswith(b": ") and not marked and not BAD_VALUE.search(done.stderr):
+        sound = False
     if not sound:
         print(f"problem.yaml: {yaml!r}\ndomjudge-problem.ini: {ini!r}\nwanted {status}: {said!r}\nstatus {done.returncode}: {done.stdout!r} {done.stderr!r}")
     return sound

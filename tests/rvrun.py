@@ -14,6 +14,7 @@ import tempfile
 
 sys.dont_write_bytecode = True
 
+import judge_model as model  # noqa: E402
 from place import TOP  # noqa: E402
 
 PROGRAM = os.path.join(TOP, "crates", "rvrun", "out", "rvrun")
@@ -116,8 +117,57 @@ def looks():
         for words, odd in [([], b""), ([], b"abc"), (EXIT_0, b"x"), ([0x13] * 262_145, b"")]:
             write(folder, words, odd)
             done = run(["image"], folder)
-            sound = done.returncode == 1 and b"image is no raw image" in done.stderr and not done.stdout
+            sound = done.returncode == 1 and b"rvrun: image is no program: it " in done.stderr and not done.stdout
             yield f"1: an image of {4 * len(words) + len(odd)} bytes", sound, done
+        yield from judged(folder)
+
+
+# ---- programs as the judge runs them
+
+# What the program is, the options, the standard input, the ending and the verdict. The answer is `7` and a line feed.
+VERDICTS = [
+    ("echo.rv32", [], b"7\n", "exit=0", "correct"),
+    ("echo.elf", [], b"7\n", "exit=0", "correct"),
+    ("echo.elf", [], b"8\n", "exit=0", "wrong-answer"),
+    ("echo.elf", [], b"7.0\n", "exit=0", "wrong-answer"),
+    ("echo.elf", ["--flags", "float_tolerance 1e-6"], b"7.0\n", "exit=0", "correct"),
+    ("echo.elf", [], b"", "exit=0", "no-output"),
+    ("echo.elf", ["--instructions", "3"], b"7\n", "time", "timelimit"),
+    ("fail.rv32", [], b"7\n", "exit=1", "run-error"),
+    ("echo.elf", ["--validator", "guess.rv32"], b"4\n", "exit=0", "correct"),
+    ("echo.elf", ["--validator", "guess.rv32"], b"3\n", "exit=0", "wrong-answer"),
+    ("echo.elf", ["--validator", "guess.rv32"], b"9\n", "exit=0", "judging-error"),
+]
+
+# What is wrong: the words behind the program's name, and what is said.
+REFUSED = [
+    (["echo.rv32", "--answer", "none"], b"rvrun: cannot read the answer none: "),
+    (["echo.rv32", "--answer", "answer", "--validator", "none"], b"rvrun: cannot read the validator none: "),
+    (["echo.rv32", "--answer", "answer", "--validator", "echo.elf2"], b"rvrun: echo.elf2 is no raw image, "),
+    (["echo.rv32", "--answer", "answer", "--flags", "fast"], b"rvrun: word 1 of the flags is no flag\n"),
+    (["echo.rv32", "--answer", "wide", "--flags", "float_tolerance 1"], b"rvrun: token 0 (from 0) of the answer is a number of 10^12 or more"),
+    (["text"], b"rvrun: text is no program: it is text, and nothing is compiled here\n"),
+]
+
+
+def judged(folder):
+    code = model.ECHO
+    files = {"echo.rv32": code, "echo.elf": model.elf([(0x10000, code, len(code))], 0x10000), "fail.rv32": model.FAIL, "guess.rv32": model.GUESS,
+             "answer": b"7\n", "wide": b"1e12\n", "text": b"print(7)\n", "echo.elf2": b"abc"}
+    for name, data in files.items():
+        with open(os.path.join(folder, name), "wb") as file:
+            file.write(data)
+    for name, options, given, ending, verdict in VERDICTS:
+        done = subprocess.run([PROGRAM, name, "--answer", "answer", *options], input=given, capture_output=True, check=False, cwd=folder)
+        said = done.stderr.decode().splitlines()
+        sound = done.returncode == 0 and len(said) == 2 and said[0].startswith(f"ending {ending} cost ") and said[1] == f"verdict {verdict}"
+        yield f"0: {name} {options} on {given!r}", sound, done
+    for words, said in REFUSED:
+        done = run(words, folder)
+        yield f"1: {words}", done.returncode == 1 and said in done.stderr, done
+    for words in [["echo.rv32", "--validator", "guess.rv32"], ["echo.rv32", "--flags", "x"]]:
+        done = run(words, folder)
+        yield f"2: {words}", done.returncode == 2 and b"--answer" in done.stderr and not done.stdout, done
 
 
 def main():

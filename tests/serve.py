@@ -16,6 +16,7 @@ import socket
 import subprocess
 import sys
 import tempfile
+import threading
 import time
 
 sys.dont_write_bytecode = True
@@ -38,13 +39,15 @@ FILES = {
 class Server:
     """A running `farm serve` of a folder, at a port that it has found."""
 
-    def __init__(self, program, folder, lanes=4, connections=1000, port=0, stdout=None):
-        words = [program, "serve", folder, "--port", str(port), "--lanes", str(lanes), "--connections", str(connections)]
+    def __init__(self, program, folder, lanes=4, connections=1000, port=0, stdout=None, options=(), stdin=None):
+        words = [program, "serve", folder, "--port", str(port), "--lanes", str(lanes), "--connections", str(connections), *options]
         # a pipe would be full behind some thousands of lines
         self.out = tempfile.TemporaryFile()
-        self.process = subprocess.Popen(words, stdout=stdout or self.out, stderr=subprocess.PIPE)
-        self.said = self.process.stderr.readline().decode()
-        found = re.fullmatch(r"farm: listening at port (\d+)\n", self.said)
+        self.process = subprocess.Popen(words, stdin=stdin, stdout=stdout or self.out, stderr=subprocess.PIPE)
+        self.said = "note: "
+        while self.said.startswith("note: "):
+            self.said = self.process.stderr.readline().decode()
+        found = re.fullmatch(r"farm: listening at port (\d+)(?: of \S+)?\n", self.said)
         self.port = int(found[1]) if found else None
 
     def __enter__(self):
@@ -105,6 +108,14 @@ TALK = [
     ("POST", "/judgehosts", H1, 409, {"reply": "known"}),
     ("POST", "/judgehosts/fetch-work", {"hostname": "h2"}, 404, {"reply": "no-host"}),
     ("POST", "/judgehosts/fetch-work", H1, 200, {"reply": "task", "judging": 1, "test": 1}),
+    ("GET", "/judgehosts/job/1/1", None, 200, {"reply": "job", "judging": 1, "test": 1, "image": "EwAAAA==", "input": "Nwo=", "answer": "Nwo=", "check": "default"}),
+    ("GET", "/judgehosts/job/2/2", None, 200, {"reply": "job", "judging": 2, "test": 2, "input": "OAo="}),
+    ("GET", "/judgehosts/job/1/3", None, 404, {"reply": "no-job"}),
+    ("GET", "/judgehosts/job/1/65537", None, 404, {"reply": "no-job"}),
+    ("GET", "/judgehosts/job/3/1", None, 404, {"reply": "no-judging", "judging": 3}),
+    ("GET", "/judgehosts/job/1", None, 404, {"reply": "no-route"}),
+    ("GET", "/judgehosts/job/1/x", None, 404, {"reply": "no-route"}),
+    ("POST", "/judgehosts/job/1/1", {}, 405, {"reply": "no-method"}),
     ("POST", "/judgehosts/renew", H1 | {"judging": 1, "test": 1}, 200, {"reply": "until"}),
     ("POST", "/judgehosts/renew", H1 | {"judging": 1, "test": 2}, 409, {"reply": "no-lease"}),
     ("POST", "/judgehosts/fetch-work", H1 | {"max": 16}, 200, {"reply": "batch", "judging": 1, "tests": [2]}),
@@ -128,6 +139,7 @@ TALK = [
     ("POST", "/judgements/1/verify", {"who": "ann"}, 409, {"reply": "already"}),
     ("POST", "/judgements/2/verify", {}, 409, {"reply": "not-final"}),
     ("POST", "/rejudgings", {"submissions": [1]}, 200, {"reply": "rejudging", "number": 1, "first": 3, "last": 3}),
+    ("GET", "/judgehosts/job/3/2", None, 200, {"reply": "job", "judging": 3, "test": 2, "image": "EwAAAA==", "input": "OAo="}),
     ("POST", "/rejudgings", {"submissions": []}, 409, {"reply": "empty-set"}),
     ("POST", "/rejudgings", {"submissions": [3]}, 404, {"reply": "no-submission"}),
     ("POST", "/rejudgings", {"submissions": [1, "2"]}, 400, {"why": "bad submissions"}),
@@ -139,6 +151,9 @@ TALK = [
     ("GET", "/audit", None, 200, {"reply": "audit"}),
     ("GET", "/board", None, 200, {"reply": "board"}),
     ("DELETE", "/board", None, 405, {"reply": "no-method"}),
+    ("GET", "/public", None, 200, {"reply": "public", "rows": [{"submission": 1, "verdict": "wrong-answer"}, {"submission": 2, "verdict": "pending"}]}),
+    ("GET", "/public?again", None, 200, {"reply": "public"}),
+    ("POST", "/public", {}, 405, {"reply": "no-method"}),
     ("GET", "/boards", None, 404, {"reply": "no-route"}),
     # a result that differs from one that was counted puts its host down
     ("POST", "/judgehosts/add-judging-run", H1 | {"judging": 1, "test": 1, "result": "timelimit"}, 409, {"reply": "differs"}),
@@ -318,10 +333,10 @@ def is_answered(client):
     return ask(client, "GET", "/judgements/1") == (200, {"reply": "pending"}) and time.monotonic() - begin < 2
 
 
-def memory_of(server):
-    """The memory that the server holds, in KiB."""
+def memory_of(server, what="VmRSS"):
+    """The memory that the running server holds, in KiB; or as VmHWM the most that it held."""
     with open(f"/proc/{server.process.pid}/status") as file:
-        return int(re.search(r"VmRSS:\s+(\d+)", file.read())[1])
+        return int(re.search(rf"{what}:\s+(\d+)", file.read())[1])
 
 
 def hostile(program, folder):
@@ -350,6 +365,21 @@ def hostile(program, folder):
                 conn.setsockopt(socket.SOL_SOCKET, socket.SO_LINGER, b"\1\0\0\0\0\0\0\0")
                 conn.sendall(BOARD + BOARD[:10])
         yield "and so is the next behind 50 that are torn off", is_answered(server.client()), None
+
+
+def large(program, folder):
+    """A list of as many numbers as a body holds, and one of as many as there may be submissions."""
+    # it is to run on behind both
+    with Server(program, folder, lanes=1, connections=3) as server:
+        for name, count, wanted in [
+            ("16 million", (1 << 24) - 30, b'{"reply":"bad-body","why":"too-many-values"}'),
+            ("100,000", 100_000, b'{"number":1,"reply":"not-final"}'),
+        ]:
+            body = '{"submissions":[1' + ",1" * (count - 1) + "]}"
+            got = sent(server, request("POST", "/rejudgings", body))
+            yield f"a list of {name} numbers", got.endswith(b"\r\n\r\n" + wanted), got[-200:]
+        kib = memory_of(server, "VmHWM")
+        yield f"takes no more than twice its body: {kib} KiB", kib < 80_000, kib
 
 
 def silent(program, folder):
@@ -401,6 +431,77 @@ def lanes(program, folder):
         lines = server.ended()[1].splitlines()
         wanted = ["conn 1 requests 1 end", "conn 2 requests 2 closed"]
         yield "their lines", lines[:2] == wanted and len(lines) == 7, lines
+
+
+def rows_of(client, path):
+    """The rows of a board."""
+    return ask(client, "GET", path)[1]["rows"]
+
+
+def look_on(server, stop, seen):
+    """Asks for what the public sees again and again, and keeps what is not as it was."""
+    client = server.client()
+    while not stop.is_set():
+        rows = rows_of(client, "/public")
+        if not seen or seen[-1] != rows:
+            seen.append(rows)
+    client.close()
+
+
+def judge_all_as(client, result, boards):
+    """Judges all that is open, and keeps the board behind each result; whether the public always sees the board."""
+    same = True
+    while (got := ask(client, "POST", "/judgehosts/fetch-work", H1)[1])["reply"] == "task":
+        run = H1 | {"judging": got["judging"], "test": got["test"], "result": result}
+        same = ask(client, "POST", "/judgehosts/add-judging-run", run)[1] == {"reply": "counted"} and same
+        boards.append(rows_of(client, "/board"))
+        same = rows_of(client, "/public") == boards[-1] and same
+    return same
+
+
+def rejudged(client, number, result, end, count, boards):
+    """The same of a rejudging of all submissions, which is applied or cancelled in the end."""
+    asked = ask(client, "POST", "/rejudgings", {"submissions": list(range(1, count + 1))})[0] == 200
+    same = judge_all_as(client, result, boards)
+    ended = ask(client, "POST", f"/rejudgings/{number}/{end}", {})[0] == 200
+    boards.append(rows_of(client, "/board"))
+    return asked and same and ended and rows_of(client, "/public") == boards[-1]
+
+
+def in_order(seen, boards):
+    """Whether all that was seen are some of these boards, none before one that was seen earlier."""
+    later = iter(boards)
+    return all(any(rows == board for board in later) for rows in seen)
+
+
+def public(program, _):
+    """What the public sees while results come in and rejudgings are applied and cancelled: no row goes back, and no
+    rejudging is seen in part.
+    """
+    count = 40
+    lines = "".join(f"{n} alpha echo a.rv32\n" for n in range(1, count + 1))
+    with tempfile.TemporaryDirectory() as folder:
+        write(folder, ONE_TEST | {"submissions.txt": lines})
+        with Server(program, folder, lanes=5, connections=5) as server:
+            judge, stop = server.client(), threading.Event()
+            boards, seen = [rows_of(judge, "/board")], [[] for _ in range(4)]
+            readers = [threading.Thread(target=look_on, args=(server, stop, rows)) for rows in seen]
+            for reader in readers:
+                reader.start()
+            ask(judge, "POST", "/judgehosts", H1)
+            yield "results are seen when they are answered", judge_all_as(judge, "correct", boards), boards[-1]
+            yield "a cancelled rejudging is not seen", rejudged(judge, 1, "wrong-answer", "cancel", count, boards), boards[-1]
+            yield "an applied one is seen at once", rejudged(judge, 2, "run-error", "apply", count, boards), boards[-1]
+            yield "and so is another", rejudged(judge, 3, "timelimit", "apply", count, boards), boards[-1]
+            stop.set()
+            for reader in readers:
+                reader.join()
+            distinct = [board for at, board in enumerate(boards) if at == 0 or boards[at - 1] != board]
+            yield "there was a board for each result, and for each rejudging", len(distinct) == count + 3, len(distinct)
+            versions = [len(rows) for rows in seen]
+            yield f"four others saw {versions} of them, in order", all(in_order(rows, distinct) for rows in seen), versions
+            judge.close()
+            yield "the board in the end", server.ended()[1].endswith(f"{count} timelimit\nboard {count}\n"), None
 
 
 def slowest(server, count):
@@ -473,7 +574,7 @@ def main():
     sound = True
     with tempfile.TemporaryDirectory() as folder:
         write(folder, FILES)
-        looks = [look(program, folder) for look in (talks, whole_connections, exact_bytes, batches, cut_anywhere, hostile, silent, lanes, crowds, ends)]
+        looks = [look(program, folder) for look in (talks, whole_connections, exact_bytes, batches, cut_anywhere, hostile, large, silent, lanes, public, crowds, ends)]
         for some in [*looks, page(program)]:
             for name, good, got in some:
                 print(f"{'ok  ' if good else 'NOT '} {name}{'' if good else f': {got!r}'}")

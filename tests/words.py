@@ -20,8 +20,10 @@ from place import TOP  # noqa: E402
 FARM = "Usage: farm <COMMAND>"
 JUDGE = "Usage: farm judge [OPTIONS] --hosts <N> <FOLDER>"
 SCRIPT = "Usage: farm script [OPTIONS]"
+STORE = "Usage: farm store <FILE>"
 MAKE = "Usage: farm make <NUMBER> <PROBLEMS> <SUBMISSIONS>"
-SERVE = "Usage: farm serve --port <P> --lanes <N> --connections <M> <FOLDER>"
+SERVE = "Usage: farm serve [OPTIONS] --port <P> --lanes <N> --connections <M> <FOLDER>"
+HOST = "Usage: farm host [OPTIONS] --port <P> --name <NAME> --fuel <F> <ADDRESS>"
 RVRUN = "Usage: rvrun [OPTIONS] <IMAGE>"
 VALIDATE = "Usage: validate <INPUT> <ANSWER> <FEEDBACK_FOLDER> [FLAGS]..."
 PACKAGE_INFO = "Usage: package_info <FOLDER>"
@@ -37,8 +39,10 @@ HELP = [
     ("farm", ["judge", "-h"], [JUDGE]),
     ("farm", ["judge", "c", "--hosts", "99", "--help"], [JUDGE]),
     ("farm", ["script", "--help"], [SCRIPT, "Lines:", "  audit                          the audit log's length and last digest"]),
+    ("farm", ["store", "--help"], [STORE, "Arguments:"]),
     ("farm", ["make", "--help"], [MAKE]),
     ("farm", ["help", "serve"], [SERVE]),
+    ("farm", ["host", "--help"], [HOST, "Arguments:", "Options:"]),
     ("farm", ["--version"], ["farm 0.1.0"]),
     ("farm", ["-V"], ["farm 0.1.0"]),
     ("rvrun", ["--help"], [RVRUN, "Arguments:", "Options:"]),
@@ -79,12 +83,24 @@ WRONG = [
     ("farm", ["judge", "-", "--hosts", "1"], ["error: unexpected argument '-' found", JUDGE]),
     ("farm", ["script", "--config="], ["error: invalid value '' in '--config=': a value is not empty and does not begin with '-'", SCRIPT]),
     ("farm", ["script", "--"], ["error: unexpected argument '--' found", SCRIPT]),
+    ("farm", ["script", "--store", "s", "--store=s"], ["error: the argument '--store <FILE>' cannot be used multiple times", SCRIPT]),
+    ("farm", ["store"], ["error: the following required arguments were not provided:", "  <FILE>", STORE, MORE]),
+    ("farm", ["store", "s", "t"], ["error: unexpected argument 't' found", STORE]),
     ("farm", ["make", "1", "51", "3"], [number("<PROBLEMS>", "51", 1, 50), MAKE]),
     ("farm", ["make", "1", "50", "2001"], [number("<SUBMISSIONS>", "2001", 1, 2000), MAKE]),
     ("farm", ["make", "4294967296", "5", "2"], [number("<NUMBER>", "4294967296", 0, 4294967295), MAKE]),
     ("farm", ["serve", "c", "--port", "65536", "--lanes", "1", "--connections", "1"], [number("--port <P>", "65536", 0, 65535), SERVE]),
     ("farm", ["serve", "c", "--port", "0", "--lanes", "0", "--connections", "1"], [number("--lanes <N>", "0", 1, 16), SERVE]),
     ("farm", ["serve", "c", "--port", "0", "--lanes", "1", "--connections", "100001"], [number("--connections <M>", "100001", 1, 100000), SERVE]),
+    ("farm", ["serve", "c", "--port", "0", "--lanes", "1", "--connections", "1", "--patience=3601"], [number("--patience <SECONDS>", "3601", 1, 3600), SERVE]),
+    ("farm", ["serve", "c", "--port", "0", "--lanes", "1", "--connections", "1", "--address", "localhost"],
+     ["error: invalid value 'localhost' for '--address <ADDRESS>': wanted is an IPv4 or IPv6 address, as 0.0.0.0 or ::1", SERVE, MORE]),
+    ("farm", ["host"], ["error: the following required arguments were not provided:", "  --port <P>", "  --name <NAME>", "  --fuel <F>", "  <ADDRESS>"]),
+    ("farm", ["host", "a", "--port", "0", "--name", "h", "--fuel", "1"], [number("--port <P>", "0", 1, 65535), HOST, MORE]),
+    ("farm", ["host", "a", "--port", "1", "--name", "h", "--fuel", "0"], [number("--fuel <F>", "0", 1, 4294967295), HOST]),
+    ("farm", ["host", "a", "--port", "1", "--name", "h", "--fuel", "1", "--wait=61"], [number("--wait <SECONDS>", "61", 1, 60), HOST]),
+    ("farm", ["host", "a", "--port", "1", "--name", "h.1", "--fuel", "1"],
+     ["error: invalid value 'h.1' for '--name <NAME>': wanted are 1 to 32 letters, digits, '_' and '-'", HOST, MORE]),
     ("farm", ["judge", b"\xff", "--hosts", "1"], ["error: a word of the command line is no UTF-8", FARM, MORE]),
     ("farm", ["help", "juge"], ["error: unrecognized subcommand 'juge'"]),
     ("rvrun", [], ["error: the following required arguments were not provided:", "  <IMAGE>", "Usage: rvrun <IMAGE>", MORE]),
