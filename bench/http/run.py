@@ -5,9 +5,10 @@
 
 PROGRAM is the built program, `crates/farm/out/farm` of this repository if none is given. Printed are requests a second over
 4 connections that are kept, with the time within which 50% and 99% are answered, for SECONDS seconds (10) each, in turn;
-`GET /judgements/1` of a contest of one submission, and a file with the same bytes. Then 10,000 connections one after the
-other with a request each, a second; and the most memory after 100,000 and after 1,000,000 requests of one connection, sent
-100 at a time. Wants `wrk` and `nginx`, from the system's packages.
+`GET /judgements/1` of a contest of one submission, and a file with the same bytes. Then, beside nginx too, connections one
+after the other with a request each, a second; 1,000 clients that come to 4 lanes, ask and keep their connections: how long
+each waited at the most, and the most memory with them; and the most memory after 100,000 and after 1,000,000 requests of
+one connection, sent 100 at a time. Wants `wrk` and `nginx`, from the system's packages.
 """
 
 import os
@@ -24,7 +25,7 @@ sys.path.insert(0, os.path.join(os.path.dirname(os.path.abspath(__file__)), ".."
 
 from judge import write  # noqa: E402
 from place import program_and_numbers  # noqa: E402
-from serve import FILES, Server, request  # noqa: E402
+from serve import FILES, Server, is_answered, request  # noqa: E402
 
 PATH = "/judgements/1"
 NGINX = """
@@ -39,23 +40,34 @@ http {{
 """
 
 
-def wrk(port, seconds):
+def wrk(port, seconds, connections=4, fields=()):
+    threads = min(2, connections)
+    more = [word for field in fields for word in ("-H", field)]
     done = subprocess.run(
-        ["wrk", "-t", "2", "-c", "4", "-d", f"{seconds}s", "--latency", f"http://127.0.0.1:{port}{PATH}"],
+        ["wrk", "-t", str(threads), "-c", str(connections), "-d", f"{seconds}s", "--latency", *more, f"http://127.0.0.1:{port}{PATH}"],
         capture_output=True, text=True, check=True)
     rate = float(re.search(r"Requests/sec:\s+([\d.]+)", done.stdout)[1])
     half, most = (re.search(rf"{part}%\s+(\S+)", done.stdout)[1] for part in (50, 99))
     return rate, half, most
 
 
-def one_by_one(server, count):
-    text = request("GET", PATH, fields="connection: close\r\n")
-    begin = time.monotonic()
-    for _ in range(count):
-        with server.connect() as conn:
-            conn.sendall(text)
-            conn.recv(4096)
-    return count / (time.monotonic() - begin)
+def one_by_one(port):
+    """Connections a second, of a client that closes each behind its one request."""
+    return max(wrk(port, 3, 1, ["connection: close"])[0] for _ in range(2))
+
+
+def keep_alive(program, folder, count=1000):
+    """So many clients come one after the other, ask and keep their connections: how many milliseconds the slowest waited, and
+    the most memory."""
+    worst, clients = 0, []
+    with Server(program, folder, lanes=4, connections=2 * count) as server:
+        for _ in range(count):
+            begin = time.monotonic()
+            clients.append(server.client())
+            if not is_answered(clients[-1]):
+                return float("inf"), memory(server)
+            worst = max(worst, time.monotonic() - begin)
+        return 1000 * worst, memory(server)
 
 
 def memory(server):
@@ -96,17 +108,20 @@ def main():
                 for _ in range(3):
                     for name, at in [("farm serve", server.port), ("nginx", port)]:
                         best[name] = max(best.get(name, (0, "", "")), wrk(at, seconds))
+                one = {name: one_by_one(at) for name, at in [("farm serve", server.port), ("nginx", port)]}
             finally:
                 nginx.terminate()
                 nginx.wait()
             for name, (rate, half, most) in best.items():
                 print(f"{name}: {rate:,.0f} requests/s over 4 connections, 50% within {half}, 99% within {most}")
             print(f"  {best['farm serve'][0] / best['nginx'][0]:.2f} times nginx")
-            print(f"connections one after the other: {one_by_one(server, 10_000):,.0f} a second")
+            print(f"connections one after the other: {one['farm serve']:,.0f} a second, nginx {one['nginx']:,.0f}")
             pipelined(server, 100_000)
             before = memory(server)
             pipelined(server, 900_000)
             print(f"most memory: {before:,} KiB after 100,000 requests more, {memory(server):,} KiB after 1,000,000")
+        worst, kib = keep_alive(program, folder)
+        print(f"1,000 clients that keep their connections, 4 lanes: each waits {worst:.1f} ms at the most, most memory {kib:,} KiB")
     return 0
 
 

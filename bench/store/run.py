@@ -1,0 +1,125 @@
+#!/usr/bin/env python3
+"""Times `farm script --store` beside SQLite, and the opening of a store beside the reading of its lines.
+
+    bench/store/run.py [PROGRAM [EVENTS [RECORDS]]]
+
+PROGRAM is the built program, `crates/farm/out/farm` of this repository if none is given. EVENTS events, 2,000 if not said, are
+stored by the program and, in turn, by Python's `sqlite3` (journal in WAL, synchronous FULL, a transaction an event), on the machine's
+disk and in /dev/shm: events a second and the ratio. Then a store of RECORDS events, 1,000,000 if not said, is opened, beside `farm
+script` that reads the same lines without a store: seconds and the most memory.
+"""
+
+import os
+import sqlite3
+import subprocess
+import sys
+import tempfile
+import time
+
+sys.dont_write_bytecode = True
+
+TOP = os.path.dirname(os.path.dirname(os.path.dirname(os.path.abspath(__file__))))
+sys.path.insert(0, os.path.join(TOP, "tests"))
+
+from place import program_and_numbers  # noqa: E402
+from store import config_line, file_of  # noqa: E402
+
+ROUNDS = 3
+
+
+def lines_of(count):
+    """Events that a farm accepts: a problem of 1,000 tests, and submissions with results, until there are so many."""
+    lines, judging = [b"problem A 1000"], 0
+    while len(lines) < count:
+        judging += 1
+        lines.append(b"submit A")
+        lines += [b"record %d %d correct" % (judging, test) for test in range(1, 1000)]
+    return lines[:count]
+
+
+def stored(program, folder, lines):
+    """Seconds in which the program stores the lines, each answered before the next is written, as a client of it sees them."""
+    path = os.path.join(folder, "store")
+    text = b"\n".join(lines) + b"\n"
+    begun = time.monotonic()
+    done = subprocess.run([program, "script", "--store", path], input=text, stdout=subprocess.PIPE, check=True)
+    took = time.monotonic() - begun
+    if done.stdout.count(b"\n") != len(lines):
+        sys.exit("lines were refused")
+    os.remove(path)
+    return took
+
+
+def by_sqlite(folder, lines):
+    path = os.path.join(folder, "lines.db")
+    db = sqlite3.connect(path, isolation_level=None)
+    mode = db.execute("pragma journal_mode=wal").fetchone()[0]
+    db.execute("pragma synchronous=full")
+    db.execute("create table lines(number integer primary key, line blob)")
+    begun = time.monotonic()
+    for number, line in enumerate(lines):
+        db.execute("begin")
+        db.execute("insert into lines values(?, ?)", (number, line))
+        db.execute("commit")
+    took = time.monotonic() - begun
+    db.close()
+    for name in os.listdir(folder):
+        os.remove(os.path.join(folder, name))
+    if mode != "wal":
+        sys.exit(f"the journal is in {mode}")
+    return took
+
+
+def both(program, name, parent, count):
+    lines = lines_of(count)
+    with tempfile.TemporaryDirectory(dir=parent) as folder:
+        ours, theirs = [], []
+        for _ in range(ROUNDS):
+            ours.append(stored(program, folder, lines))
+            theirs.append(by_sqlite(folder, lines))
+    best, peer = len(lines) / min(ours), len(lines) / min(theirs)
+    print(f"{name}: {best:,.0f} events a second; SQLite {peer:,.0f}; ratio {best / peer:.2f}", flush=True)
+
+
+def timed(words, text):
+    """Seconds, the most memory in MiB, and standard output."""
+    with tempfile.TemporaryFile() as lines:
+        lines.write(text)
+        lines.seek(0)
+        begun = time.monotonic()
+        run = subprocess.Popen(words, stdin=lines, stdout=subprocess.PIPE)
+        out = run.stdout.read()
+        _, status, used = os.wait4(run.pid, 0)
+        run.returncode = status
+        took = time.monotonic() - begun
+    if status:
+        sys.exit(f"{words} ended with {status}")
+    return took, used.ru_maxrss / 1024, out
+
+
+def opened(program, count):
+    lines = lines_of(count)
+    with tempfile.TemporaryDirectory() as folder:
+        path = os.path.join(folder, "store")
+        with open(path, "wb") as file:
+            file.write(file_of([config_line(), *lines]))
+        size = os.path.getsize(path)
+        opening = min(timed([program, "script", "--store", path], b"audit\n")[:2] for _ in range(ROUNDS))
+        reading = min(timed([program, "script"], b"\n".join(lines) + b"\n")[:2] for _ in range(ROUNDS))
+        listing = min(timed([program, "store", path], b"")[:2] for _ in range(ROUNDS))
+    print(f"a store of {len(lines):,} events, {size:,} bytes, is opened in {opening[0]:.2f} s with {opening[1]:.0f} MiB at most")
+    print(f"its lines are read and answered without a store in {reading[0]:.2f} s with {reading[1]:.0f} MiB: ratio {reading[0] / opening[0]:.2f}")
+    print(f"it is listed in {listing[0]:.2f} s with {listing[1]:.0f} MiB")
+
+
+def main():
+    program, numbers = program_and_numbers(sys.argv[1:])
+    events, records = (numbers + [2_000, 1_000_000][len(numbers):])[:2]
+    both(program, "the machine's disk", None, events)
+    if os.path.isdir("/dev/shm"):
+        both(program, "/dev/shm", "/dev/shm", events)
+    opened(program, records)
+
+
+if __name__ == "__main__":
+    main()
