@@ -35,9 +35,9 @@ fn has_magic(bytes: &[u8]) -> bool
     bytes.len() >= 4 && bytes[0] == 0x7F && bytes[1] == b'E' && bytes[2] == b'L' && bytes[3] == b'F'
 }
 
-/// A machine with the program of an image, before its run.
+/// A machine with the program of an image, before its run: the state from which a test begins.
 #[tactic(auto, unfolding(crate::specs::Images::opened, crate::specs::Images::is_image))]
-pub(crate) fn open<'a>(
+pub fn open<'a>(
     alloc: Global,
     image: &[u8],
     limits: Limits,
@@ -51,6 +51,7 @@ pub(crate) fn open<'a>(
     }
     match read_elf(image) {
         Ok(elf) => load_segments(alloc, image, &elf, limits, files),
+        // an image that begins so has no fault
         Err(_) => Ok(Machine::blank(alloc, limits, files, 0)),
     }
 }

@@ -11,6 +11,6 @@ mod laws;
 mod running;
 
 pub use case::{Case, Cases, Check};
-pub use image::image_ok;
+pub use image::{image_ok, open};
 pub use laws::an_executable_is_opened;
 pub use running::run_case;

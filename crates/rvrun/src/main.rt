@@ -9,15 +9,13 @@ ghost use Rattle.std.specs.Prelude.{◌≡◌, true};
 ghost use Rattle.case_run.specs.Images.{is_image};
 
 mod checking;
-mod opening;
 mod report;
 mod words;
 
 use crate::checking::judge;
-use crate::opening::open;
 use crate::report::{Report, run_to_end};
 use crate::words::{Asked, Run, read_words};
-use case_run::image_ok;
+use case_run::{image_ok, open};
 use farm_kinds::Limits;
 use program_notes::program_fault;
 use rv_machine::{Ending, Files, Machine, Trap};
