@@ -23,5 +23,5 @@ mod worked;
 pub use faults::ContestFault;
 pub use reading::read_contest;
 pub use roster::{Roster, RosterProblem, RosterSubmission};
-pub use texts::push_contest_fault;
+pub use texts::{push_contest_fault, push_settings_fault};
 pub use worked::{worked_folder, worked_lines, worked_totals};

@@ -40,8 +40,8 @@ pub fn push_contest_fault(text: &mut Vec<u8>, fault: &ContestFault) -> Result<()
     }
 }
 
-/// The same of a fault of `farm.json`.
-fn push_settings_fault(text: &mut Vec<u8>, fault: &SettingsFault) -> Result<(), NoMemory>
+/// Puts what is printed of a fault of `farm.json` behind what is there. At `NoMemory` a part of it may be there.
+pub fn push_settings_fault(text: &mut Vec<u8>, fault: &SettingsFault) -> Result<(), NoMemory>
     ensures { OnOk result (text.new.items ≡ text.old.items ++ settings_fault_text fault.now) }
 {
     match fault {
