@@ -7,7 +7,6 @@ use farm_io::{
 };
 use farm_kinds::NoMemory;
 use farm_tree::{MemoryTree, ReliableTree, Tree, TreeFiles};
-use folder_tests::rows::check_text;
 use judgehost::{AlwaysOn, Gate};
 use parallel_judge::Silent;
 use record_store::MemoryDisk;
@@ -600,7 +599,7 @@ fn check_fault(
     let output = bytes_of(alloc, output)?;
     let (exit, sink) = run_failing(rt, alloc, line, calls)?;
     let ended = format!(in alloc; "{exit:?} {}", exit.status())?;
-    check_text(rt, ended.as_str(), end, name);
+    assert_eq!(rt; ended.as_str(), end, "{name}");
     check_written(rt, sink.bytes(), output.as_slice(), name);
     Ok(())
 }

@@ -8,6 +8,7 @@ mod farm_tree_tests;
 pub mod files;
 #[cfg(test)]
 mod package_folder_tests;
-pub mod rows;
+#[cfg(test)]
+mod rows;
 #[cfg(test)]
 mod work_maker_tests;

@@ -2,6 +2,6 @@
 use std::process::Abort;
 
 /// Compares a text with the one that is expected.
-pub fn check_text(rt: &impl Abort, shown: &str, expected: &str, name: &str) {
+pub(crate) fn check_text(rt: &impl Abort, shown: &str, expected: &str, name: &str) {
     assert_eq!(rt; shown, expected, "{name}");
 }
