@@ -10,7 +10,7 @@ use Rattle.command_line.specs.Commands.{farm}
 use Rattle.command_line.specs.Checks.{are_plain}
 use Rattle.command_line.specs.Addresses.{address_with}
 use Rattle.command_line.specs.Ranges.{Size, from_1_to, size_with, host_limit, made_problem_limit, made_submission_limit}
-use Rattle.command_line.specs.Ranges.{port_limit, lane_limit, connection_limit, patience_limit, usual_patience, fuel_limit, wait_limit}
+use Rattle.command_line.specs.Ranges.{port_limit, lane_limit, connection_limit, unlimited, patience_limit, usual_patience, fuel_limit, wait_limit}
 use Rattle.command_line.specs.declared.made_size.MadeSize.{MadeSize}
 use Rattle.command_line.specs.declared.words.Command.{Command}
 use Rattle.command_line.specs.declared.words.Command.TheVariants as command
@@ -87,6 +87,11 @@ abbrev pub patience_with : Option Text → Option ℕ
 patience_with None = Some usual_patience
 patience_with (Some text) = option_and_then (from_1_to patience_limit) (number_of text)
 
+-- the number of connections that is said; a server that is told none serves on
+abbrev pub connections_with : Option Text → Option ℕ
+connections_with None = Some unlimited
+connections_with (Some text) = option_and_then (from_1_to connection_limit) (number_of text)
+
 abbrev pub serve_with : Option Text → Option IpAddr → Option ℕ → Option ℕ → Option ℕ → Option ℕ → Bool
     → Option CommandValue
 serve_with (Some folder) (Some address) (Some port) (Some lanes) (Some connections) (Some patience) until_input_ends =
@@ -97,7 +102,7 @@ abbrev pub serve_of : List Row → Option CommandValue
 serve_of rows =
     serve_with (first_of (codes "folder") rows) (address_with (first_of (codes "address") rows))
     (number_at (at_most port_limit) (codes "port") rows) (number_at (from_1_to lane_limit) (codes "lanes") rows)
-    (number_at (from_1_to connection_limit) (codes "connections") rows) (patience_with (first_of (codes "patience") rows))
+    (connections_with (first_of (codes "connections") rows)) (patience_with (first_of (codes "patience") rows))
     (is_said (codes "until-input-ends") rows)
 
 -- a number of seconds, where one is said

@@ -40,15 +40,15 @@ make =
     let with_problems = with_rule with_number (operand (codes "problems")) in
     with_rule with_problems (operand (codes "submissions"))
 
--- `serve FOLDER --port P --lanes N --connections M`
+-- `serve FOLDER --port P --lanes N [--connections M]`
 abbrev pub plain_serve : App
 plain_serve =
     let with_folder = with_rule (new_app (codes "serve")) (operand (codes "folder")) in
     let with_port = with_rule with_folder (option (codes "port") true) in
     let with_lanes = with_rule with_port (option (codes "lanes") true) in
-    with_rule with_lanes (option (codes "connections") true)
+    with_rule with_lanes (option (codes "connections") false)
 
--- `serve FOLDER --port P --lanes N --connections M [--address A] [--patience SECONDS] [--until-input-ends]`
+-- `serve FOLDER --port P --lanes N [--connections M] [--address A] [--patience SECONDS] [--until-input-ends]`
 abbrev pub serve : App
 serve =
     let with_address = with_rule plain_serve (option (codes "address") false) in

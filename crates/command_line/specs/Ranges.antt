@@ -29,12 +29,16 @@ size_with problems submissions = None
 abbrev pub port_limit : ℕ
 port_limit = 65535
 
--- a server answers at most 16 requests at the same time, and holds at most 100,000 connections
+-- a server answers at most 16 requests at the same time, and in all as many connections as is said, which is at most 100,000
 abbrev pub lane_limit : ℕ
 lane_limit = 16
 
 abbrev pub connection_limit : ℕ
 connection_limit = 100000
+
+-- where no number of connections is said a server serves on: it ends after as many as a number of 32 bits can count
+abbrev pub unlimited : ℕ
+unlimited = 4294967295
 
 -- a server waits for a client for at most an hour, and for a minute where nothing else is said
 abbrev pub patience_limit : ℕ

@@ -87,7 +87,7 @@ fn of_serve(id: &str) -> Description<'static> {
         "connections" => number(
             "M",
             (1, 100_000),
-            "How many connections are answered in all, 1 to 100000",
+            "Ends after so many connections, 1 to 100000; if it is left out, as many are answered as come",
         ),
         "patience" => number(
             "SECONDS",
@@ -193,8 +193,8 @@ write. They are the same in every run.";
 const SERVE: &str = "\
 Standard error says at which port it listens. Standard output gets a line
 'conn I requests R END' for each connection when it ended, and then the board:
-after M connections, or with --until-input-ends once standard input has ended and
-those who were let in are done. It asks for no passwords: put a proxy before it
+after M connections, where --connections says so, or with --until-input-ends once
+standard input has ended and those who were let in are done. It asks for no passwords: put a proxy before it
 that does.";
 
 const HOST: &str = "\

@@ -156,7 +156,7 @@ fn make_command<'a>(alloc: Global) -> Result<Command<'a>, AllocError>
     with_operand(alloc, with_problems, "make", "submissions")
 }
 
-/// `serve FOLDER --port P --lanes N --connections M [--address A] [--patience SECONDS] [--until-input-ends]`
+/// `serve FOLDER --port P --lanes N [--connections M] [--address A] [--patience SECONDS] [--until-input-ends]`
 fn serve_command<'a>(alloc: Global) -> Result<Command<'a>, AllocError>
     ensures app { IfOk result (λ command. app_of command ≡ serve) }
     ensures globals { IfOk result (λ command. (fields_of command).has_globals ≡ false) }
@@ -166,7 +166,7 @@ fn serve_command<'a>(alloc: Global) -> Result<Command<'a>, AllocError>
     with_patience.arg(flag(alloc, "serve", "until-input-ends"))
 }
 
-/// `serve FOLDER --port P --lanes N --connections M`
+/// `serve FOLDER --port P --lanes N [--connections M]`
 fn plain_serve_command<'a>(alloc: Global) -> Result<Command<'a>, AllocError>
     ensures app { IfOk result (λ command. app_of command ≡ plain_serve) }
     ensures globals { IfOk result (λ command. (fields_of command).has_globals ≡ false) }
@@ -174,7 +174,7 @@ fn plain_serve_command<'a>(alloc: Global) -> Result<Command<'a>, AllocError>
     let with_folder = with_operand(alloc, new_command(alloc, "serve"), "serve", "folder")?;
     let with_port = with_option(alloc, with_folder, "serve", "port")?;
     let with_lanes = with_option(alloc, with_port, "serve", "lanes")?;
-    with_option(alloc, with_lanes, "serve", "connections")
+    with_choice(alloc, with_lanes, "serve", "connections")
 }
 
 /// `host ADDRESS --port P --name NAME --fuel F [--wait SECONDS]`

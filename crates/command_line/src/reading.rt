@@ -5,7 +5,7 @@ ghost use Rattle.clap.specs.Words.{first_of, found_of, rows_of, subcommand_rows_
 ghost use Rattle.farm_model.specs.Numbers.{at_most, number_of};
 ghost use Rattle.command_line.specs.Addresses.{address_with};
 ghost use Rattle.command_line.specs.Ranges.{from_1_to};
-ghost use Rattle.command_line.specs.CommandLine.{command_of, command_value, host_of, is_said, judge_of, make_of, patience_with, said_of, script_of, serve_of, size_of, size_value, store_of, wait_with};
+ghost use Rattle.command_line.specs.CommandLine.{command_of, command_value, connections_with, host_of, is_said, judge_of, make_of, patience_with, said_of, script_of, serve_of, size_of, size_value, store_of, wait_with};
 
 use crate::address::read_address;
 use crate::checks::are_plain;
@@ -120,7 +120,7 @@ fn serve<'a>(found: &ArgMatches<'a>) -> Option<Command<'a>>
     let address = address(found)?;
     let port = port(number(found, "port")?)?;
     let lanes = Lanes::new(number(found, "lanes")?)?;
-    let connections = Connections::new(number(found, "connections")?)?;
+    let connections = connections(found)?;
     let patience = patience(found)?;
     let until_input_ends = is_said(found, "until-input-ends");
     Some(Command::Serve {
@@ -142,6 +142,17 @@ fn address(found: &ArgMatches<'_>) -> Option<IpAddr>
         return Some(IpAddr::V4(Ipv4Addr::LOCALHOST));
     };
     read_address(said)
+}
+
+/// The number of connections that is said; a server that is told none serves on. None where what is said is no such number.
+fn connections(found: &ArgMatches<'_>) -> Option<Connections>
+    ensures { option_map (λ connections. connections.count) result
+        ≡ connections_with (first_of (codes "connections") (rows_of (found_of found.now))) }
+{
+    let Some(said) = text(found, "connections") else {
+        return Some(Connections::unlimited());
+    };
+    Connections::new(read_number(said.as_bytes())?)
 }
 
 /// The patience that is said, or that of a minute. None where what is said is no such number.

@@ -1,6 +1,6 @@
-ghost use Rattle.std.specs.Prelude.{◌≡◌, ◌≤◌};
+ghost use Rattle.std.specs.Prelude.{◌≡◌, ◌≢◌, ◌≤◌};
 ghost use Rattle.std.specs.Option.{option_map};
-ghost use Rattle.command_line.specs.Ranges.{from_1_to};
+ghost use Rattle.command_line.specs.Ranges.{from_1_to, unlimited};
 
 /// How many requests a server answers at the same time: from 1 to 16.
 #[derive(Clone, Copy, Debug, PartialEq, Eq)]
@@ -33,12 +33,12 @@ impl Lanes {
     }
 }
 
-/// How many connections a server holds at the same time: from 1 to 100,000.
+/// How many connections a server answers in all: from 1 to 100,000, or as many as come.
 #[derive(Clone, Copy, Debug, PartialEq, Eq)]
 pub struct Connections {
     count: u32,
     ghost some: { 1 ≤ count },
-    ghost few: { count ≤ 100000 },
+    ghost few: { count ≢ unlimited → count ≤ 100000 },
 }
 
 impl Connections {
@@ -52,11 +52,18 @@ impl Connections {
         Some(Connections { count })
     }
 
+    /// As many as come, up to the greatest number of its type: fifty days of a thousand connections a second.
+    pub fn unlimited() -> Connections
+        ensures { result.count ≡ unlimited }
+    {
+        Connections { count: u32::MAX }
+    }
+
     /// The number.
     pub fn get(self) -> u32
         ensures value { result ≡ self.count }
         ensures some { 1 ≤ result }
-        ensures few { result ≤ 100000 }
+        ensures few { result ≢ unlimited → result ≤ 100000 }
     {
         self.count
     }

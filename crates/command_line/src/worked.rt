@@ -4,6 +4,7 @@ ghost use Rattle.clap.specs.declared.error.kind.ErrorKind.TheVariants.{DisplayHe
 ghost use Rattle.command_line.specs.Addresses.{address_of, ipv4, ipv6, loopback};
 ghost use Rattle.command_line.specs.CommandLine.{command_of, Judge, Script, Store, Make, Serve, Host};
 ghost use Rattle.command_line.specs.Helping.{answers_to};
+ghost use Rattle.command_line.specs.Ranges.{unlimited};
 
 /// `farm judge` at words.
 pub fn worked_judgings()
@@ -85,7 +86,10 @@ pub fn worked_servings()
     ensures flag_of_a_value { command_of (words (codes "farm serve c --port 0 --lanes 1 --connections 1 --until-input-ends=true")) ≡ None }
     ensures port_left_out { command_of (words (codes "farm serve c --lanes 1 --connections 1")) ≡ None }
     ensures lanes_left_out { command_of (words (codes "farm serve c --port 0 --connections 1")) ≡ None }
-    ensures connections_left_out { command_of (words (codes "farm serve c --port 0 --lanes 1")) ≡ None }
+    ensures connections_left_out { command_of (words (codes "farm serve c --port 0 --lanes 1")) ≡ Some (Serve (codes "c") loopback 0 1 unlimited 60 false) }
+    ensures connections_left_out_last { command_of (words (codes "farm serve --lanes=1 --port=0 --until-input-ends c")) ≡ Some (Serve (codes "c") loopback 0 1 4294967295 60 true) }
+    ensures no_number_of_connections { command_of (words (codes "farm serve c --port 0 --lanes 1 --connections")) ≡ None }
+    ensures connections { command_of (words (codes "farm serve c --port 0 --lanes 1 --connections 7")) ≡ Some (Serve (codes "c") loopback 0 1 7 60 false) }
     ensures folder_left_out { command_of (words (codes "farm serve --port 0 --lanes 1 --connections 1")) ≡ None }
 {}
 

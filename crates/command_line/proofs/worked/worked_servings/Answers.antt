@@ -23,5 +23,8 @@ returns c = record {
   port_left_out = refl;
   lanes_left_out = refl;
   connections_left_out = refl;
+  connections_left_out_last = refl;
+  no_number_of_connections = refl;
+  connections = refl;
   folder_left_out = refl;
 }
