@@ -1,6 +1,7 @@
 use crate::rejudging_rows::REJUDGINGS;
 use crate::script_rows::SCRIPTS;
-use farm_cli::{Exit, farm_main};
+use exit_status::Exit;
+use farm_cli::farm_main;
 use farm_io::{
     FixedClock, MemoryLink, MemorySink, MemorySource, ReliableDoor, ReliableSink, ReliableSource,
     Sink, Source,

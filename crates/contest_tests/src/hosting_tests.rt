@@ -2,7 +2,8 @@ ghost use Rattle.std.specs.Prelude.{◌≡◌, ◌≤◌, [], length, IfOk};
 ghost use Rattle.farm_io.specs.MemoryDoors.{IsNew};
 
 use crate::farm_cli_tests::{tree_of, words_of};
-use farm_cli::{Exit, farm_main};
+use exit_status::Exit;
+use farm_cli::farm_main;
 use farm_io::{
     Connection, FixedClock, MemoryConn, MemoryLink, MemorySink, MemorySource, ReliableDoor,
     ReliableSink, ReliableSource,

@@ -1,6 +1,6 @@
 use crate::farm_cli_tests::{check_ended, end_of};
 use crate::gates::{DeathGate, Meeting, MeetingGate, RecordingGate, SeededGate};
-use farm_cli::Exit;
+use exit_status::Exit;
 use farm_io::{ReliableSink, ReliableSource};
 use farm_tree::{MemoryTree, ReliableTree};
 use folder_tests::files::files_of;

@@ -2,7 +2,8 @@ ghost use Rattle.std.specs.Prelude.{◌≡◌, ◌≤◌, [], IfOk};
 ghost use Rattle.farm_io.specs.MemoryDoors.{IsReliableNew};
 
 use crate::farm_cli_tests::{check_ended, tree_of, words_of};
-use farm_cli::{Exit, farm_main};
+use exit_status::Exit;
+use farm_cli::farm_main;
 use farm_io::{
     Connection, Door, FixedClock, MemoryDoor, MemoryLink, ReliableConn, ReliableDoor, ReliableSink,
     ReliableSource,

@@ -5,7 +5,7 @@ use crate::stores::{explain_flaw, explain_full, explain_listing, explain_store_f
 use crate::unread::{Watched, unread_reason};
 use command_line::Command;
 use contest_notes::{contest_reason, file_reason};
-use farm_cli::Exit;
+use exit_status::Exit;
 use record_store::Access;
 use remote_host::Wrong;
 use std::alloc::AllocError;

@@ -3,7 +3,7 @@ ghost use Rattle.std.specs.Prelude.{None};
 ghost use Rattle.farm_io.specs.Beside.{one_sided};
 
 use crate::unread::said;
-use farm_cli::{Exit, StoreFlaw};
+use exit_status::{Exit, StoreFlaw};
 use farm_io::{PutEnd, Sink};
 use record_store::{Access, Disk, FileDisk};
 use std::alloc::AllocError;

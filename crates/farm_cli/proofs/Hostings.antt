@@ -4,8 +4,8 @@ use Rattle.std.specs.Prelude.{◌⊎◌, IfSome}
 use Rattle.farm_tree.specs.declared.reads.TreeFile.{TreeFile}
 use Rattle.farm_io.specs.Streams.{Rose}
 use Rattle.farm_io.specs.Doors.{DoorState, LetsIn, TakesBack}
-use Rattle.farm_cli.specs.declared.exit.Exit.{Exit}
-use Rattle.farm_cli.specs.declared.exit.Exit.TheVariants as exit
+use Rattle.exit_status.specs.declared.exit.Exit.{Exit}
+use Rattle.exit_status.specs.declared.exit.Exit.TheVariants as exit
 use Rattle.command_line.specs.CommandLine.{CommandValue, Host}
 use Rattle.remote_host.specs.declared.asks.Caller.{Caller}
 use Rattle.remote_host.specs.declared.asks.Wrong.{Wrong}
@@ -14,7 +14,7 @@ use Rattle.judgehost.specs.declared.host.HostEnd.{HostEnd}
 use Rattle.judgehost.specs.declared.host.HostEnd.TheVariants as host
 use Rattle.remote_host.specs.Ends.{WorkedAs}
 use Rattle.farm_cli.specs.Hosting.{LinkUse, Hosted, line_of, host_of, IsCutOff, IsMisled, FaultEnds, ToldEnds, HostEnds, HostIsDone}
-use Rattle.farm_cli.specs.Stored.{StoreUse}
+use Rattle.script_commands.specs.Stored.{StoreUse}
 use Rattle.farm_cli.specs.Commands.{CommandIsDone}
 
 -- K: the output has failed

@@ -1,10 +1,6 @@
-pub mod Ends
+pub mod Scripts
 pub mod Judgings
-pub mod JournalLines
-pub mod Reports
-pub mod Summaries
 pub mod Makings
-pub mod Unread
 pub mod Servings
 pub mod Hostings
-pub mod Stores
+pub mod Unread

@@ -2,13 +2,13 @@
 use Rattle.std.proofs.Common.{◌≡◌, ℕ, List, Option, Some, inl, inr, sym, subst}
 use Rattle.std.specs.Prelude.{◌⊎◌, IfSome}
 use Rattle.farm_tree.specs.declared.reads.TreeFile.{TreeFile}
-use Rattle.farm_cli.specs.declared.exit.Exit.{Exit}
-use Rattle.farm_cli.specs.declared.exit.Exit.TheVariants as exit
+use Rattle.exit_status.specs.declared.exit.Exit.{Exit}
+use Rattle.exit_status.specs.declared.exit.Exit.TheVariants as exit
 use Rattle.command_line.specs.CommandLine.{CommandValue, Make}
 use Rattle.command_line.specs.Ranges.{Size}
-use Rattle.farm_cli.specs.Making.{MakeIsDone}
+use Rattle.judge_commands.specs.Making.{MakeIsDone}
 use Rattle.farm_cli.specs.Hosting.{LinkUse}
-use Rattle.farm_cli.specs.Stored.{StoreUse}
+use Rattle.script_commands.specs.Stored.{StoreUse}
 use Rattle.farm_cli.specs.Commands.{CommandIsDone}
 
 -- T, S, K, D, L and Y: the tree, the input, the output, the door, the link and the disk have failed

@@ -4,13 +4,13 @@ use Rattle.std.specs.Prelude.{◌⊎◌, Bool, IfSome}
 use Rattle.std.specs.declared.net.ip_addr.IpAddr.{IpAddr}
 use Rattle.farm_tree.specs.declared.reads.TreeFile.{TreeFile}
 use Rattle.farm_io.specs.declared.door.Listening.{Listening}
-use Rattle.farm_cli.specs.declared.exit.Exit.{Exit}
-use Rattle.farm_cli.specs.declared.exit.Exit.TheVariants as exit
+use Rattle.exit_status.specs.declared.exit.Exit.{Exit}
+use Rattle.exit_status.specs.declared.exit.Exit.TheVariants as exit
 use Rattle.command_line.specs.CommandLine.{CommandValue, Serve}
-use Rattle.farm_cli.specs.Judged.{NoContestEnds, HasContest, ContestIsDone}
+use Rattle.judge_commands.specs.Judged.{NoContestEnds, HasContest, ContestIsDone}
 use Rattle.farm_cli.specs.ServedContest.{DoorUse, IsUnasked, ServeEnds}
 use Rattle.farm_cli.specs.Hosting.{LinkUse}
-use Rattle.farm_cli.specs.Stored.{StoreUse}
+use Rattle.script_commands.specs.Stored.{StoreUse}
 use Rattle.farm_cli.specs.Commands.{CommandIsDone}
 
 -- T, S, K, D, L and Y: the tree, the input, the output, the door, the link and the disk have failed

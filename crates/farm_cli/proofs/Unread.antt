@@ -7,19 +7,19 @@ use Rattle.farm_model.specs.State.{standard_settings}
 use Rattle.farm_model.specs.Script.{script_output}
 use Rattle.farm_laws.proofs.Promised.{prefix_keeps_promise}
 use Rattle.command_line.specs.CommandLine.{CommandValue, Script, Store, Judge, Make, Serve, Host, command_of}
-use Rattle.farm_cli.specs.declared.exit.Exit.TheVariants as exit
+use Rattle.exit_status.specs.declared.exit.Exit.TheVariants as exit
 use Rattle.sha2.specs.Sha256.{sha256}
 use Rattle.record_store.specs.Model.{DiskTime, AtEachMoment}
 use Rattle.record_store.proofs.Moments.{started}
 use Rattle.record_store.proofs.Images.{quiet_leaves}
 use Rattle.stored_events.specs.Opening.{HoldsOrBegins}
 use Rattle.store_listing.specs.Listing.{store_text}
-use Rattle.farm_cli.specs.Scripted.{Streams, PrefixDone, ScriptIsDone}
-use Rattle.farm_cli.specs.Stored.{StoreState, StoreUse, IsUnopened, IsUnplayed, lines_before, IsListingFront, StoredIsDone, ListIsDone}
+use Rattle.script_commands.specs.Scripted.{Streams, PrefixDone, ScriptIsDone}
+use Rattle.script_commands.specs.Stored.{StoreState, StoreUse, IsUnopened, IsUnplayed, lines_before, IsListingFront, StoredIsDone, ListIsDone}
 use Rattle.farm_cli.specs.Commands.{CommandEnds, CommandIsDone}
-use Rattle.farm_cli.specs.Judged.{ContestIsDone}
+use Rattle.judge_commands.specs.Judged.{ContestIsDone}
 use Rattle.farm_cli.specs.ServedContest.{DoorUse, IsUnasked}
-use Rattle.farm_cli.specs.Making.{MakeIsDone}
+use Rattle.judge_commands.specs.Making.{MakeIsDone}
 use Rattle.farm_cli.specs.Hosting.{LinkUse, IsUnlinked, HostIsDone}
 
 -- no byte was taken, and none was written

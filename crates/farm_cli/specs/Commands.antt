@@ -2,17 +2,17 @@
 use Rattle.std.specs.Prelude.{ℕ, List, Option, Some, None, ⊤}
 use Rattle.farm_tree.specs.declared.reads.TreeFile.{TreeFile}
 use Rattle.command_line.specs.CommandLine.{CommandValue, Script, Store, Judge, Make, Serve, Host}
-use Rattle.farm_cli.specs.declared.exit.Exit.{Exit}
-use Rattle.farm_cli.specs.Scripted.{Streams, ScriptEnds, ScriptIsDone}
-use Rattle.farm_cli.specs.Judged.{JudgeEnds, ContestIsDone}
-use Rattle.farm_cli.specs.Making.{MakeEnds, MakeIsDone}
+use Rattle.exit_status.specs.declared.exit.Exit.{Exit}
+use Rattle.script_commands.specs.Scripted.{Streams, ScriptEnds, ScriptIsDone}
+use Rattle.judge_commands.specs.Judged.{JudgeEnds, ContestIsDone}
+use Rattle.judge_commands.specs.Making.{MakeEnds, MakeIsDone}
 use Rattle.farm_cli.specs.ServedContest.{DoorUse, listening_of, ServeEnds}
-use Rattle.farm_cli.specs.Stored.{StoreUse, StoredEnds, StoredIsDone, ListEnds, ListIsDone}
+use Rattle.script_commands.specs.Stored.{StoreUse, StoredEnds, StoredIsDone, ListEnds, ListIsDone}
 use Rattle.farm_cli.specs.Hosting.{LinkUse, host_of, HostEnds, HostIsDone}
 
 -- how a command ends
-abbrev pub CommandEnds : {N M : Type 0} → Option (List TreeFile) → CommandValue → DoorUse N → LinkUse M → StoreUse → Streams → Streams
-    → Type 0 → Type 0 → Exit → Type 0
+abbrev pub CommandEnds : {N M : Type 0} → Option (List TreeFile) → CommandValue → DoorUse N → LinkUse M → StoreUse
+    → Streams → Streams → Type 0 → Type 0 → Exit → Type 0
 CommandEnds files (Script config None) door link store old new unread unwritten e =
     ScriptEnds files config old new unread unwritten e
 CommandEnds files (Script config (Some path)) door link store old new unread unwritten e =
@@ -24,7 +24,8 @@ CommandEnds files (Judge folder hosts journal) door link store old new unread un
 CommandEnds files (Make number size) door link store old new unread unwritten e =
     unread × MakeEnds number size old.held new.held unwritten e
 CommandEnds files (Serve folder address port lanes connections patience until_input_ends) door link store old new unread unwritten e =
-    unread × ServeEnds files folder (listening_of address port patience until_input_ends) lanes connections door old.held new.held unwritten e
+    unread × ServeEnds files folder (listening_of address port patience until_input_ends) lanes connections door old.held
+    new.held unwritten e
 CommandEnds files (Host address port name fuel wait) door link store old new unread unwritten e =
     unread × HostEnds link (host_of name wait) fuel old.held new.held unwritten e
 
@@ -65,8 +66,8 @@ UnlessStoring (Make number size) fact = fact
 UnlessStoring (Serve folder address port lanes connections patience until_input_ends) fact = fact
 UnlessStoring (Host address port name fuel wait) fact = fact
 
-abbrev pub CommandIsDone : {M : Type 0} → Option (List TreeFile) → CommandValue → LinkUse M → StoreUse → Option (List ℕ) → Type 0
-    → Exit → Type 0
+abbrev pub CommandIsDone : {M : Type 0} → Option (List TreeFile) → CommandValue → LinkUse M → StoreUse → Option (List ℕ)
+    → Type 0 → Exit → Type 0
 CommandIsDone files (Script config None) link store left faultless e = ScriptIsDone files config left faultless e
 CommandIsDone files (Script config (Some path)) link store left faultless e = StoredIsDone files config store left faultless e
 CommandIsDone files (Store path) link store left faultless e = ListIsDone store faultless e

@@ -11,9 +11,9 @@ use Rattle.remote_host.specs.declared.asks.Caller.{Caller}
 use Rattle.remote_host.specs.declared.asks.Wrong.{Wrong}
 use Rattle.remote_host.specs.Standing.{Line}
 use Rattle.remote_host.specs.Ends.{WorkedAs}
-use Rattle.farm_cli.specs.declared.exit.Exit.{Exit}
-use Rattle.farm_cli.specs.declared.exit.Exit.TheVariants as exit
-use Rattle.farm_cli.specs.Judged.{Writes, WritesFront}
+use Rattle.exit_status.specs.declared.exit.Exit.{Exit}
+use Rattle.exit_status.specs.declared.exit.Exit.TheVariants as exit
+use Rattle.judge_commands.specs.Judged.{Writes, WritesFront}
 
 -- What is told of the connections of a link, and where the gate may let the host die; and the link with the count of its
 -- faults, before a command and after it.
@@ -152,7 +152,8 @@ UnlinkedEnds link unwritten (exit.BadStore flaw) = ⊥
 UnlinkedEnds link unwritten (exit.StoreFull mark) = ⊥
 
 -- How it ends: no connection came, or one did and went back, and the host worked over it.
-abbrev pub HostEnds : {N : Type 0} → LinkUse N → Caller → ℕ → Option (List ℕ) → Option (List ℕ) → Type 0 → Exit → Type 0
+abbrev pub HostEnds : {N : Type 0} → LinkUse N → Caller → ℕ → Option (List ℕ) → Option (List ℕ) → Type 0 → Exit
+    → Type 0
 HostEnds link who fuel held held' unwritten e =
     (IsUnlinked link × UnlinkedEnds link unwritten e)
     ⊎ ((h : Hosted link who fuel)

@@ -1,9 +1,3 @@
-pub mod Config
-pub mod Judged
-pub mod Making
-pub mod Scripted
-pub mod Statuses
 pub mod ServedContest
 pub mod Hosting
-pub mod Stored
 pub mod Commands

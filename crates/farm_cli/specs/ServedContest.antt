@@ -13,9 +13,9 @@ use Rattle.contest_server.specs.declared.ends.ServeEnd.TheVariants as end
 use Rattle.contest_server.specs.Contest.{entering_events, seats}
 use Rattle.contest_server.specs.Visits.{Watch, with_cases}
 use Rattle.contest_server.specs.Served.{Serves}
-use Rattle.farm_cli.specs.declared.exit.Exit.{Exit}
-use Rattle.farm_cli.specs.declared.exit.Exit.TheVariants as exit
-use Rattle.farm_cli.specs.Judged.{ContestIs, Writes, WritesFront, IsFaultLine}
+use Rattle.exit_status.specs.declared.exit.Exit.{Exit}
+use Rattle.exit_status.specs.declared.exit.Exit.TheVariants as exit
+use Rattle.judge_commands.specs.Judged.{ContestIs, Writes, WritesFront, IsFaultLine}
 
 -- what is told of connections and of the clock by which they are served, and the door to which they come, before a
 -- command and after it
@@ -47,8 +47,8 @@ abbrev pub IsUnasked : {N : Type 0} → DoorUse N → Type 0
 IsUnasked door = door.new ≡ door.old
 
 -- How it ends. `unwritten` says that the output is as it was.
-abbrev pub ServeEnds : {N : Type 0} → Option (List TreeFile) → List ℕ → Listening → ℕ → ℕ → DoorUse N → Option (List ℕ)
-    → Option (List ℕ) → Type 0 → Exit → Type 0
+abbrev pub ServeEnds : {N : Type 0} → Option (List TreeFile) → List ℕ → Listening → ℕ → ℕ → DoorUse N
+    → Option (List ℕ) → Option (List ℕ) → Type 0 → Exit → Type 0
 ServeEnds files folder at lanes connections door held held' unwritten exit.Done =
     IsServed files folder at lanes connections door held held' end.Done
 ServeEnds files folder at lanes connections door held held' unwritten exit.Usage = ⊥

@@ -1,12 +1,11 @@
-ghost use Rattle.std.specs.Prelude.{◌≡◌, ◌≤◌, ◌+◌, ℕ, None, IfOk, option_map};
+ghost use Rattle.std.specs.Prelude.{◌≡◌, ◌≤◌, ◌+◌, ◌++◌, ℕ, None, IfOk, OnOk, option_map};
 ghost use Rattle.farm_io.specs.Streams.{Rose};
 ghost use Rattle.case_run.specs.Cases.{CanRun, test_case};
 ghost use Rattle.case_run.specs.Values.{case_value};
 ghost use Rattle.farm_cli.specs.Hosting.{HostEnds, ToldEnds, FaultEnds, end_word, host_line, host_of};
 
-use crate::exit::Exit;
-use crate::journal::push;
 use case_run::{Case, run_case};
+use exit_status::Exit;
 use farm_io::{Link, PutEnd, Sink};
 use farm_kinds::{Kind, Name, NoMemory, Text};
 use judgehost::{BenchFault, Gate, Go, HostEnd, Runner};
@@ -142,4 +141,11 @@ fn line_of(
     push(&mut line, word.as_bytes())?;
     push(&mut line, b"\n")?;
     Ok(line)
+}
+
+/// Puts the bytes behind what is there.
+fn push(line: &mut Vec<u8>, bytes: &[u8]) -> Result<(), NoMemory>
+    ensures { OnOk result (line.new.items ≡ line.old.items ++ bytes.now) }
+{
+    line.extend_from_slice(bytes).map_err(|_| NoMemory)
 }

@@ -3,15 +3,15 @@ ghost use Rattle.farm_io.specs.Streams.{Rose};
 ghost use Rattle.farm_tree.specs.declared.reads.TreeFile.{TreeFile};
 ghost use Rattle.judge_server.specs.Exchanges.{around_of};
 ghost use Rattle.contest_server.specs.Visits.{watch};
-ghost use Rattle.farm_cli.specs.Judged.{ContestIs, HasContest};
+ghost use Rattle.judge_commands.specs.Judged.{ContestIs, HasContest};
 ghost use Rattle.farm_cli.specs.ServedContest.{DoorUse, ServeEnds};
 
-use crate::exit::Exit;
-use crate::judging::refuse;
 use contest_folder::{Roster, read_contest};
 use contest_server::{ServeEnd, serve_contest};
+use exit_status::Exit;
 use farm_io::{Clock, Door, Listening, Sink};
 use farm_tree::Tree;
+use judge_commands::refuse_contest;
 use std::alloc::Global;
 use std::sync::Wait;
 use std::thread::Threads;
@@ -50,7 +50,7 @@ where
 {
     match read_contest(alloc, tree, folder) {
         Ok(roster) => serve_roster(rt, alloc, &roster, at, lanes, connections, out, clock, door),
-        Err(fault) => refuse(alloc, &fault, out),
+        Err(fault) => refuse_contest(alloc, &fault, out),
     }
 }
 

@@ -6,10 +6,10 @@ use Rattle.judge_server.specs.Exchanges.{around_of}
 use Rattle.contest_server.specs.Visits.{watch}
 use Rattle.farm_io.specs.Streams.{Rose}
 use Rattle.judgehost.specs.declared.gate.Go.TheVariants as go
-use Rattle.farm_cli.specs.Scripted.{Streams}
+use Rattle.script_commands.specs.Scripted.{Streams}
 use Rattle.farm_cli.proofs.Judgings.{judge_complete}
 use Rattle.farm_cli.proofs.Makings.{make_complete}
-use Rattle.farm_cli.proofs.Ends.{script_complete, stored_complete, list_complete}
+use Rattle.farm_cli.proofs.Scripts.{script_complete, stored_complete, list_complete}
 use Rattle.farm_cli.proofs.Servings.{serve_complete}
 use Rattle.farm_cli.proofs.Hostings.{host_complete}
 use Rattle.farm_cli.proofs.Unread.{unread_ends, unread_is_done}

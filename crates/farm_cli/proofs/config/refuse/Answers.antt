@@ -1,5 +1,0 @@
-use Rattle.std.proofs.Common.{rules}
-use Rattle.farm_cli.proofs.config.refuse.Goals as goal
-
-pub returns-in-Done-clause-ends : goal.returns-in-Done-clause-ends
-returns-in-Done-clause-ends c = search rules

@@ -1,8 +1,0 @@
-use Rattle.std.proofs.lemmas.Result.{IfOk-weaker}
-use Rattle.farm_cli.proofs.Reports.{reported}
-use Rattle.farm_cli.proofs.judging.report.Goals as goal
-
-pub returns : goal.returns
-returns g c =
-    let done = c.in_ok-outcome.ensures in
-    IfOk-weaker c.text_of.result _ _ (λ text is. reported c.args.roster.now c.args.hosts c.args.journal _ _ text.items done.table done.kept done.journal is) c.text_of.ensures

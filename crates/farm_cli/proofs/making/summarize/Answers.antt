@@ -1,5 +1,0 @@
-use Rattle.std.proofs.lemmas.Result.{IfOk-weaker}
-use Rattle.farm_cli.proofs.making.summarize.Goals as goal
-
-pub returns : goal.returns
-returns g c = IfOk-weaker c.summary_of.result _ _ (λ text is. record { roster = c.in_ok-roster.roster; read = c.in_ok-roster.ensures; is = is }) c.summary_of.ensures

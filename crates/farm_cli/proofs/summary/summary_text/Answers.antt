@@ -1,7 +1,0 @@
-use Rattle.farm_cli.proofs.Summaries.{summary_is}
-use Rattle.farm_cli.proofs.summary.summary_text.Goals as goal
-
-pub returns : goal.returns
-returns c =
-    summary_is c.args.table.now c.as_slice-rows.result.now _ _ _ _ c.as_slice-rows.ensures c.new-text.ensures.items c.in_ok-push_kinds.ensures c.in_ok-push_count.ensures
-    c.in_ok-push_digest.ensures

@@ -1,4 +1,0 @@
-use Rattle.farm_cli.proofs.top.run.Goals as goal
-
-pub returns-clause-ends : goal.returns-clause-ends
-returns-clause-ends g c = c.answer-exit.ensures.ends c.args.settings c.new-farm.ensures

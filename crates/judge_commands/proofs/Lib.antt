@@ -1,0 +1,4 @@
+pub mod JournalLines
+pub mod NoContests
+pub mod Reports
+pub mod Summaries

@@ -1,0 +1,3 @@
+pub mod Config
+pub mod Scripted
+pub mod Stored
