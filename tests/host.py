@@ -1,13 +1,18 @@
 #!/usr/bin/env python3
 """Runs `farm host` against servers that lie, and against `farm serve` with hosts that are killed.
 
-    tests/host.py [PROGRAM [SEED]]
+    tests/host.py [PROGRAM [SEED [LIES [KILLS [CONTEST]]]]]
 
-PROGRAM is the built program, `crates/farm/out/farm` of this repository if none is given. One line is printed for each look, and
-the status is 1 where one shows something else than is wanted.
+PROGRAM is the built program, `crates/farm/out/farm` of this repository if none is given. LIES is how many talks are spoiled at
+random (200 if it is left out), KILLS how often one of the 16 hosts is killed (40), and CONTEST the folder of the
+contest that they judge, as `bench/judge/make.py` makes one; `examples/contest` if it is left out. One line is printed for each
+look, and the status is 1 where one shows something else than is wanted.
 """
 
 import base64
+import http.client
+import http.server
+import itertools
 import json
 import os
 import random
@@ -20,6 +25,7 @@ import sys
 import tempfile
 import threading
 import time
+from concurrent.futures import ThreadPoolExecutor
 
 sys.dont_write_bytecode = True
 
@@ -57,13 +63,20 @@ def post(path, body, fields=b""):
 
 NAME = b'{"hostname":"h1"}'
 RESULT = b'{"hostname":"h1","judging":1,"result":"correct","test":1}'
-REQUESTS = [
-    post(b"/judgehosts", NAME),
-    post(b"/judgehosts/fetch-work", NAME),
-    b"GET /judgehosts/job/1/1 HTTP/1.1\r\nhost: farm\r\n\r\n",
-    post(b"/judgehosts/add-judging-run", RESULT),
-    post(b"/judgehosts/fetch-work", NAME),
-]
+
+
+def requests_with(fields):
+    """The requests of the talk, with further fields in each head."""
+    return [
+        post(b"/judgehosts", NAME, fields),
+        post(b"/judgehosts/fetch-work", NAME, fields),
+        b"GET /judgehosts/job/1/1 HTTP/1.1\r\nhost: farm\r\n%b\r\n" % fields,
+        post(b"/judgehosts/add-judging-run", RESULT, fields),
+        post(b"/judgehosts/fetch-work", NAME, fields),
+    ]
+
+
+REQUESTS = requests_with(b"")
 
 
 def is_whole(request):
@@ -74,12 +87,13 @@ def is_whole(request):
 
 class Liar:
     """A server for one connection: it gives its answers one by one behind each whole request, in pieces of some bytes, or as they
-    stand in its list where that has one for each request. Then it closes, unless it is to keep the connection."""
+    stand in its list where that has one for each request. Then it closes, unless it is to keep the connection; also where no
+    request comes within its patience, in seconds."""
 
-    def __init__(self, pieces, step=None, keeps=False):
+    def __init__(self, pieces, step=None, keeps=False, patience=50):
         self.listener = socket.create_server(("127.0.0.1", 0))
         self.port = self.listener.getsockname()[1]
-        self.pieces, self.step, self.keeps, self.requests = pieces, step, keeps, []
+        self.pieces, self.step, self.keeps, self.patience, self.requests = pieces, step, keeps, patience, []
         self.thread = threading.Thread(target=self.serve, daemon=True)
         self.thread.start()
 
@@ -89,6 +103,7 @@ class Liar:
         except OSError:
             return
         conn.setsockopt(socket.IPPROTO_TCP, socket.TCP_NODELAY, 1)
+        conn.settimeout(self.patience)
         with conn:
             try:
                 for piece in self.pieces:
@@ -177,7 +192,30 @@ HEADS = [
     ("a status of three letters", b"HTTP/1.1 abc OK\r\ncontent-length: 2\r\n\r\n{}", 11),
     ("status 500", response(500, "Internal Server Error", '{"reply":"host"}'), 11),
     ("status 302", response(302, "Found", '{"reply":"host"}'), 11),
+    ("status 100", b"HTTP/1.1 100 Continue\r\n\r\n", 11),
+    ("status 204", response(204, "No Content", ""), 11),
+    ("status 401", response(401, "Unauthorized", "{}"), 11),
+    ("status 403", response(403, "Forbidden", "{}"), 11),
     ("a length that is too great", f"{CODE}content-length: 99\r\n\r\n{{}}".encode(), 11),
+    ("no length at all", f"{CODE}content-length:\r\n\r\n{{}}".encode(), 11),
+    ("a length below 0", f"{CODE}content-length: -2\r\n\r\n{{}}".encode(), 11),
+    ("a length in hexadecimal", f"{CODE}content-length: 0x2\r\n\r\n{{}}".encode(), 11),
+    ("a list of lengths", f"{CODE}content-length: 2, 2\r\n\r\n{{}}".encode(), 11),
+    ("a length with a point", f"{CODE}content-length: 2.0\r\n\r\n{{}}".encode(), 11),
+    ("two lengths that differ", f"{CODE}content-length: 2\r\nContent-Length: 3\r\n\r\n{{}}".encode(), 11),
+    ("a length and a transfer coding", f"{CODE}content-length: 2\r\ntransfer-encoding: identity\r\n\r\n{{}}".encode(), 11),
+    ("a length that is far too great", f"{CODE}content-length: 18446744073709551618\r\n\r\n{{}}".encode(), 11),
+    ("a field without a colon", f"{CODE}content-length 2\r\n\r\n{{}}".encode(), 11),
+    ("a field without a name", f"{CODE}: 2\r\ncontent-length: 2\r\n\r\n{{}}".encode(), 11),
+    ("a name with a space", f"{CODE}content length: 2\r\ncontent-length: 2\r\n\r\n{{}}".encode(), 11),
+    ("a field that is folded", f"{CODE}content-length: 2\r\nx: a\r\n b\r\n\r\n{{}}".encode(), 11),
+    ("a NUL in a field", CODE.encode() + b"x: a\x00b\r\ncontent-length: 2\r\n\r\n{}", 11),
+    ("a status line that is cut", b"HTTP/1.1 \r\ncontent-length: 2\r\n\r\n{}", 11),
+    ("a status of two digits", b"HTTP/1.1 20 OK\r\ncontent-length: 2\r\n\r\n{}", 11),
+    ("a status of four digits", b"HTTP/1.1 2000 OK\r\ncontent-length: 2\r\n\r\n{}", 11),
+    ("a request", b"GET / HTTP/1.1\r\nhost: x\r\ncontent-length: 2\r\n\r\n{}", 11),
+    ("HTTP/2", b"PRI * HTTP/2.0\r\n\r\nSM\r\n\r\n", 11),
+    ("TLS", b"\x15\x03\x01\x00\x02\x02\x46", 11),
     ("nothing", b"", 11),
 ]
 BODIES = ["", "{", "[]", "null", "{}", '{"reply":7}', '{"reply":"no"}', '{"reply":"bad-body","why":"not-json"}', "\xff", "[" * 200, '{"reply":"host"']
@@ -225,6 +263,14 @@ JOBS = [
 ]
 
 
+# Texts that are no Base64 of RFC 4648 with its padding.
+BASE64 = ["A", "AA", "AAA", "AA=", "A===", "====", "=AAA", "A=AA", "AA=A", "AA==AA==", "AAAA=", "AAAA====", "QUJD*A==", "-_AA", "AAAA\n", "AAAA\r\n",
+          " AAAA", "AA AA", "AAB=", "AB==", "AA==\0", "\u00e9AAA", "AAAA,AAAA"]
+CUSTOM = {"check": "custom", "flags": "", "validator": base64.b64encode(ECHO).decode()}
+# of the default validator, and of one of the problem's own
+CODED = [({}, "image"), ({}, "input"), ({}, "answer"), (CUSTOM, "flags"), (CUSTOM, "validator")]
+
+
 def is_refused(got, status):
     """It ended by name, wrote nothing on standard output, and told a person in one line."""
     return got[0] == status and got[1] == b"" and got[2].count(b"\n") == 1
@@ -254,38 +300,143 @@ def lies(program):
         if not is_refused(got, 11) or len(requests) != 3:
             wrong.append((fields, got, len(requests)))
     yield f"{len(JOBS)} jobs that are none, or another's", not wrong, wrong[:3]
+    wrong = []
+    for (fields, name), text in itertools.product(CODED, BASE64):
+        got, requests = met(program, [*TALK[:2], *answers(job(**fields | {name: text})), *TALK[3:]])
+        if not is_refused(got, 11) or len(requests) != 3:
+            wrong.append((name, text, got, len(requests)))
+    yield f"{len(BASE64)} texts that are no Base64, in {len(CODED)} fields", not wrong, wrong[:3]
+    wrong = []
+    for at, answer in enumerate(TALK):
+        head, _, body = answer.partition(b"\r\n\r\n")
+        for length in [0, 1, len(body) - 1]:
+            lie = re.sub(rb"content-length: \d+", b"content-length: %d" % length, head) + b"\r\n\r\n" + body
+            got, requests = met(program, [*TALK[:at], lie, *TALK[at + 1 :]])
+            if not is_refused(got, 11) or requests != REQUESTS[: at + 1]:
+                wrong.append((at, length, got, len(requests)))
+        # what is left over is no answer to the next request
+        got, requests = met(program, [*TALK[:at], answer + b"}", *TALK[at + 1 :]])
+        if not (is_done(got, b"host h1 claims 2 posted 1 idle") if at == 4 else is_refused(got, 11)) or requests != REQUESTS[: at + 2]:
+            wrong.append((at, "more", got, len(requests)))
+    yield f"{4 * len(TALK)} lengths that lie", not wrong, wrong[:3]
 
 
 def cuts(program):
     """A talk that the server ends behind each byte of it."""
-    wrong, count = [], 0
-    whole = b"".join(TALK)
     starts = [sum(map(len, TALK[:at])) for at in range(len(TALK) + 1)]
-    for place in range(0, len(whole), 7):
+
+    def wrong_at(place):
         at = sum(start <= place for start in starts) - 1
         got, requests = met(program, [*TALK[:at], TALK[at][: place - starts[at]]])
-        count += 1
-        if not is_refused(got, 11) or requests != REQUESTS[: at + 1]:
-            wrong.append((place, got, len(requests)))
-    yield f"a talk that is cut at {count} places", not wrong, wrong[:3]
+        return None if is_refused(got, 11) and requests == REQUESTS[: at + 1] else (place, got, len(requests))
+
+    with ThreadPoolExecutor(8) as pool:
+        wrong = [it for it in pool.map(wrong_at, range(starts[-1])) if it]
+    yield f"a talk that is cut at each of {starts[-1]} bytes", not wrong, wrong[:3]
 
 
-def random_lies(program, seed, count=60):
-    """Talks in which some bytes were changed."""
-    draw, wrong = random.Random(f"lies {seed}"), []
-    for turn in range(count):
+def spoiled(draw, data):
+    """The bytes, some of them changed, left out or doubled."""
+    data = bytearray(data)
+    for _ in range(draw.choice([1, 1, 2, 5])):
+        at, size = draw.randrange(len(data) + 1), draw.choice([1, 1, 2, 16])
+        how = draw.randrange(4)
+        if how == 0 and at < len(data):
+            data[at] = draw.randrange(256)
+        elif how == 1:
+            del data[at : at + size]
+        elif how == 2:
+            data[at:at] = data[at : at + size]
+        else:
+            data[at:at] = draw.choice([b"\r\n", b"=", b'"', b"}", b"0", b"content-length: 2\r\n", draw.randbytes(size)])
+    return bytes(data)
+
+
+def random_lies(program, seed, count):
+    """Talks of which some bytes were spoiled. No result is posted twice, and none but of the job that was sent."""
+    def wrong_in(turn):
+        draw = random.Random(f"lies {seed} {turn}")
         pieces = list(TALK)
         at = draw.randrange(len(pieces))
-        data = bytearray(pieces[at])
-        for _ in range(draw.choice([1, 1, 2, 5])):
-            data[draw.randrange(len(data))] = draw.randrange(256)
-        pieces[at] = bytes(data)
-        got, requests = met(program, pieces)
+        pieces[at] = spoiled(draw, pieces[at])
+        # a length that is too great leaves both waiting for the other
+        got, requests = met(program, pieces, step=draw.choice([None, None, 7, 100]), patience=2)
         sound = got[0] == 0 or is_refused(got, 10) or is_refused(got, 11)
         posts = [request for request in requests if b"add-judging-run" in request]
-        if not sound or len(posts) > 1:
-            wrong.append((turn, got, requests))
-    yield f"{count} talks with bytes that were changed", not wrong, wrong[:2]
+        # where the job was spoiled its value may be another one
+        known = not posts or (len(posts) == 1 and (at in (1, 2) or posts[0] == REQUESTS[3]))
+        return None if sound and known else (turn, at, pieces[at], got, posts)
+
+    with ThreadPoolExecutor(8) as pool:
+        wrong = [it for it in pool.map(wrong_in, range(count)) if it]
+    yield f"{count} talks of which bytes were spoiled", not wrong, wrong[:2]
+
+
+class Proxy(http.server.ThreadingHTTPServer):
+    """A proxy before a server, which keeps the reply to each result that is posted."""
+
+    daemon_threads = True
+
+    def __init__(self, port):
+        super().__init__(("127.0.0.1", 0), Passing)
+        self.behind, self.replies = port, []
+        self.port = self.server_address[1]
+        self.thread = threading.Thread(target=self.serve_forever, daemon=True)
+
+    def __enter__(self):
+        self.thread.start()
+        return self
+
+    def __exit__(self, *_):
+        self.shutdown()
+        self.server_close()
+
+    def handle_error(self, *_):
+        """Hosts are killed, and nobody has to be told."""
+
+
+class Passing(http.server.BaseHTTPRequestHandler):
+    protocol_version = "HTTP/1.1"
+    disable_nagle_algorithm = True
+    wbufsize = -1
+
+    def setup(self):
+        super().setup()
+        self.behind = http.client.HTTPConnection("127.0.0.1", self.server.behind, timeout=60)
+
+    def finish(self):
+        super().finish()
+        self.behind.close()
+
+    def pass_on(self):
+        body = self.rfile.read(int(self.headers.get("content-length", 0)))
+        status, data = self.asked(body)
+        if self.path == "/judgehosts/add-judging-run":
+            result = json.loads(body)
+            self.server.replies.append((result["judging"], result["test"], json.loads(data)["reply"]))
+        return self.answer(status, "application/json", data)
+
+    def asked(self, body):
+        """The server may end a connection that says nothing, where another one waits; then it is asked over a new one."""
+        while True:
+            try:
+                self.behind.request(self.command, self.path, body or None)
+                got = self.behind.getresponse()
+                return got.status, got.read()
+            except (http.client.RemoteDisconnected, ConnectionError):
+                self.behind.close()
+
+    def answer(self, status, kind, data):
+        self.send_response(status)
+        self.send_header("content-type", kind)
+        self.send_header("content-length", str(len(data)))
+        self.end_headers()
+        self.wfile.write(data)
+
+    do_GET = do_POST = pass_on
+
+    def log_message(self, *_):
+        """Nothing is to be said of a request."""
 
 
 def nobody(program):
@@ -312,25 +463,55 @@ def memory(program):
     liar = Liar([*TALK[:2], f"{CODE}content-length: {length}\r\n\r\n".encode() + b"[" * length])
     got = host(program, liar.port, preexec_fn=few)
     yield "a body of 96 MiB that is no job, in 512 MiB", is_refused(got, 11) or got[0] == 6, got
+    mib = 1 << 20
+    big = base64.b64encode(b"7\n" * (8 * mib)).decode()
+    for name, body, most in [
+        ("a length of 96 MiB of which nothing comes", f"{CODE}content-length: {length}\r\n\r\n".encode(), 110),
+        ("a body of 96 MiB that is no JSON", f"{CODE}content-length: {length}\r\n\r\n".encode() + b"[" * length, 300),
+        ("a body of 96 MiB of one text", response(200, "OK", '{"image":"' + "A" * (length - 12) + '"}'), 500),
+        ("a body of 12 MiB of empty lists", response(200, "OK", '{"image":[' + "[]," * (4 * mib - 5) + "[]]}"), 512),
+        ("the largest job", *answers(job(input=big, answer=big)), 300),
+    ]:
+        got, kib = most_memory(program, [*TALK[:2], body])
+        yield f"{name} takes {kib // 1024} MiB", (is_refused(got, 11) or got[0] == 6) and kib <= most * 1024, (got, kib)
+
+
+# A small process between, since what is told of a program's memory counts that of the process which has started it.
+BETWEEN = """
+import resource, subprocess, sys
+status = subprocess.run(sys.argv[1:]).returncode
+print(resource.getrusage(resource.RUSAGE_CHILDREN).ru_maxrss)
+sys.exit(status)
+"""
+
+
+def most_memory(program, pieces):
+    """How a host ends that meets these answers, and the most memory that it took, in KiB."""
+    liar = Liar(pieces)
+    command = [sys.executable, "-c", BETWEEN, program, "host", "127.0.0.1", "--port", str(liar.port), "--name", "h1", "--fuel", "9"]
+    done = subprocess.run(command, capture_output=True, timeout=60, check=False)
+    liar.listener.close()
+    *said, kib = done.stdout.splitlines()
+    return (done.returncode, b"".join(said), done.stderr), int(kib)
 
 
 def table_of(board):
     return [row["verdict"] for row in board["rows"]]
 
 
-def contest(program, folder, lease):
+def contest(program, folder, lease, of=os.path.join(TOP, "examples", "contest")):
     """A contest whose leases end soon, and its verdicts."""
-    shutil.copytree(os.path.join(TOP, "examples", "contest"), folder)
+    shutil.copytree(of, folder)
     path = os.path.join(folder, "farm.json")
     settings = json.load(open(path)) if os.path.exists(path) else {}
     with open(path, "w") as file:
         json.dump(settings | {"lease": lease}, file)
-    done = subprocess.run([program, "judge", folder, "--hosts", "4"], capture_output=True, timeout=120, check=True)
+    done = subprocess.run([program, "judge", folder, "--hosts", "4"], capture_output=True, check=True)
     return [line.split(" ")[3] for line in done.stdout.decode().splitlines()]
 
 
-def both_ends(program, folder, seed):
-    """Hosts that work for a server, until its board is what `judge` says; some of them are killed at any moment."""
+def one_host(program, folder):
+    """A host that works for a server until no test is left."""
     verdicts = contest(program, os.path.join(folder, "one"), 60)
     with Server(program, os.path.join(folder, "one"), connections=2) as server:
         got = host(program, server.port, fuel=100_000)
@@ -338,48 +519,64 @@ def both_ends(program, folder, seed):
         words = got[1].decode().split()
         good = got[0] == 0 and words[:2] == ["host", "h1"] and words[6] == "idle" and int(words[3]) == int(words[5]) + 1
         yield f"one host: {got[1].decode().strip()}", good and table_of(board) == verdicts, (got, table_of(board), verdicts)
-    verdicts = contest(program, os.path.join(folder, "many"), 1)
+
+
+def crowd(program, folder, seed, kills, of, count=16):
+    """Hosts that work for a server, until its board is what `judge` says; one of them is killed at any moment, and started
+    again. Who stands between them and the server sees each result that is counted."""
+    verdicts = contest(program, os.path.join(folder, "many"), 1, of)
     draw, killed = random.Random(f"hosts {seed}"), 0
-    with Server(program, os.path.join(folder, "many"), lanes=16, connections=100_000) as server:
+    with Server(program, os.path.join(folder, "many"), lanes=16, connections=100_000) as server, Proxy(server.port) as proxy:
         def start(number):
-            words = ["--port", str(server.port), "--name", f"h{number}", "--fuel", "100000", "--wait", "1"]
+            words = ["--port", str(proxy.port), "--name", f"h{number}", "--fuel", "100000", "--wait", "1"]
             return subprocess.Popen([program, "host", "127.0.0.1", *words], stdout=subprocess.DEVNULL, stderr=subprocess.PIPE)
 
-        hosts = [start(number) for number in range(1, 9)]
+        hosts = [start(number) for number in range(1, count + 1)]
         begun, board, said = time.monotonic(), None, []
-        while time.monotonic() - begun < 60:
+        while time.monotonic() - begun < 60 + 2 * kills:
             client = server.client()
             board = table_of(ask(client, "GET", "/board")[1])
             client.close()
-            if board == verdicts and killed >= 20:
+            if board == verdicts and killed >= kills:
                 break
             time.sleep(draw.random() * 0.1)
             at = draw.randrange(len(hosts))
-            if killed < 20:
+            if killed < kills:
                 hosts[at].kill()
                 said.append(hosts[at].communicate()[1])
                 hosts[at], killed = start(at + 1), killed + 1
+        seconds = time.monotonic() - begun
         for it in hosts:
             it.kill()
             said.append(it.communicate()[1])
-        yield f"eight hosts, {killed} times one of them killed", board == verdicts and not any(said), (board, verdicts, said)
+        counted = [(judging, test) for judging, test, reply in proxy.replies if reply == "counted"]
+        again = sum(reply == "repeat" for _, _, reply in proxy.replies)
+        odd = {reply for _, _, reply in proxy.replies} - {"counted", "repeat", "dropped"}
+        good = board == verdicts and not any(said) and len(counted) == len(set(counted)) and not odd
+        yield (f"{count} hosts, {killed} times one of them killed: {len(counted)} results counted, each once, and {again} posted again, "
+               f"in {seconds:.0f} s"), good, (board, verdicts, said, odd, len(counted), len(set(counted)))
 
 
-def looks(program, folder, seed):
+def looks(program, folder, numbers, of):
+    seed, lies_count, kills = (numbers + [1, 200, 40][len(numbers) :])[:3]
     yield from talks(program)
     yield from nobody(program)
     yield from lies(program)
     yield from cuts(program)
-    yield from random_lies(program, seed)
+    yield from random_lies(program, seed, lies_count)
     yield from memory(program)
-    yield from both_ends(program, folder, seed)
+    yield from one_host(program, folder)
+    yield from crowd(program, folder, seed, kills, of)
 
 
 def main():
-    program, numbers = program_and_numbers(sys.argv[1:])
+    words, of = sys.argv[1:], os.path.join(TOP, "examples", "contest")
+    if words and os.path.isdir(words[-1]):
+        of = words.pop()
+    program, numbers = program_and_numbers(words)
     sound = True
     with tempfile.TemporaryDirectory() as folder:
-        for name, good, got in looks(program, folder, (numbers or [1])[0]):
+        for name, good, got in looks(program, folder, numbers, of):
             print(f"{'ok  ' if good else 'NOT '} {name}{'' if good else f': {got}'}", flush=True)
             sound = sound and good
     return 0 if sound else 1
