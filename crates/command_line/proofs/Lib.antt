@@ -1,3 +1,4 @@
 pub mod WordLemmas
 pub mod AskingLemmas
 pub mod AddressLemmas
+pub mod ParsingLemmas

@@ -1,10 +1,18 @@
 -- What the words have to be before `clap` reads them.
-use Rattle.std.specs.Prelude.{List, [], ◌∷◌, Bool, true, false, not, ◌&&◌, ◌||◌, ◌==◌, Option, drop, length}
+use Rattle.std.specs.Prelude.{ℕ, List, [], ◌∷◌, Bool, true, false, not, ◌&&◌, ◌||◌, ◌==◌, nat_lt, Option, drop, length}
 use Rattle.std.specs.List.{list_all}
 use Rattle.std.specs.Option.{option_and_then, option_map_or}
 use Rattle.std.specs.Str.{bytes_eq}
 use Rattle.clap.specs.Lexer.{long_of}
 use Rattle.clap.specs.Walk.{Text}
+
+-- a byte below the space, or that of DEL
+abbrev pub is_control : ℕ → Bool
+is_control b = nat_lt b 32 || b == 127
+
+-- the text names a user of basic authentication (RFC 7617): it has no colon and no control character
+abbrev pub is_user : Text → Bool
+is_user text = list_all (λ b. not (b == 58 || is_control b)) text
 
 -- a value is not empty, and does not begin with `-`
 abbrev pub is_value : Text → Bool

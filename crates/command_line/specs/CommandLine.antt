@@ -7,13 +7,19 @@ use Rattle.clap.specs.Words.{Row, Text, fault_of, first_of, subcommand_of}
 use Rattle.farm_kinds.specs.Names.{name_read}
 use Rattle.farm_model.specs.Numbers.{number_of, at_most}
 use Rattle.command_line.specs.Commands.{farm}
-use Rattle.command_line.specs.Checks.{are_plain}
+use Rattle.command_line.specs.Checks.{are_plain, is_user}
 use Rattle.command_line.specs.Addresses.{address_with}
 use Rattle.command_line.specs.Ranges.{Size, from_1_to, size_with, host_limit, made_problem_limit, made_submission_limit}
 use Rattle.command_line.specs.Ranges.{port_limit, lane_limit, connection_limit, unlimited, patience_limit, usual_patience, fuel_limit, wait_limit}
 use Rattle.command_line.specs.declared.made_size.MadeSize.{MadeSize}
 use Rattle.command_line.specs.declared.words.Command.{Command}
+use Rattle.command_line.specs.declared.words.Login.{Login}
 use Rattle.command_line.specs.declared.words.Command.TheVariants as command
+
+-- the user whom a proxy asks for, and the path of the file that holds the password
+pub record LoginValue : Type 0 where
+  pub user : Text
+  pub password_file : Text
 
 pub data CommandValue : Type 0 where
   -- the lines of a script, by the settings of the file at this path, or by the standard ones, and over the store at this
@@ -30,11 +36,15 @@ pub data CommandValue : Type 0 where
   Serve : (folder : Text) → (address : IpAddr) → (port lanes connections patience : ℕ) → (until_input_ends : Bool)
       → CommandValue
   -- as the judgehost of this name at the server of this address and port, with so many claims, and where no task is open
-  -- with a pause of so many seconds before the next one, if there is to be one
-  Host : (address : Text) → (port : ℕ) → (name : Text) → (fuel : ℕ) → (wait : Option ℕ) → CommandValue
+  -- with a pause of so many seconds before the next one, if there is to be one; and as whom it asks a proxy, if one is there
+  Host : (address : Text) → (port : ℕ) → (name : Text) → (fuel : ℕ) → (wait : Option ℕ) → (login : Option LoginValue)
+      → CommandValue
 
 abbrev pub size_value : MadeSize → Size
 size_value size = record { problems = size.problems; submissions = size.submissions }
+
+abbrev pub login_value : Login → LoginValue
+login_value login = record { user = login.user.now; password_file = login.password_file.now }
 
 abbrev pub command_value : Command → CommandValue
 command_value (command.Script config store) = Script (option_map (λ path. path.now) config) (option_map (λ path. path.now) store)
@@ -43,7 +53,8 @@ command_value (command.Judge folder hosts journal) = Judge folder.now hosts.coun
 command_value (command.Make number size) = Make number (size_value size)
 command_value (command.Serve folder address port lanes connections patience until_input_ends) =
     Serve folder.now address port lanes.count connections.count patience.seconds until_input_ends
-command_value (command.Host address port name fuel wait) = Host address.now port name fuel wait
+command_value (command.Host address port name fuel wait login) =
+    Host address.now port name fuel wait (option_map login_value login)
 
 -- ---- what the rows of a command say
 
@@ -110,15 +121,26 @@ abbrev pub wait_with : Option Text → Option (Option ℕ)
 wait_with None = Some None
 wait_with (Some text) = option_map Some (option_and_then (from_1_to wait_limit) (number_of text))
 
-abbrev pub host_with : Option Text → Option ℕ → Option Text → Option ℕ → Option (Option ℕ) → Option CommandValue
-host_with (Some address) (Some port) (Some name) (Some fuel) (Some wait) = Some (Host address port name fuel wait)
-host_with address port name fuel wait = None
+-- a user with a file, or neither
+abbrev pub login_with : Option Text → Option Text → Option (Option LoginValue)
+login_with None None = Some None
+login_with None (Some file) = None
+login_with (Some user) None = None
+login_with (Some user) (Some file) =
+    if is_user user then Some (Some record { user = user; password_file = file }) else None
+
+abbrev pub host_with : Option Text → Option ℕ → Option Text → Option ℕ → Option (Option ℕ) → Option (Option LoginValue)
+    → Option CommandValue
+host_with (Some address) (Some port) (Some name) (Some fuel) (Some wait) (Some login) =
+    Some (Host address port name fuel wait login)
+host_with address port name fuel wait login = None
 
 abbrev pub host_of : List Row → Option CommandValue
 host_of rows =
     host_with (first_of (codes "address") rows) (number_at (from_1_to port_limit) (codes "port") rows)
     (option_and_then name_read (first_of (codes "name") rows)) (number_at (from_1_to fuel_limit) (codes "fuel") rows)
     (wait_with (first_of (codes "wait") rows))
+    (login_with (first_of (codes "user") rows) (first_of (codes "password-file") rows))
 
 abbrev pub said_of : Text → List Row → Option CommandValue
 said_of name rows =

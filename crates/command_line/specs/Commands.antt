@@ -55,14 +55,20 @@ serve =
     let with_patience = with_rule with_address (option (codes "patience") false) in
     with_rule with_patience (flag (codes "until-input-ends"))
 
--- `host ADDRESS --port P --name NAME --fuel F [--wait SECONDS]`
-abbrev pub host : App
-host =
+-- `host ADDRESS --port P --name NAME --fuel F`
+abbrev pub plain_host : App
+plain_host =
     let with_address = with_rule (new_app (codes "host")) (operand (codes "address")) in
     let with_port = with_rule with_address (option (codes "port") true) in
     let with_name = with_rule with_port (option (codes "name") true) in
-    let with_fuel = with_rule with_name (option (codes "fuel") true) in
-    with_rule with_fuel (option (codes "wait") false)
+    with_rule with_name (option (codes "fuel") true)
+
+-- `host ADDRESS --port P --name NAME --fuel F [--wait SECONDS] [--user USER --password-file FILE]`
+abbrev pub host : App
+host =
+    let with_wait = with_rule plain_host (option (codes "wait") false) in
+    let with_user = with_rule with_wait (option (codes "user") false) in
+    with_rule with_user (option (codes "password-file") false)
 
 -- the program without its commands: one has to be named, and there are no words for help or the version
 abbrev pub bare : App

@@ -1,8 +1,8 @@
 //! What the words have to be before `clap` reads them.
-ghost use Rattle.std.specs.Prelude.{◌≡◌, map, option_map, string_bytes, Some, None};
+ghost use Rattle.std.specs.Prelude.{◌≡◌, ◌||◌, ◌==◌, map, not, option_map, string_bytes, Some, None};
 ghost use Rattle.std.specs.List.{list_all};
 ghost use Rattle.clap.specs.Lexer.{strip_byte, name_and_value};
-ghost use Rattle.command_line.specs.Checks.{is_value, joined_value, is_plain, are_plain};
+ghost use Rattle.command_line.specs.Checks.{is_control, is_user, is_value, joined_value, is_plain, are_plain};
 
 /// Whether each word past the first is plain.
 pub(crate) fn are_plain(words: &[String]) -> bool
@@ -32,6 +32,27 @@ pub(crate) fn is_plain(word: &str) -> bool
         Some(value) => is_value(value),
         None => true,
     }
+}
+
+/// Whether the byte is a control character.
+fn is_control(b: u8) -> bool
+    ensures { result ≡ is_control b }
+{
+    b < 0x20 || b == 0x7f
+}
+
+/// Whether a user may have this byte.
+fn is_of_user(b: u8) -> bool
+    ensures { result ≡ not (b == 58 || is_control b) }
+{
+    b != b':' && !is_control(b)
+}
+
+/// Whether the text names a user of basic authentication: it has no colon and no control character.
+pub(crate) fn is_user(text: &str) -> bool
+    ensures { result ≡ is_user text.now }
+{
+    text.as_bytes().iter().all(|b| is_of_user(*b))
 }
 
 /// A value is not empty, and does not begin with `-`.

@@ -118,10 +118,18 @@ fn of_host(id: &str) -> Description<'static> {
             (1, u32::MAX),
             "How often it asks for a task at most, 1 to 4294967295",
         ),
-        _ => number(
+        "wait" => number(
             "SECONDS",
             (1, 60),
             "Pauses so long where no task is open, 1 to 60, and asks again",
+        ),
+        "user" => text(
+            "USER",
+            "The user whom a proxy before the server asks for, without ':'",
+        ),
+        _ => text(
+            "FILE",
+            "The file that holds the user's password: 1 to 1024 bytes, and perhaps a line end",
         ),
     }
 }
@@ -176,7 +184,7 @@ const FOLDER: &str =
     "The contest: problems/NAME/ for each package, submissions.txt, submissions/, farm.json";
 
 const STATUSES: &str = "\
-Status: 0 done, 2 usage, 3 bad settings or contest, 4 read fault, 5 write fault,
+Status: 0 done, 2 usage, 3 bad settings, contest or password, 4 read fault, 5 write fault,
 6 no memory, 7 file fault, 8 port or connection fault, 9 input limit, 10 no
 connection to the server, 11 wrong answer of the server, 12 a store that failed,
 13 no store of this configuration, 14 a full store.";
@@ -202,7 +210,10 @@ Written is one line 'host NAME claims C posted R END': how often it asked for a
 task, how many results it posted, and why it stopped. END is idle (no task is
 open), fuel (it asked F times), no-host (the server does not know it, or has
 brought it down) or holding (it holds as many tasks as it may). With --wait it
-does not end as idle. A server that does not answer for a minute ends it.";
+does not end as idle. A server that does not answer for a minute ends it.
+Where a proxy before the server asks for a user and a password, give both --user
+and --password-file: each request says them, in Base64 (RFC 7617). Everyone on the
+way can read them, so let the connection go through a tunnel (ssh, stunnel).";
 
 const SCRIPT: &str = "\
 Lines:

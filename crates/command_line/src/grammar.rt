@@ -2,7 +2,7 @@
 ghost use Rattle.std.specs.Prelude.{◌≡◌, IfOk, false, true};
 ghost use Rattle.clap.specs.Words.{app_of, new_app, rule_of, with_rule, with_subcommand};
 ghost use Rattle.clap.specs.declared.builder.command.Command.TheViews.{out-Command as fields_of};
-ghost use Rattle.command_line.specs.Commands.{option, flag, operand, judge, script, store, make, serve, plain_serve, host, bare, farm, helping};
+ghost use Rattle.command_line.specs.Commands.{option, flag, operand, judge, script, store, make, serve, plain_serve, host, plain_host, bare, farm, helping};
 
 use crate::described::{about, described, remarks};
 use clap::{Arg, ArgAction, Command};
@@ -177,16 +177,25 @@ fn plain_serve_command<'a>(alloc: Global) -> Result<Command<'a>, AllocError>
     with_choice(alloc, with_lanes, "serve", "connections")
 }
 
-/// `host ADDRESS --port P --name NAME --fuel F [--wait SECONDS]`
+/// `host ADDRESS --port P --name NAME --fuel F [--wait SECONDS] [--user USER --password-file FILE]`
 fn host_command<'a>(alloc: Global) -> Result<Command<'a>, AllocError>
     ensures app { IfOk result (λ command. app_of command ≡ host) }
+    ensures globals { IfOk result (λ command. (fields_of command).has_globals ≡ false) }
+{
+    let with_wait = with_choice(alloc, plain_host_command(alloc)?, "host", "wait")?;
+    let with_user = with_choice(alloc, with_wait, "host", "user")?;
+    with_choice(alloc, with_user, "host", "password-file")
+}
+
+/// `host ADDRESS --port P --name NAME --fuel F`
+fn plain_host_command<'a>(alloc: Global) -> Result<Command<'a>, AllocError>
+    ensures app { IfOk result (λ command. app_of command ≡ plain_host) }
     ensures globals { IfOk result (λ command. (fields_of command).has_globals ≡ false) }
 {
     let with_address = with_operand(alloc, new_command(alloc, "host"), "host", "address")?;
     let with_port = with_option(alloc, with_address, "host", "port")?;
     let with_name = with_option(alloc, with_port, "host", "name")?;
-    let with_fuel = with_option(alloc, with_name, "host", "fuel")?;
-    with_fuel.arg(option(alloc, "host", "wait", false))
+    with_option(alloc, with_name, "host", "fuel")
 }
 
 /// The command of this name, with what help says of it.

@@ -32,4 +32,4 @@ pub use made_size::MadeSize;
 pub use programs::{ProgramWords, no_number, number_from, read_program};
 pub use reading::read_command;
 pub use serving::{Connections, Lanes, Patience};
-pub use words::Command;
+pub use words::{Command, Login};

@@ -5,15 +5,15 @@ ghost use Rattle.clap.specs.Words.{first_of, found_of, rows_of, subcommand_rows_
 ghost use Rattle.farm_model.specs.Numbers.{at_most, number_of};
 ghost use Rattle.command_line.specs.Addresses.{address_with};
 ghost use Rattle.command_line.specs.Ranges.{from_1_to};
-ghost use Rattle.command_line.specs.CommandLine.{command_of, command_value, connections_with, host_of, is_said, judge_of, make_of, patience_with, said_of, script_of, serve_of, size_of, size_value, store_of, wait_with};
+ghost use Rattle.command_line.specs.CommandLine.{command_of, command_value, connections_with, host_of, is_said, judge_of, login_value, login_with, make_of, patience_with, said_of, script_of, serve_of, size_of, size_value, store_of, wait_with};
 
 use crate::address::read_address;
-use crate::checks::are_plain;
+use crate::checks::{are_plain, is_user};
 use crate::host_count::HostCount;
 use crate::made_size::MadeSize;
 use crate::parsing::parse;
 use crate::serving::{Connections, Lanes, Patience};
-use crate::words::Command;
+use crate::words::{Command, Login};
 use clap::ArgMatches;
 use command_text::read_number;
 use farm_kinds::{Name, NoMemory};
@@ -174,13 +174,48 @@ fn host<'a>(found: &ArgMatches<'a>) -> Option<Command<'a>>
     let name = Name::read(text(found, "name")?.as_bytes())?;
     let fuel = fuel(number(found, "fuel")?)?;
     let wait = wait(found)?;
+    let login = login(found)?;
     Some(Command::Host {
         address,
         port,
         name,
         fuel,
         wait,
+        login,
     })
+}
+
+/// As whom a host asks a proxy, where it is said. None where only one of the two options is there, or the user is none.
+fn login<'a>(found: &ArgMatches<'a>) -> Option<Option<Login<'a>>>
+    ensures { option_map (λ login. option_map login_value login) result
+        ≡ login_with (first_of (codes "user") (rows_of (found_of found.now))) (first_of (codes "password-file") (rows_of (found_of found.now))) }
+{
+    login_of(text(found, "user"), text(found, "password-file"))
+}
+
+/// The same by what the two options say.
+fn login_of<'a>(user: Option<&'a str>, file: Option<&'a str>) -> Option<Option<Login<'a>>>
+    ensures { option_map (λ login. option_map login_value login) result
+        ≡ login_with (option_map (λ text. text.now) user.entry) (option_map (λ text. text.now) file.entry) }
+{
+    match user {
+        None => match file {
+            None => Some(None),
+            Some(_) => None,
+        },
+        Some(user) => match file {
+            None => None,
+            Some(password_file) => {
+                if !is_user(user) {
+                    return None;
+                }
+                Some(Some(Login {
+                    user,
+                    password_file,
+                }))
+            }
+        },
+    }
 }
 
 /// For how many seconds a host pauses, where it is said. None where that is no such number.

@@ -1,6 +1,6 @@
 //! What is wrong with words that are no command.
 use crate::address::read_address;
-use crate::checks::{is_plain, joined_value};
+use crate::checks::{is_plain, is_user, joined_value};
 use crate::described::described;
 use crate::grammar::{command_named, helping_command};
 use clap::error::ErrorKind;
@@ -90,7 +90,8 @@ fn odd_text(alloc: Global, word: &str) -> Result<String, AllocError> {
     }
 }
 
-/// Which value of the command that was found is no name, no address, or a number that is not in its range.
+/// Which value of the command that was found is no name, no address, no user, or a number that is not in its range; or which
+/// option lacks another one.
 fn odd_value(
     alloc: Global,
     command: &Command<'_>,
@@ -102,6 +103,9 @@ fn odd_value(
                 return Ok(text);
             }
             if let Some(text) = address_text(alloc, name, arg, found)? {
+                return Ok(text);
+            }
+            if let Some(text) = login_text(alloc, arg, found)? {
                 return Ok(text);
             }
             if let Some(text) = number_text(alloc, name, arg, found)? {
@@ -149,6 +153,34 @@ fn address_text(
         "invalid value '{value}' for '{arg}': wanted is an IPv4 or IPv6 address, as 0.0.0.0 or ::1"
     )?;
     Ok(Some(text))
+}
+
+/// What is wrong with the user whom a proxy asks for, or which option is not there beside this one, if this is an option of
+/// a login and anything is.
+fn login_text(
+    alloc: Global,
+    arg: &Arg<'_>,
+    found: &ArgMatches<'_>,
+) -> Result<Option<String>, AllocError> {
+    let id = arg.get_id();
+    let Some(value) = found.get_str(id) else {
+        return Ok(None);
+    };
+    if id == "user" && !is_user(value) {
+        let text = format!(in alloc;
+            "invalid value '{value}' for '{arg}': wanted is a name without ':' and without control characters"
+        )?;
+        return Ok(Some(text));
+    }
+    if id == "user" && found.get_str("password-file").is_none() {
+        let text = format!(in alloc; "'{arg}' is given without '--password-file <FILE>'")?;
+        return Ok(Some(text));
+    }
+    if id == "password-file" && found.get_str("user").is_none() {
+        let text = format!(in alloc; "'{arg}' is given without '--user <USER>'")?;
+        return Ok(Some(text));
+    }
+    Ok(None)
 }
 
 /// What is wrong with the number of this operand or option of a command, if anything is.

@@ -4,6 +4,13 @@ use crate::serving::{Connections, Lanes, Patience};
 use farm_kinds::Name;
 use std::net::IpAddr;
 
+/// The user whom a proxy asks for, and the file that holds the password.
+#[derive(Clone, Copy, Debug, PartialEq, Eq)]
+pub struct Login<'a> {
+    pub user: &'a str,
+    pub password_file: &'a str,
+}
+
 /// What the words of the command line ask for.
 #[derive(Clone, Copy, Debug, PartialEq, Eq)]
 pub enum Command<'a> {
@@ -40,12 +47,14 @@ pub enum Command<'a> {
         until_input_ends: bool,
     },
     /// As the judgehost of this name at the server of this address and port, with so many claims; where no task is open,
-    /// with a pause of so many seconds before the next one, if there is to be one.
+    /// with a pause of so many seconds before the next one, if there is to be one; and as whom it asks a proxy, if one is
+    /// there.
     Host {
         address: &'a str,
         port: u16,
         name: Name,
         fuel: u32,
         wait: Option<u16>,
+        login: Option<Login<'a>>,
     },
 }

@@ -113,9 +113,9 @@ pub fn worked_addresses()
 
 /// `farm host` at words.
 pub fn worked_hosts()
-    ensures least { command_of (words (codes "farm host a --port 1 --name h --fuel 1")) ≡ Some (Host (codes "a") 1 (codes "h") 1 None) }
-    ensures most { command_of (words (codes "farm host --wait=60 --fuel=4294967295 --name=h-1 --port=65535 ::1")) ≡ Some (Host (codes "::1") 65535 (codes "h-1") 4294967295 (Some 60)) }
-    ensures least_wait { command_of (words (codes "farm host a --port 1 --name h --fuel 1 --wait 1")) ≡ Some (Host (codes "a") 1 (codes "h") 1 (Some 1)) }
+    ensures least { command_of (words (codes "farm host a --port 1 --name h --fuel 1")) ≡ Some (Host (codes "a") 1 (codes "h") 1 None None) }
+    ensures most { command_of (words (codes "farm host --wait=60 --fuel=4294967295 --name=h-1 --port=65535 ::1")) ≡ Some (Host (codes "::1") 65535 (codes "h-1") 4294967295 (Some 60) None) }
+    ensures least_wait { command_of (words (codes "farm host a --port 1 --name h --fuel 1 --wait 1")) ≡ Some (Host (codes "a") 1 (codes "h") 1 (Some 1) None) }
     ensures no_port { command_of (words (codes "farm host a --port 0 --name h --fuel 1")) ≡ None }
     ensures too_great_port { command_of (words (codes "farm host a --port 65536 --name h --fuel 1")) ≡ None }
     ensures no_fuel { command_of (words (codes "farm host a --port 1 --name h --fuel 0")) ≡ None }
@@ -123,13 +123,20 @@ pub fn worked_hosts()
     ensures no_wait { command_of (words (codes "farm host a --port 1 --name h --fuel 1 --wait 0")) ≡ None }
     ensures too_long_wait { command_of (words (codes "farm host a --port 1 --name h --fuel 1 --wait 61")) ≡ None }
     ensures no_name { command_of (words (codes "farm host a --port 1 --name h.1 --fuel 1")) ≡ None }
-    ensures longest_name { command_of (words (codes "farm host a --port 1 --name abcdefghijklmnopqrstuvwxyz012345 --fuel 1")) ≡ Some (Host (codes "a") 1 (codes "abcdefghijklmnopqrstuvwxyz012345") 1 None) }
+    ensures longest_name { command_of (words (codes "farm host a --port 1 --name abcdefghijklmnopqrstuvwxyz012345 --fuel 1")) ≡ Some (Host (codes "a") 1 (codes "abcdefghijklmnopqrstuvwxyz012345") 1 None None) }
     ensures too_long_name { command_of (words (codes "farm host a --port 1 --name abcdefghijklmnopqrstuvwxyz0123456 --fuel 1")) ≡ None }
     ensures address_left_out { command_of (words (codes "farm host --port 1 --name h --fuel 1")) ≡ None }
     ensures port_left_out { command_of (words (codes "farm host a --name h --fuel 1")) ≡ None }
     ensures name_left_out { command_of (words (codes "farm host a --port 1 --fuel 1")) ≡ None }
     ensures fuel_left_out { command_of (words (codes "farm host a --port 1 --name h")) ≡ None }
     ensures wait_twice { command_of (words (codes "farm host a --port 1 --name h --fuel 1 --wait 1 --wait 1")) ≡ None }
+    ensures user { command_of (words (codes "farm host a --port 1 --name h --fuel 1 --user u --password-file f")) ≡ Some (Host (codes "a") 1 (codes "h") 1 None (Some (record { user = codes "u"; password_file = codes "f" }))) }
+    ensures user_with_wait { command_of (words (codes "farm host --password-file=p/q --wait=5 --user=u@v --fuel=1 --name=h --port=1 a")) ≡ Some (Host (codes "a") 1 (codes "h") 1 (Some 5) (Some (record { user = codes "u@v"; password_file = codes "p/q" }))) }
+    ensures user_with_colon { command_of (words (codes "farm host a --port 1 --name h --fuel 1 --user u:v --password-file f")) ≡ None }
+    ensures user_with_control { command_of (codes "farm" ∷ codes "host" ∷ codes "a" ∷ codes "--port=1" ∷ codes "--name=h" ∷ codes "--fuel=1" ∷ codes "--user=u\tv" ∷ codes "--password-file=f" ∷ []) ≡ None }
+    ensures user_alone { command_of (words (codes "farm host a --port 1 --name h --fuel 1 --user u")) ≡ None }
+    ensures password_file_alone { command_of (words (codes "farm host a --port 1 --name h --fuel 1 --password-file f")) ≡ None }
+    ensures user_twice { command_of (words (codes "farm host a --port 1 --name h --fuel 1 --user u --user u --password-file f")) ≡ None }
 {}
 
 /// Words of which none is a command's, and words that no command takes.

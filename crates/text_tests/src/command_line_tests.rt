@@ -80,8 +80,14 @@ const ROWS: &str = concat!(
     "serve c --port 0 --lanes 1 --connections 1 --patience 0 => none\n",
     "serve c --port 0 --lanes 1 --connections 1 --patience 3601 => none\n",
     "serve c --port 0 --lanes 1 --connections 1 --until-input-ends=true => none\n",
-    "host a.example --port 65535 --name north-1 --fuel 4294967295 => host a.example 65535 north-1 4294967295 0\n",
-    "host --wait=60 --fuel=1 --name=h --port=1 ::1 => host ::1 1 h 1 60\n",
+    "host a.example --port 65535 --name north-1 --fuel 4294967295 => host a.example 65535 north-1 4294967295 0 - -\n",
+    "host --wait=60 --fuel=1 --name=h --port=1 ::1 => host ::1 1 h 1 60 - -\n",
+    "host a --port 1 --name h --fuel 1 --user u@v --password-file p/q => host a 1 h 1 0 u@v p/q\n",
+    "host --password-file=q --user=u --wait=5 --fuel=1 --name=h --port=1 a => host a 1 h 1 5 u q\n",
+    "host a --port 1 --name h --fuel 1 --user u => none\n",
+    "host a --port 1 --name h --fuel 1 --password-file q => none\n",
+    "host a --port 1 --name h --fuel 1 --user u:v --password-file q => none\n",
+    "host a --port 1 --name h --fuel 1 --user u\x7f --password-file q => none\n",
     "host a --port 0 --name h --fuel 1 => none\n",
     "host a --port 1 --name h --fuel 0 => none\n",
     "host a --port 1 --name h --fuel 4294967296 => none\n",
@@ -163,9 +169,14 @@ fn told(alloc: Global, command: &Command<'_>) -> Result<String, AllocError> {
             name,
             fuel,
             wait,
+            login,
         } => {
+            let (user, file) = match login {
+                Some(login) => (login.user, login.password_file),
+                None => ("-", "-"),
+            };
             format!(in alloc;
-                "host {address} {port} {} {fuel} {}",
+                "host {address} {port} {} {fuel} {} {user} {file}",
                 name_text(name),
                 wait.unwrap_or(0)
             )

@@ -23,4 +23,11 @@ returns c = record {
   name_left_out = refl;
   fuel_left_out = refl;
   wait_twice = refl;
+  user = refl;
+  user_with_wait = refl;
+  user_with_colon = refl;
+  user_with_control = refl;
+  user_alone = refl;
+  password_file_alone = refl;
+  user_twice = refl;
 }
