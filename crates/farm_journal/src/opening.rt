@@ -3,6 +3,7 @@ ghost use Rattle.std.specs.Prelude.{◌≡◌, ◌≢◌, ◌≤◌, ◌<◌, �
 ghost use Rattle.hex.specs.Hex.{IsBytes};
 ghost use Rattle.record_store.specs.Model.{AtEachMoment, IsQuiet, OnlySynced, Rose};
 ghost use Rattle.record_store.specs.Held.{held, IsFront, IsRead, Rests};
+ghost use Rattle.record_store.specs.Reading.{IsAhead};
 ghost use Rattle.farm_model.specs.Farm.{farm_step};
 ghost use Rattle.farm_model.specs.State.{State};
 ghost use Rattle.stored_events.specs.Opening.{stored_step, stored_read, replayed, is_unborn, is_first_record, config_line, opened_of, config_of, opened_by, opened_lines, HoldsOrBegins};
@@ -16,7 +17,7 @@ use crate::journal::make_batch;
 use crate::player::Player;
 use command_text::{push_event, read_line};
 use farm_kinds::{Event, LineFault, NoMemory, Reply};
-use record_store::{Disk, append_records, close_records, read_record};
+use record_store::{Ahead, Disk, append_records, close_records, read_record};
 use std::alloc::Global;
 use stored_events::{OpenFault, config_line, config_of, is_kept, looks_unborn};
 
@@ -74,6 +75,7 @@ enum Next {
 fn next_event<Y: Disk, P: Player>(
     alloc: Global,
     disk: &mut Y,
+    ahead: &mut Ahead,
     farm: &mut P,
     at: u64,
     len: u64,
@@ -82,6 +84,8 @@ fn next_event<Y: Disk, P: Player>(
 ) -> Result<Next, OpenFault>
     requires within { at ≤ len }
     requires len { IsTrue (Y.tells disk.old) → len ≡ length (Y.time disk.old).now.seen }
+    requires ahead { IsTrue (Y.tells disk.old) → IsAhead (Y.time disk.old).now.seen ahead.old }
+    ensures ahead { IsTrue (Y.tells disk.old) → OnOk result (IsAhead (Y.time disk.old).now.seen ahead.new) }
     ensures inside { IfOk result (λ next. next ≡ Next.Played → at + 3 + length line.new.items < len) }
     ensures meets { IsTrue (Y.tells disk.old)
         → IfOk result (Meets (Y.time disk.old).now.seen at line.new.items (P.state farm.old) (P.state farm.new)) }
@@ -91,7 +95,7 @@ fn next_event<Y: Disk, P: Player>(
     ensures still { IsTrue (Y.tells disk.old) → Y.time disk.new ≡ Y.time disk.old }
     ensures cause { HasOpenCause (Y.faults disk.old) (Y.faults disk.new) result }
 {
-    match read_record(disk, at, len, line) {
+    match read_record(disk, ahead, at, len, line) {
         Err(read) => Err(open_fault(read)),
         Ok(false) => Ok(Next::End),
         Ok(true) => match replay_line(alloc, farm, line.as_slice(), text) {
@@ -124,12 +128,13 @@ fn replay_records<Y: Disk, P: Player>(
     ensures still { IsTrue (Y.tells disk.old) → Y.time disk.new ≡ Y.time disk.old }
     ensures cause { HasOpenCause (Y.faults disk.old) (Y.faults disk.new) result }
 {
+    let mut ahead = Ahead::new(alloc);
     let mut line = Vec::new(alloc);
     let mut text = Vec::new(alloc);
     let mut at = from;
     let mut number = 2u64;
     'records: loop {
-        match next_event(alloc, disk, farm, at, len, &mut line, &mut text) {
+        match next_event(alloc, disk, &mut ahead, farm, at, len, &mut line, &mut text) {
             Err(fault) => return Err(fault),
             Ok(Next::End) => return Ok(at),
             Ok(Next::Other) => return Err(OpenFault::BadRecord { number }),
@@ -300,8 +305,9 @@ fn open_synced<Y: Disk, P: Player>(
     ensures tells { Y.tells disk.new ≡ Y.tells disk.old }
     ensures cause { HasOpenCause (Y.faults disk.old) (Y.faults disk.new) result }
 {
+    let mut ahead = Ahead::new(alloc);
     let mut line = Vec::new(alloc);
-    match read_record(disk, 0, len, &mut line) {
+    match read_record(disk, &mut ahead, 0, len, &mut line) {
         Err(read) => Err(open_fault(read)),
         Ok(found) => {
             if found {

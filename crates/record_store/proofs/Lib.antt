@@ -5,3 +5,4 @@ pub mod Steps
 pub mod Appends
 pub mod Opens
 pub mod Written
+pub mod Aheads

@@ -12,8 +12,8 @@ use std::{fs, io};
 
 /// A file of the system, which is locked while it is open: a second one at the same path fails to open. It tells nothing.
 ///
-/// Each failed call raises the count, which stands still at the end of its type. A sync that failed is not tried again:
-/// each later write and sync fails, since the system may have dropped what was written.
+/// Each failed call raises the count, which stands still at the end of its type. After a sync that failed every later call
+/// fails, since the system may have dropped what was written.
 #[derive(Drop)]
 pub struct FileDisk<R> {
     alloc: Global,
@@ -53,6 +53,9 @@ impl<R: Files<File = File> + Drop> Disk for FileDisk<R> {
     ghost faults = { λ d. d.faults };
 
     fn open(&mut self, path: &str, access: Access) -> Result<(), DiskErr> {
+        if self.lost {
+            return Err(count(&mut self.faults));
+        }
         if let (Ok(copied), Ok(file)) = (
             String::from_str(self.alloc, path),
             open_file(&self.files, path, access),
@@ -66,14 +69,14 @@ impl<R: Files<File = File> + Drop> Disk for FileDisk<R> {
     }
 
     fn len(&mut self) -> Result<u64, DiskErr> {
-        match length_of(&self.file) {
+        match length_of(&self.file, self.lost) {
             Ok(len) => Ok(len),
             Err(_) => Err(count(&mut self.faults)),
         }
     }
 
     fn read_at(&mut self, at: u64, room: &mut [u8]) -> Result<(), DiskErr> {
-        match read(&self.file, at, room) {
+        match read(&self.file, self.lost, at, room) {
             Ok(()) => Ok(()),
             Err(_) => Err(count(&mut self.faults)),
         }
@@ -155,31 +158,27 @@ fn folder_of(path: &str) -> &str {
     }
 }
 
-fn opened(file: &Option<File>) -> io::Result<&File> {
+/// The file that is open, if one is and no sync of it has failed.
+fn opened(file: &Option<File>, lost: bool) -> io::Result<&File> {
     match file {
-        Some(file) => Ok(file),
-        None => Err(io::ErrorKind::NotFound.into()),
+        Some(file) if !lost => Ok(file),
+        _ => Err(io::ErrorKind::Other.into()),
     }
 }
 
-fn length_of(file: &Option<File>) -> io::Result<u64> {
-    Ok(opened(file)?.metadata()?.len())
+fn length_of(file: &Option<File>, lost: bool) -> io::Result<u64> {
+    Ok(opened(file, lost)?.metadata()?.len())
 }
 
-fn read(file: &Option<File>, at: u64, room: &mut [u8]) -> io::Result<()> {
-    opened(file)?.read_exact_at(room, at)
+fn read(file: &Option<File>, lost: bool, at: u64, room: &mut [u8]) -> io::Result<()> {
+    opened(file, lost)?.read_exact_at(room, at)
 }
 
 fn write(file: &Option<File>, lost: bool, at: u64, bytes: &[u8]) -> io::Result<()> {
-    if lost {
-        return Err(io::ErrorKind::Other.into());
-    }
-    opened(file)?.write_all_at(bytes, at)
+    opened(file, lost)?.write_all_at(bytes, at)
 }
 
+/// Waits until the file's bytes and its length are on the disk (`fdatasync`), and not its times, which nothing here reads.
 fn sync(file: &Option<File>, lost: bool) -> io::Result<()> {
-    if lost {
-        return Err(io::ErrorKind::Other.into());
-    }
-    opened(file)?.sync_all()
+    opened(file, lost)?.sync_data()
 }

@@ -2,9 +2,10 @@
 ghost use Rattle.std.specs.Prelude.{◌≡◌, ◌≢◌, ◌≤◌, ◌<◌, ◌+◌, ◌-◌, ◌*◌, ◌^◌, ◌++◌, [], ◌∷◌, ℕ, List, length, take, drop, slice_index, true, false, IsTrue, IfOk, IfSome, OnOk, OnErr};
 ghost use Rattle.record_store.specs.Model.{AtEachMoment, IsQuiet, HasCause};
 ghost use Rattle.record_store.specs.Held.{held, records_of, ReadsNext, IsRead, IsClosedAt, Rests, HoldsStill, IsBeforeOrAfter};
-ghost use Rattle.record_store.specs.Reading.{HasReadCause};
+ghost use Rattle.record_store.specs.Reading.{HasReadCause, IsAhead};
 ghost use Rattle.record_store.specs.declared.records.ReadFault.TheVariants as fault;
 
+use crate::ahead::{Ahead, read_ahead};
 use crate::disk::{Disk, DiskErr};
 use crate::durable::write_durably;
 use std::alloc::AllocError;
@@ -27,17 +28,25 @@ impl From<DiskErr> for ReadFault {
 }
 
 /// Three bytes from the offset on.
-fn read_header<Y: Disk>(disk: &mut Y, at: u64) -> Result<(u8, u8, u8), DiskErr>
-    requires { IsTrue (Y.tells disk.old) → at + 3 ≤ length (Y.time disk.old).now.seen }
+fn read_header<Y: Disk>(
+    disk: &mut Y,
+    ahead: &mut Ahead,
+    at: u64,
+    len: u64,
+) -> Result<(u8, u8, u8), ReadFault>
+    requires within { at + 3 ≤ len }
+    requires len { IsTrue (Y.tells disk.old) → len ≡ length (Y.time disk.old).now.seen }
+    requires ahead { IsTrue (Y.tells disk.old) → IsAhead (Y.time disk.old).now.seen ahead.old }
     ensures answer { IsTrue (Y.tells disk.old)
         → IfOk result (λ h. take 3 (drop at (Y.time disk.old).now.seen) ≡ h.0 ∷ h.1 ∷ h.2 ∷ []) }
+    ensures ahead { IsTrue (Y.tells disk.old) → OnOk result (IsAhead (Y.time disk.old).now.seen ahead.new) }
     ensures path { Y.opened disk.new ≡ Y.opened disk.old }
     ensures tells { Y.tells disk.new ≡ Y.tells disk.old }
     ensures still { IsTrue (Y.tells disk.old) → Y.time disk.new ≡ Y.time disk.old }
-    ensures cause { HasCause (Y.faults disk.old) (Y.faults disk.new) result }
+    ensures cause { HasReadCause (Y.faults disk.old) (Y.faults disk.new) result }
 {
     let mut header = [0u8; 3];
-    disk.read_at(at, &mut header)?;
+    read_ahead(disk, ahead, at, len, &mut header)?;
     Ok((header[0], header[1], header[2]))
 }
 
@@ -58,13 +67,19 @@ fn read_gate<Y: Disk>(disk: &mut Y, at: u64) -> Result<u8, DiskErr>
 /// So many bytes from the offset on, in place of what the line was.
 fn read_line<Y: Disk>(
     disk: &mut Y,
+    ahead: &mut Ahead,
     at: u64,
+    len: u64,
     size: usize,
     line: &mut Vec<u8>,
 ) -> Result<(), ReadFault>
-    requires { IsTrue (Y.tells disk.old) → at + size ≤ length (Y.time disk.old).now.seen }
+    requires few { size < 2 ^ 16 }
+    requires within { at + size ≤ len }
+    requires len { IsTrue (Y.tells disk.old) → len ≡ length (Y.time disk.old).now.seen }
+    requires ahead { IsTrue (Y.tells disk.old) → IsAhead (Y.time disk.old).now.seen ahead.old }
     ensures size { OnOk result (length line.new.items ≡ size) }
     ensures answer { IsTrue (Y.tells disk.old) → OnOk result (line.new.items ≡ take size (drop at (Y.time disk.old).now.seen)) }
+    ensures ahead { IsTrue (Y.tells disk.old) → OnOk result (IsAhead (Y.time disk.old).now.seen ahead.new) }
     ensures path { Y.opened disk.new ≡ Y.opened disk.old }
     ensures tells { Y.tells disk.new ≡ Y.tells disk.old }
     ensures still { IsTrue (Y.tells disk.old) → Y.time disk.new ≡ Y.time disk.old }
@@ -73,24 +88,26 @@ fn read_line<Y: Disk>(
     if line.resize(size, 0).is_err() {
         return Err(ReadFault::NoMemory);
     }
-    disk.read_at(at, line.as_mut_slice())?;
-    Ok(())
+    read_ahead(disk, ahead, at, len, line.as_mut_slice())
 }
 
 /// Reads the line of the record at the offset, and says whether there is one that is held. What is behind it begins
-/// three bytes and the line further on.
+/// three bytes and the line further on. What was read ahead is of this file, as it stands: nothing was written since.
 pub fn read_record<Y: Disk>(
     disk: &mut Y,
+    ahead: &mut Ahead,
     at: u64,
     len: u64,
     line: &mut Vec<u8>,
 ) -> Result<bool, ReadFault>
     requires within { at ≤ len }
     requires len { IsTrue (Y.tells disk.old) → len ≡ length (Y.time disk.old).now.seen }
+    requires ahead { IsTrue (Y.tells disk.old) → IsAhead (Y.time disk.old).now.seen ahead.old }
     ensures inside { IfOk result (λ found. found ≡ true → at + 3 + length line.new.items < len) }
     ensures short { IfOk result (λ found. found ≡ true → length line.new.items < 2 ^ 16) }
     ensures next { IsTrue (Y.tells disk.old)
         → IfOk result (λ found. ReadsNext found (Y.time disk.old).now.seen at line.new.items) }
+    ensures ahead { IsTrue (Y.tells disk.old) → OnOk result (IsAhead (Y.time disk.old).now.seen ahead.new) }
     ensures path { Y.opened disk.new ≡ Y.opened disk.old }
     ensures tells { Y.tells disk.new ≡ Y.tells disk.old }
     ensures still { IsTrue (Y.tells disk.old) → Y.time disk.new ≡ Y.time disk.old }
@@ -99,7 +116,7 @@ pub fn read_record<Y: Disk>(
     if len - at < 3 {
         return Ok(false);
     }
-    let (gate, low, high) = read_header(disk, at)?;
+    let (gate, low, high) = read_header(disk, ahead, at, len)?;
     if gate != 1 {
         return Ok(false);
     }
@@ -107,7 +124,7 @@ pub fn read_record<Y: Disk>(
     if len - at - 3 <= size as u64 {
         return Ok(false);
     }
-    read_line(disk, at + 3, size, line)?;
+    read_line(disk, ahead, at + 3, len, size, line)?;
     Ok(true)
 }
 

@@ -9,7 +9,7 @@ ghost use Rattle.store_listing.specs.Listing.{store_text, is_store, size_behind,
 use crate::faults::{ListFault, not_looked_at, not_read};
 use farm_io::{PutEnd, Sink};
 use farm_journal::is_unborn;
-use record_store::{Disk, read_record};
+use record_store::{Ahead, Disk, read_record};
 use std::alloc::Global;
 use stored_events::config_of;
 
@@ -87,10 +87,11 @@ fn show_lines<Y: Disk, K: Sink>(
     ensures still { IsTrue (Y.tells disk.old) → Y.time disk.new ≡ Y.time disk.old }
     ensures cause { HasListCause (Y.faults disk.old) (Y.faults disk.new) (K.faults out.old) (K.faults out.new) result }
 {
+    let mut ahead = Ahead::new(alloc);
     let mut line = Vec::new(alloc);
     let mut at = from;
     'records: loop {
-        match read_record(disk, at, len, &mut line) {
+        match read_record(disk, &mut ahead, at, len, &mut line) {
             Err(read) => return Err(not_read(read)),
             Ok(found) => {
                 if !found {
@@ -232,8 +233,9 @@ fn list_sized<Y: Disk, K: Sink>(
     ensures still { IsTrue (Y.tells disk.old) → Y.time disk.new ≡ Y.time disk.old }
     ensures cause { HasListCause (Y.faults disk.old) (Y.faults disk.new) (K.faults out.old) (K.faults out.new) result }
 {
+    let mut ahead = Ahead::new(alloc);
     let mut config = Vec::new(alloc);
-    match read_record(disk, 0, len, &mut config) {
+    match read_record(disk, &mut ahead, 0, len, &mut config) {
         Err(read) => Err(not_read(read)),
         Ok(found) => {
             if found {

@@ -1,6 +1,7 @@
 use Rattle.std.proofs.Common.{◌≡◌, ◌+◌, ◌<◌, ◌≤◌, ℕ, List, [], Bool, IsTrue, Some, refl, sym, ◌∙◌, ap, subst, length, drop, arith, rules}
 use Rattle.record_store.specs.Model.{DiskTime}
 use Rattle.record_store.specs.Held.{held}
+use Rattle.record_store.specs.Reading.{IsAhead}
 use Rattle.farm_model.specs.State.{State}
 use Rattle.stored_events.specs.Replaying.{ReplaysTo, PlayedTo}
 use Rattle.stored_events.proofs.Replays.{played_first, played_more, played_bad, played_all}
@@ -16,6 +17,7 @@ records-init g c = record {
   tells = refl;
   later = omega arith;
   still = λ told. refl;
+  ahead = λ told. c.new-ahead.ensures (g.Y.Disk.time c.args.disk.now).now.seen;
   played = λ told front is. played_first (g.Y.Disk.time c.args.disk.now).now.seen front (g.P.Player.state c.args.farm.now) c.args.from is;
 }
 
@@ -70,6 +72,9 @@ records-preserved g c =
       still = λ told.
           let told' : IsTrue (g.Y.Disk.tells c.records.disk) = subst (λ (b : Bool). IsTrue b) (sym inv.tells) told in
           c.next_event.ensures.still told' ∙ inv.still told;
+      ahead = λ told.
+          let told' : IsTrue (g.Y.Disk.tells c.records.disk) = subst (λ (b : Bool). IsTrue b) (sym inv.tells) told in
+          subst (λ (s : DiskTime). IsAhead s.now.seen c.next_event.new.ahead) (inv.still told) (c.in-Ok-Played.ensures.ahead told');
       played = λ told front is.
           let told' : IsTrue (g.Y.Disk.tells c.records.disk) = subst (λ (b : Bool). IsTrue b) (sym inv.tells) told in
           let met : Meets t1.now.seen c.records.at line now new next.Played = rw c.in-Ok-Played.field-0-is at (c.in-Ok-Played.ensures.meets told') in

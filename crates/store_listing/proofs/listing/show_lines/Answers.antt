@@ -1,6 +1,7 @@
 use Rattle.std.proofs.Common.{◌≡◌, ◌+◌, ◌<◌, ℕ, List, [], ◌∷◌, ◌++◌, Bool, IsTrue, refl, sym, ◌∙◌, ap, subst, length, drop, arith}
 use Rattle.record_store.specs.Model.{DiskTime}
 use Rattle.record_store.specs.Held.{held, IsNext}
+use Rattle.record_store.specs.Reading.{IsAhead}
 use Rattle.store_listing.specs.Listing.{store_text, Shows, IsListed}
 use Rattle.store_listing.proofs.Listings.{on_err, shown_behind, shown_all, front_behind, listed_more, text_more}
 use Rattle.store_listing.proofs.listing.show_lines.Goals as goal
@@ -13,6 +14,7 @@ records-init g c = record {
   disk_later = omega arith;
   out_later = omega arith;
   still = λ told. refl;
+  ahead = λ told. c.new-ahead.ensures (g.Y.Disk.time c.args.disk.now).now.seen;
   shown = λ told first config is shows. ([], is, shows);
 }
 
@@ -73,6 +75,9 @@ records-preserved g c =
       still = λ told.
           let told1 : IsTrue (g.Y.Disk.tells c.records.disk) = subst (λ (b : Bool). IsTrue b) (sym inv.tells) told in
           c.read_record.ensures.still told1 ∙ inv.still told;
+      ahead = λ told.
+          let told1 : IsTrue (g.Y.Disk.tells c.records.disk) = subst (λ (b : Bool). IsTrue b) (sym inv.tells) told in
+          subst (λ (s : DiskTime). IsAhead s.now.seen c.read_record.new.ahead) (inv.still told) (c.in-Ok.ensures.ahead told1);
       shown = λ told first config is shows.
           let told1 : IsTrue (g.Y.Disk.tells c.records.disk) = subst (λ (b : Bool). IsTrue b) (sym inv.tells) told in
           let so_far = inv.shown told first config is shows in
