@@ -1,10 +1,10 @@
 #!/usr/bin/env python3
 """Plays scripts over stores, kills the program, breaks files, and looks at what a store holds.
 
-    tests/store.py [PROGRAM [SEED]]
+    tests/store.py [PROGRAM] [SEED [KILLS]]
 
-PROGRAM is the built program, `crates/farm/out/farm` of this repository if none is given. The file of a store and what opening it
-does are written here once more, apart from the program; `farm_model` answers the lines. One line is printed for each look, and the
+PROGRAM is the built program, `crates/farm/out/farm` of this repository if none is given. It is killed 300 times, or as often as KILLS
+says. The file of a store and what opening it does are written here once more, apart from the program; `farm_model` answers the lines. One line is printed for each look, and the
 status is 1 where one shows something else than is wanted. A look that the machine does not allow is named as skipped.
 """
 
@@ -146,9 +146,53 @@ def text_of(replies):
     return "".join(reply + "\n" for reply in replies).encode()
 
 
-def is_told(got, status, *words, written=b""):
-    """It ended so, and told a person why in one line with these words."""
-    return got[:2] == (status, written) and got[2].count(b"\n") == 1 and all(word in got[2] for word in words)
+def is_told(got, status, line, written=b""):
+    """It ended so, and told a person why by this line."""
+    return got == (status, written, line.encode())
+
+
+# What a person is told.
+
+GOES_ON = "; what was answered is stored, and the next call with this store goes on from there\n"
+UNWRITTEN = "; nothing was written to it\n"
+UNREAD = "; nothing was written to it, and no line was read\n"
+
+
+def unusable(path, reason, behind=GOES_ON):
+    return f"farm: the store cannot be used: {path}: {reason}{behind}"
+
+
+def failing(path):
+    return f"farm: the store {path} could not be read or written (is the disk full?){GOES_ON}"
+
+
+def no_store(path):
+    return f"farm: {path} is no store: it does not begin with the record of a configuration{UNWRITTEN}"
+
+
+def changed(path, number):
+    return (
+        f"farm: record {number} of {path} is no event that this farm would have stored there, so the file was changed; "
+        f"'farm store {path}' writes its records, the {number}th as line {number}{UNREAD}"
+    )
+
+
+def begun_otherwise(path, digest):
+    if digest == hashlib.sha256(b"").hexdigest():
+        return f"farm: {path} was begun without --config, and goes on without it alone{UNREAD}"
+    return f"farm: {path} was begun with another --config FILE: one whose SHA-256 digest is {digest} (compare 'sha256sum FILE'){UNREAD}"
+
+
+def unfinished(path, size):
+    return f"note: {path}: behind its last record stand {size} bytes of one that was not finished, and that is not held\n"
+
+
+def flaw_of(path, data, answer):
+    """What is told of a file for which opening answers this line."""
+    if answer == b"bad store: other config\n":
+        return begun_otherwise(path, held(data)[0][0][7:].decode())
+    number = int(answer.split()[-1])
+    return no_store(path) if number == 1 else changed(path, number)
 
 
 QUESTIONS = ["board", "audit"] + [f"show {number}" for number in range(1, 30)] + [f"matrix {number}" for number in range(1, 5)]
@@ -188,19 +232,21 @@ def plays_on(program, folder, seed, count=40):
 
 
 class Client:
-    """Writes lines to a program piece by piece, and reads the replies, until the program is killed."""
+    """Writes lines to a program piece by piece, and reads the replies, until the program is killed. Before each piece it waits for so
+    many bytes of replies to the lines before it."""
 
-    def __init__(self, program, words, lines, sizes):
+    def __init__(self, program, words, lines, sizes, awaited):
         self.run = subprocess.Popen([program, *words], stdin=subprocess.PIPE, stdout=subprocess.PIPE, stderr=subprocess.PIPE)
-        self.text = b""
-        self.threads = [threading.Thread(target=self.write, args=(lines, sizes)), threading.Thread(target=self.read)]
+        self.text, self.ended, self.heard = b"", False, threading.Condition()
+        self.threads = [threading.Thread(target=self.write, args=(lines, sizes, awaited)), threading.Thread(target=self.read)]
         for thread in self.threads:
             thread.start()
 
-    def write(self, lines, sizes):
+    def write(self, lines, sizes, awaited):
         at = 0
         try:
             while at < len(lines):
+                self.wait(sum(awaited[:at]))
                 size = next(sizes)
                 self.run.stdin.write(b"".join(line.encode() + b"\n" for line in lines[at : at + size]))
                 self.run.stdin.flush()
@@ -210,7 +256,17 @@ class Client:
 
     def read(self):
         while piece := self.run.stdout.read1(65536):
-            self.text += piece
+            with self.heard:
+                self.text += piece
+                self.heard.notify_all()
+        with self.heard:
+            self.ended = True
+            self.heard.notify_all()
+
+    def wait(self, count, seconds=None):
+        """Waits until so many bytes were read, or for so long."""
+        with self.heard:
+            self.heard.wait_for(lambda: self.ended or len(self.text) >= count, seconds)
 
     def kill(self):
         self.run.send_signal(signal.SIGKILL)
@@ -236,42 +292,74 @@ def replayed(kept, lines):
     return played.lines, all_replies, counts
 
 
-def kills(program, folder, seed, rounds=100):
-    """A client that reads replies; the program is killed at any moment, and played on from what its store holds."""
-    draw, wrong, acknowledged, ends = random.Random(f"kills {seed}"), [], 0, 0
-    store, turn, lines = os.path.join(folder, "killed"), seed * 1000, []
-    for number in range(rounds):
-        if not lines:
-            turn += 1
-            _, lines, _ = random_script(turn)
-            texts, replies, counts = replayed({}, lines)
-            at, first = 0, 1
-            if os.path.exists(store):
-                os.remove(store)
-        largest = draw.choice([1, 3, 40])
-        client = Client(program, ["script", "--store", store], lines[at:], iter(lambda: draw.randrange(1, largest + 1), 0))
-        time.sleep(draw.random() * draw.choice([0.01, 0.05, 0.2]))
+class Killed:
+    """Scripts that are played one after the other by a client, and a program that is killed while it does."""
+
+    def __init__(self, program, folder, seed):
+        self.program, self.store = program, os.path.join(folder, f"killed {seed}")
+        self.draw, self.turn = random.Random(f"kills {seed}"), seed * 1000
+        self.lines, self.wrong, self.acknowledged, self.lost, self.ends = [], [], 0, 0, 0
+
+    def begin(self):
+        """The next script."""
+        self.turn += 1
+        _, self.lines, _ = random_script(self.turn)
+        self.texts, self.replies, self.counts = replayed({}, self.lines)
+        self.at, self.first = 0, 1
+        if os.path.exists(self.store):
+            os.remove(self.store)
+
+    def kill(self):
+        """Plays on until a moment that is drawn, and looks at what the store holds."""
+        if not self.lines:
+            self.begin()
+        largest = self.draw.choice([1, 3, 40])
+        sizes = iter(lambda: self.draw.randrange(1, largest + 1), 0)
+        replies = [len(text_of(line)) for line in self.replies[self.at :]]
+        awaited = self.draw.choice([replies, replies, [0] * len(replies)])
+        client = Client(self.program, ["script", "--store", self.store], self.lines[self.at :], sizes, awaited)
+        client.wait(self.draw.randrange(sum(replies) + 1), self.draw.choice([0.01, 0.1, 1]))
+        time.sleep(self.draw.choice([0, self.draw.random() * 0.002]))
         text, said = client.kill()
-        data = read(store) if os.path.exists(store) else b""
-        now = held(data)[0]
+        now = held(read(self.store) if os.path.exists(self.store) else b"")[0]
         # what the client read is a front of the replies, and each event to whose reply a part of it belongs is held
-        wanted, count, reached = b"", first, at
-        while len(wanted) < len(text) and reached < len(lines):
-            wanted += text_of(replies[reached])
-            count = counts[reached]
+        wanted, count, reached = b"", self.first, self.at
+        while len(wanted) < len(text) and reached < len(self.lines):
+            wanted += text_of(self.replies[reached])
+            count = self.counts[reached]
             reached += 1
-        sound = wanted.startswith(text) and now == texts[: len(now)] and (len(now) >= count or not text and len(now) in (0, first))
-        if not sound or said:
-            wrong.append((number, turn, len(now), count, said, text[-100:]))
-            lines = []
-            continue
-        acknowledged += count - first
+        none = not text and len(now) in (0, self.first)
+        if said or not wanted.startswith(text) or now != self.texts[: len(now)] or not (len(now) >= count or none):
+            self.wrong.append((self.turn, len(now), count, said, text[-100:]))
+            self.lines = []
+            return
+        self.acknowledged += count - self.first
+        self.lost += reached < len(self.lines)
         # goes on behind the last line whose event is held
-        first = max(len(now), 1)
-        at = next((place for place, count in enumerate(counts) if count > first), len(lines))
-        if at == len(lines):
-            ends, lines = ends + 1, []
-    yield f"killed {rounds} times, {acknowledged} events acknowledged, {ends} scripts ended", not wrong and acknowledged > 100, wrong[:2]
+        self.first = max(len(now), 1)
+        self.at = next((place for place, count in enumerate(self.counts) if count > self.first), len(self.lines))
+        if self.at == len(self.lines):
+            self.ends, self.lines = self.ends + 1, []
+
+    def run(self, rounds):
+        for _ in range(rounds):
+            self.kill()
+
+
+def kills(program, folder, seed, rounds):
+    """Clients that read replies and remember them; the program of each is killed at any moment, and played on from what its store
+    holds. One half of the stores is in memory, the other on the machine's disk."""
+    with tempfile.TemporaryDirectory(dir="/dev/shm" if os.path.isdir("/dev/shm") else None) as quick:
+        clients = [Killed(program, [folder, quick][number % 2], seed * 10 + number) for number in range(6)]
+        threads = [threading.Thread(target=client.run, args=(-(-rounds // len(clients)),)) for client in clients]
+        for thread in threads:
+            thread.start()
+        for thread in threads:
+            thread.join()
+    wrong = [found for client in clients for found in client.wrong]
+    acknowledged, lost, ends = (sum(getattr(client, name) for client in clients) for name in ("acknowledged", "lost", "ends"))
+    name = f"killed {rounds} times, {lost} of them within a script; {acknowledged} events acknowledged, {ends} scripts ended"
+    yield name, not wrong and acknowledged > rounds and lost * 2 > rounds, wrong[:2]
 
 
 SMALL = b"problem A 1\nsubmit A\n@ann rejudge\nrecord 1 1 correct\ntick 5\n@ann rejudge 1\n"
@@ -291,7 +379,7 @@ def look_at(program, path, data):
     answer, then = opened(data)
     got = script(program, path, b"audit\nboard\n")
     if isinstance(answer, bytes):
-        good = is_told(got, 13, path.encode(), written=answer)
+        good = is_told(got, 13, flaw_of(path, data, answer), written=answer)
     else:
         good = got == (0, text_of(answer.answer(b"audit") + answer.answer(b"board")), b"")
     if good and read(path) == then:
@@ -307,10 +395,9 @@ def look_at_list(program, path, data):
     if lines and is_config(lines[0]) or not lines and is_unborn(data):
         text = b"# " + b"".join(line + b"\n" for line in lines) if lines else b""
         rest = len(data) - at - 1
-        said = got[2].count(b"\n") == 1 and b" %d bytes" % rest in got[2] if rest > 0 else got[2] == b""
-        good = got[:2] == (0, text) and said
+        good = got == (0, text, unfinished(path, rest).encode() if rest > 0 else b"")
     else:
-        good = is_told(got, 13, path.encode(), written=b"bad store: record 1\n")
+        good = is_told(got, 13, no_store(path), written=b"bad store: record 1\n")
     return None if good and read(path) == data else (data, got, read(path))
 
 
@@ -350,18 +437,30 @@ def configurations(program, folder):
     data = read(store)
     yield "settings of a file", got[0] == 0 and held(data)[0] == [config_line(b'{"lease": 7}'), b"problem A 1"], (got, data)
     got = script(program, store, b"problem B 1\n", two)
-    good = is_told(got, 13, hashlib.sha256(read(one)).hexdigest().encode(), written=b"bad store: other config\n")
+    begun = begun_otherwise(store, hashlib.sha256(read(one)).hexdigest())
+    good = is_told(got, 13, begun, written=b"bad store: other config\n")
     yield "the same settings in other bytes", good and read(store) == data, got
     got = script(program, store, b"problem B 1\n")
-    yield "none", is_told(got, 13, b"--config", written=b"bad store: other config\n") and read(store) == data, got
+    yield "none", is_told(got, 13, begun, written=b"bad store: other config\n") and read(store) == data, got
     got = script(program, store, b"problem B 1\n", one)
     yield "these again", got == (0, b"problem B version 1\n", b"") and len(held(read(store))[0]) == 3, got
     fresh = os.path.join(folder, "never")
     got = script(program, fresh, b"problem A 1\n", none)
-    yield "a file of settings that is not there", is_told(got, 3, b"none.json", written=b"bad contest: no config\n") and not os.path.exists(fresh), got
+    good = got[:2] == (3, b"bad contest: no config\n") and got[2].count(b"\n") == 1 and none.encode() in got[2]
+    yield "a file of settings that is not there", good and not os.path.exists(fresh), got
     script(program, fresh, b"problem A 1\n")
     got = script(program, fresh, b"", one)
-    yield "begun without", is_told(got, 13, b"without --config", written=b"bad store: other config\n"), got
+    begun = begun_otherwise(fresh, hashlib.sha256(b"").hexdigest())
+    yield "begun without", is_told(got, 13, begun, written=b"bad store: other config\n"), got
+
+
+MISSING, DENIED = "No such file or directory (os error 2)", "Permission denied (os error 13)"
+DEVICE = "it is a pipe, a socket or a device, and a file is wanted"
+
+
+def are_unusable(got, listed, path, reason):
+    """Both a script on the store and its listing ended so, and told why."""
+    return is_told(got, 12, unusable(path, reason)) and is_told(listed, 12, unusable(path, reason, UNWRITTEN))
 
 
 def as_nobody():
@@ -371,21 +470,21 @@ def as_nobody():
 
 
 def no_files(program, folder):
-    for name, path, word in [
-        ("a folder", folder, b"folder"),
-        ("a folder that is not there", os.path.join(folder, "no", "store"), b"No such file"),
-        ("a device", "/dev/null", b"device"),
-        ("below a file", os.path.join(folder, "small", "store"), b"Not a directory"),
+    for name, path, reason in [
+        ("a folder", folder, "it is a folder, and a file is wanted"),
+        ("a folder that is not there", os.path.join(folder, "no", "store"), MISSING),
+        ("a device", "/dev/null", DEVICE),
+        ("below a file", os.path.join(folder, "small", "store"), "Not a directory (os error 20)"),
     ]:
         got, listed = script(program, path, b"problem A 1\n"), run(program, ["store", path])
-        yield f"the store is {name}", is_told(got, 12, path.encode(), word) and is_told(listed, 12, path.encode(), word), (got, listed)
+        yield f"the store is {name}", are_unusable(got, listed, path, reason), (got, listed)
     pipe = os.path.join(folder, "pipe")
     os.mkfifo(pipe)
     got, listed = script(program, pipe, b"problem A 1\n"), run(program, ["store", pipe])
-    yield "the store is a pipe", is_told(got, 12, b"pipe") and is_told(listed, 12, b"pipe"), (got, listed)
+    yield "the store is a pipe", are_unusable(got, listed, pipe, DEVICE), (got, listed)
     missing = os.path.join(folder, "missing")
     got = run(program, ["store", missing])
-    yield "the lines of a store that is not there", is_told(got, 12, b"missing", b"No such file") and not os.path.exists(missing), got
+    yield "the lines of a store that is not there", is_told(got, 12, unusable(missing, MISSING, UNWRITTEN)) and not os.path.exists(missing), got
     data = small_file(program, folder)
     path = os.path.join(folder, "small")
     os.chmod(folder, 0o755)
@@ -397,14 +496,15 @@ def no_files(program, folder):
         return
     os.chmod(path, 0o444)
     got, listed = script(program, path, b"tick 9\n", **user), run(program, ["store", path], **user)
-    good = is_told(got, 12, b"Permission denied") and listed[0] == 0 and listed[1].count(b"\n") == len(held(data)[0])
+    good = is_told(got, 12, unusable(path, DENIED)) and listed[0] == 0 and listed[1].count(b"\n") == len(held(data)[0])
     yield "a file that may be read alone", good and read(path) == data, (got, listed)
     os.chmod(path, 0o000)
     got, listed = script(program, path, b"tick 9\n", **user), run(program, ["store", path], **user)
-    yield "a file that may not be read", is_told(got, 12, b"Permission denied") and is_told(listed, 12, b"Permission denied"), (got, listed)
     os.chmod(path, 0o644)
-    got = script(program, os.path.join(folder, "new"), b"tick 9\n", **user)
-    good = is_told(got, 12) or os.geteuid() != 0 and got[0] == 0
+    yield "a file that may not be read", are_unusable(got, listed, path, DENIED) and read(path) == data, (got, listed)
+    new = os.path.join(folder, "new")
+    got = script(program, new, b"tick 9\n", **user)
+    good = is_told(got, 12, unusable(new, MISSING)) and not os.path.exists(new) or os.geteuid() != 0 and got[0] == 0
     yield "a folder in which no file may be made", good, got
 
 
@@ -424,7 +524,7 @@ def fills(program, folder):
         got = script(program, store, "\n".join(MANY).encode(), **more)
         now = held(read(store))[0]
         answered = 1 + got[1].count(b"\n")
-        good = got[0] == 12 and got[2].count(b"\n") == 1 and whole.startswith(got[1]) and answered <= len(now) and now == texts[: len(now)]
+        good = got[0] == 12 and got[2] == failing(store).encode() and whole.startswith(got[1]) and answered <= len(now) and now == texts[: len(now)]
         return good and len(now) > 20, got, len(now)
 
     store = os.path.join(folder, "few")
@@ -457,7 +557,7 @@ def at_once(program, folder):
     answered = first.stdout.readline()
     data = read(store)
     got, listed = script(program, store, b"problem B 1\n"), run(program, ["store", store])
-    good = answered == b"problem A version 1\n" and is_told(got, 12, b"another program") and is_told(listed, 12, b"another program")
+    good = answered == b"problem A version 1\n" and are_unusable(got, listed, store, "another program has it open as a store")
     yield "two programs at once", good and read(store) == data, (got, listed)
     rest = first.communicate(b"submit A\n")[0]
     yield "and the first one goes on", rest == b"submission 1 judging 1\n" and first.returncode == 0, rest
@@ -487,7 +587,7 @@ def streams(program, folder):
     yield "a path without a folder", relative[0] == 0 and os.path.exists(os.path.join(folder, "here")), relative
 
 
-def looks(program, folder, seed):
+def looks(program, folder, seed, killed):
     yield from streams(program, folder)
     yield from configurations(program, folder)
     yield from at_once(program, folder)
@@ -495,14 +595,15 @@ def looks(program, folder, seed):
     yield from no_files(program, folder)
     yield from fills(program, folder)
     yield from plays_on(program, folder, seed)
-    yield from kills(program, folder, seed)
+    yield from kills(program, folder, seed, killed)
 
 
 def main():
     program, numbers = program_and_numbers(sys.argv[1:])
+    seed, killed = (numbers + [1, 300][len(numbers) :])[:2]
     sound = True
     with tempfile.TemporaryDirectory() as folder:
-        for name, good, got in looks(program, folder, (numbers or [1])[0]):
+        for name, good, got in looks(program, folder, seed, killed):
             print(f"{'ok  ' if good else 'NOT '} {name}{'' if good else f': {got}'}", flush=True)
             sound = sound and good
     return 0 if sound else 1
