@@ -6,14 +6,17 @@
 PROGRAM is the built program, `crates/farm/out/farm` of this repository if none is given. EVENTS events, 2,000 if not said, are
 stored by the program and, in turn, by Python's `sqlite3` (journal in WAL, synchronous FULL, a transaction an event), on the machine's
 disk and in /dev/shm: events a second and the ratio. Then a store of RECORDS events, 1,000,000 if not said, is opened, beside `farm
-script` that reads the same lines without a store: seconds and the most memory.
+script` that reads the same lines without a store, and listed: seconds of the processor and by the clock, and the most memory.
 """
 
 import os
+import select
+import shutil
 import sqlite3
 import subprocess
 import sys
 import tempfile
+import threading
 import time
 
 sys.dont_write_bytecode = True
@@ -81,35 +84,64 @@ def both(program, name, parent, count):
     print(f"{name}: {best:,.0f} events a second; SQLite {peer:,.0f}; ratio {best / peer:.2f}", flush=True)
 
 
-def timed(words, text):
-    """Seconds, the most memory in MiB, and standard output."""
-    with tempfile.TemporaryFile() as lines:
-        lines.write(text)
-        lines.seek(0)
+def timed(words, source):
+    """Seconds of the processor and by the clock."""
+    with open(source, "rb") as lines, tempfile.TemporaryFile() as out:
         begun = time.monotonic()
-        run = subprocess.Popen(words, stdin=lines, stdout=subprocess.PIPE)
-        out = run.stdout.read()
+        run = subprocess.Popen(words, stdin=lines, stdout=out)
         _, status, used = os.wait4(run.pid, 0)
-        run.returncode = status
         took = time.monotonic() - begun
+    run.returncode = os.waitstatus_to_exitcode(status)
     if status:
         sys.exit(f"{words} ended with {status}")
-    return took, used.ru_maxrss / 1024, out
+    return used.ru_utime + used.ru_stime, took
+
+
+def most_memory(words, source):
+    """The most memory, in MiB, that is seen while all that it writes is read, and before its input ends."""
+    run = subprocess.Popen(words, stdin=subprocess.PIPE, stdout=subprocess.PIPE)
+
+    def feed():
+        with open(source, "rb") as lines:
+            shutil.copyfileobj(lines, run.stdin, 65536)
+        run.stdin.flush()
+
+    feeder = threading.Thread(target=feed)
+    feeder.start()
+    most, quiet = 0, 0
+    while quiet < 20:
+        ready, _, _ = select.select([run.stdout], [], [], 0.05)
+        quiet = 0 if ready else quiet + (not feeder.is_alive())
+        with open(f"/proc/{run.pid}/status") as rows:
+            most = max([most] + [int(row.split()[1]) for row in rows if row.startswith("VmHWM:")])
+        if ready and not os.read(run.stdout.fileno(), 65536):
+            break
+    feeder.join()
+    run.communicate()
+    return most / 1024
 
 
 def opened(program, count):
     lines = lines_of(count)
     with tempfile.TemporaryDirectory() as folder:
-        path = os.path.join(folder, "store")
-        with open(path, "wb") as file:
-            file.write(file_of([config_line(), *lines]))
-        size = os.path.getsize(path)
-        opening = min(timed([program, "script", "--store", path], b"audit\n")[:2] for _ in range(ROUNDS))
-        reading = min(timed([program, "script"], b"\n".join(lines) + b"\n")[:2] for _ in range(ROUNDS))
-        listing = min(timed([program, "store", path], b"")[:2] for _ in range(ROUNDS))
-    print(f"a store of {len(lines):,} events, {size:,} bytes, is opened in {opening[0]:.2f} s with {opening[1]:.0f} MiB at most")
-    print(f"its lines are read and answered without a store in {reading[0]:.2f} s with {reading[1]:.0f} MiB: ratio {reading[0] / opening[0]:.2f}")
-    print(f"it is listed in {listing[0]:.2f} s with {listing[1]:.0f} MiB")
+        path, plain, asked = (os.path.join(folder, name) for name in ("store", "lines", "asked"))
+        for name, data in [(path, file_of([config_line(), *lines])), (plain, b"\n".join(lines) + b"\n"), (asked, b"audit\n")]:
+            with open(name, "wb") as file:
+                file.write(data)
+        print(f"a store of {len(lines):,} events, {os.path.getsize(path):,} bytes; seconds of the processor, and by the clock:")
+        runs = [
+            ("it is opened", [program, "script", "--store", path], asked),
+            ("its lines are read and answered without a store", [program, "script"], plain),
+            ("it is listed", [program, "store", path], os.devnull),
+        ]
+        took = {name: [] for name, _, _ in runs}
+        for _ in range(ROUNDS):
+            for name, words, source in runs:
+                took[name].append(timed(words, source))
+        for name, words, source in runs:
+            print(f"  {name}: {min(took[name])[0]:.2f} s, {min(time for _, time in took[name]):.2f} s, {most_memory(words, source):.1f} MiB")
+        ratio = min(took[runs[1][0]])[0] / min(took[runs[0][0]])[0]
+    print(f"  the ratio of reading to opening: {ratio:.2f}")
 
 
 def main():
