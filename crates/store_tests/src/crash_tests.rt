@@ -10,8 +10,8 @@ use std::test::Fail;
 
 const CONFIG: [u8; 32] = [7; 32];
 
-/// How many calls of the disk the rows below take at most.
-const CALLS: u64 = 400;
+/// How many calls of the disk the rows below take: 54 writes and syncs, and 46 others.
+const CALLS: u64 = 100;
 
 /// Lines of a rejudging, a row each, and behind `=>` the board once the line and those before it were answered. `~` is a
 /// line feed.
@@ -114,9 +114,19 @@ enum Fill {
     New,
     Zeros,
     Ones,
+    Drawn,
 }
 
-const FILLS: [Fill; 4] = [Fill::Old, Fill::New, Fill::Zeros, Fill::Ones];
+const FILLS: [Fill; 5] = [Fill::Old, Fill::New, Fill::Zeros, Fill::Ones, Fill::Drawn];
+
+/// Puts bytes that are drawn, from this number on, in place of these.
+fn draw(bytes: &mut Vec<u8>, number: usize) {
+    let mut drawn = (number % 65_536) as u32;
+    for byte in bytes.iter_mut() {
+        drawn = drawn.wrapping_mul(1_664_525).wrapping_add(1_013_904_223);
+        *byte = (drawn / 16_777_216) as u8;
+    }
+}
 
 /// What a crash may leave, of this length.
 fn image_of(
@@ -132,6 +142,7 @@ fn image_of(
         Fill::New => {}
         Fill::Zeros => filled.fill(0),
         Fill::Ones => filled.fill(1),
+        Fill::Drawn => draw(&mut filled, len),
     }
     overlay(&mut image, standing.at, filled.as_slice())?;
     image.resize(len, 0)?;
@@ -192,14 +203,11 @@ fn check_stopped_at(rt: &impl Abort, alloc: Global, call: u64) -> Result<bool, N
 #[test]
 fn every_crash_opens_to_a_front(rt: HostRuntime) -> Result<(), Fail> {
     let mut stopped = 0u64;
-    for call in 0..CALLS {
+    for call in 0..CALLS.saturating_add(1) {
         if check_stopped_at(&rt, rt.alloc(), call)? {
             stopped = stopped.saturating_add(1);
         }
     }
-    assert!(rt;
-        100 < stopped && stopped < CALLS,
-        "stopped at {stopped} calls"
-    );
+    assert_eq!(rt; stopped, CALLS, "stopped at {stopped} calls");
     Ok(())
 }

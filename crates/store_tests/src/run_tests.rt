@@ -100,8 +100,8 @@ fn a_sync_that_fails_ends_the_run(rt: HostRuntime) -> Result<(), Fail> {
         "a problem",
     )?;
     let bytes = disk.bytes().to_vec(alloc)?;
-    // The store is opened by a sync, a length and five readings. Then come a write and its sync, the ninth call.
-    let failing = [8u64].as_slice().to_vec(alloc)?;
+    // The store is opened by a sync, a length and three readings. Then come a write and its sync, the seventh call.
+    let failing = [6u64].as_slice().to_vec(alloc)?;
     let mut faulty = MemoryDisk::new(alloc, bytes, failing)?;
     let fault = Ran::Ended(StoredEnd::StoreFault);
     check_played(
