@@ -1,5 +1,5 @@
 #!/usr/bin/env python3
-"""Runs `farm host` against servers that lie, and against `farm serve` with hosts that are killed.
+"""Runs `farm host` against servers that lie, behind a proxy, and against `farm serve` with hosts that are killed.
 
     tests/host.py [PROGRAM [SEED [LIES [KILLS [CONTEST]]]]]
 
@@ -135,6 +135,8 @@ def host(program, port, *words, name="h1", fuel=9, address="127.0.0.1", **more):
     """The status, standard output and standard error of a host."""
     command = [program, "host", address, "--port", str(port), "--name", name, "--fuel", str(fuel), *words]
     done = subprocess.run(command, capture_output=True, timeout=60, check=False, **more)
+    if any(secret in done.stdout + done.stderr for secret in [PASSWORD.encode(), LOGIN.split(b" ")[-1]]):
+        sys.exit(f"the password was said: {done}")
     return done.returncode, done.stdout, done.stderr
 
 
@@ -372,14 +374,19 @@ def random_lies(program, seed, count):
     yield f"{count} talks of which bytes were spoiled", not wrong, wrong[:2]
 
 
+PASSWORD = "open sesame: 7"
+LOGIN = b"authorization: Basic " + base64.b64encode(b"north:" + PASSWORD.encode())
+
+
 class Proxy(http.server.ThreadingHTTPServer):
-    """A proxy before a server, which keeps the reply to each result that is posted."""
+    """A proxy before a server, which lets through whoever says the user and the password that it wants, if it wants any. It
+    keeps the reply to each result that is posted."""
 
     daemon_threads = True
 
-    def __init__(self, port):
+    def __init__(self, port, wanted=None, status=401):
         super().__init__(("127.0.0.1", 0), Passing)
-        self.behind, self.replies = port, []
+        self.behind, self.wanted, self.status, self.replies, self.refused = port, wanted, status, [], 0
         self.port = self.server_address[1]
         self.thread = threading.Thread(target=self.serve_forever, daemon=True)
 
@@ -410,6 +417,9 @@ class Passing(http.server.BaseHTTPRequestHandler):
 
     def pass_on(self):
         body = self.rfile.read(int(self.headers.get("content-length", 0)))
+        if self.server.wanted and self.headers.get_all("authorization") != [self.server.wanted]:
+            self.server.refused += 1
+            return self.answer(self.server.status, "text/html", b"<html>no</html>")
         status, data = self.asked(body)
         if self.path == "/judgehosts/add-judging-run":
             result = json.loads(body)
@@ -428,6 +438,8 @@ class Passing(http.server.BaseHTTPRequestHandler):
 
     def answer(self, status, kind, data):
         self.send_response(status)
+        if status == 401:
+            self.send_header("www-authenticate", 'Basic realm="farm"')
         self.send_header("content-type", kind)
         self.send_header("content-length", str(len(data)))
         self.end_headers()
@@ -437,6 +449,60 @@ class Passing(http.server.BaseHTTPRequestHandler):
 
     def log_message(self, *_):
         """Nothing is to be said of a request."""
+
+
+def passwords(program, folder):
+    """What a host says of the user and the password, and what it does where it has none."""
+    path = os.path.join(folder, "password")
+
+    def kept(data):
+        with open(path, "wb") as file:
+            file.write(data)
+        return ["--user", "north", "--password-file", path]
+
+    wanted = requests_with(LOGIN + b"\r\n")
+    for name, end in [("", b""), (" and LF", b"\n"), (" and CR LF", b"\r\n")]:
+        got, requests = met(program, TALK, *kept(PASSWORD.encode() + end))
+        yield f"a password{name}: each request says it", is_done(got, b"host h1 claims 2 posted 1 idle") and requests == wanted, (got, requests)
+    long = b"x" * 1024
+    got, requests = met(program, TALK, *kept(long))
+    said = b"authorization: Basic " + base64.b64encode(b"north:" + long) + b"\r\n"
+    yield "a password of 1024 bytes", got[0] == 0 and requests == requests_with(said), (got, requests)
+    for name, data, word in [
+        ("no byte", b"", b"empty"),
+        ("a line's end alone", b"\r\n", b"empty"),
+        ("1025 bytes", long + b"x", b"too long"),
+        ("more than a file may have", bytes((16 << 20) + 1), b"too long"),
+        ("two lines", b"a\nb\n", b"control character"),
+        ("a DEL", b"a\x7fb", b"control character"),
+        ("no file", None, b"no file"),
+    ]:
+        words = kept(data or b"")
+        if data is None:
+            os.remove(path)
+        got, requests = met(program, TALK, *words)
+        good = got[0] == 3 and got[1] == b"bad password: " + word + b"\n" and got[2].count(b"\n") == 1 and path.encode() in got[2] and not requests
+        yield f"a password's file with {name}", good, (got, requests)
+    got, requests = met(program, TALK, "--user", "north", "--password-file", "/proc/self/mem")
+    yield "a password's file that cannot be read", is_refused(got, 7) and b"/proc/self/mem" in got[2] and not requests, (got, requests)
+    for words in [["--user", "north"], ["--password-file", path], ["--user", "no:rth", "--password-file", path], ["--user", "no\trth", "--password-file", path]]:
+        got = host(program, 1, *words)
+        yield f"words {words[:3:2]}", got[0] == 2 and got[1] == b"" and b"Usage: farm host" in got[2], got
+    verdicts = contest(program, os.path.join(folder, "proxied"), 60)
+    right, wrong = kept(PASSWORD.encode()), [*kept(PASSWORD.encode())[:-1], os.path.join(folder, "wrong")]
+    with open(wrong[-1], "w") as file:
+        file.write("another one")
+    with Server(program, os.path.join(folder, "proxied")) as server:
+        for status in [401, 403]:
+            with Proxy(server.port, LOGIN.decode().partition(" ")[2], status) as proxy:
+                for name, words in [("without a password", []), ("with a wrong one", wrong)]:
+                    got = host(program, proxy.port, *words, fuel=100_000)
+                    good = is_refused(got, 11) and str(status).encode() in got[2] and proxy.refused == 1 and not proxy.replies
+                    yield f"a proxy that answers {status} to a host {name}", good, (got, proxy.refused)
+                    proxy.refused = 0
+                got = host(program, proxy.port, *right, fuel=100_000)
+                yield f"the same proxy, and a host with its password: {got[1].decode().strip()}", got[0] == 0 and got[1].endswith(b" idle\n"), got
+        yield "the contest behind it", table_of(ask(server.client(), "GET", "/board")[1]) == verdicts, verdicts
 
 
 def nobody(program):
@@ -561,6 +627,7 @@ def looks(program, folder, numbers, of):
     seed, lies_count, kills = (numbers + [1, 200, 40][len(numbers) :])[:3]
     yield from talks(program)
     yield from nobody(program)
+    yield from passwords(program, folder)
     yield from lies(program)
     yield from cuts(program)
     yield from random_lies(program, seed, lies_count)

@@ -3,7 +3,7 @@
 //! Where standard error cannot be written, nobody can be told.
 use crate::stores::{explain_flaw, explain_full, explain_listing, explain_store_fault};
 use crate::unread::{Watched, unread_reason};
-use command_line::Command;
+use command_line::{Command, Login};
 use contest_notes::{contest_reason, file_reason};
 use exit_status::Exit;
 use record_store::Access;
@@ -27,7 +27,12 @@ pub(crate) fn explain(rt: &HostRuntime, exit: Exit, command: &Command<'_>) {
             port,
             ..
         } => explain_serving(rt, exit, folder, *address, *port),
-        Command::Host { address, port, .. } => explain_hosting(rt, exit, address, *port),
+        Command::Host {
+            address,
+            port,
+            login,
+            ..
+        } => explain_hosting(rt, exit, address, *port, *login),
     };
 }
 
@@ -132,8 +137,15 @@ fn explain_serving(
     }
 }
 
-fn explain_hosting(rt: &HostRuntime, exit: Exit, address: &str, port: u16) -> io::Result<()> {
+fn explain_hosting(
+    rt: &HostRuntime,
+    exit: Exit,
+    address: &str,
+    port: u16,
+    login: Option<Login<'_>>,
+) -> io::Result<()> {
     match exit {
+        Exit::BadContest | Exit::TreeFault => explain_password(rt, exit, login),
         Exit::WriteFault => rt.eprintln(
             "farm: standard output could not be written (is the disk full, or its reader gone?); what was run was posted",
         ),
@@ -143,13 +155,52 @@ fn explain_hosting(rt: &HostRuntime, exit: Exit, address: &str, port: u16) -> io
         Exit::LinkFault => eprintln!(rt;
             "farm: no connection to port {port} of {address}, or it broke off or was silent for a minute: is 'farm serve' running there, and can it be reached?"
         ),
-        Exit::BadAnswer { wrong } => explain_answer(rt, wrong, address, port),
+        Exit::BadAnswer { wrong } => explain_answer(rt, wrong, address, port, login.is_some()),
         _ => Ok(()),
     }
 }
 
+/// Says why the file of a login gives no password. The password itself is never told.
+fn explain_password(rt: &HostRuntime, exit: Exit, login: Option<Login<'_>>) -> io::Result<()> {
+    let Some(login) = login else {
+        return Ok(());
+    };
+    let file = login.password_file;
+    if let Exit::BadContest = exit {
+        return eprintln!(rt;
+            "farm: {file} holds no password: wanted are 1 to 1024 bytes without control characters, and perhaps a line end; nothing was connected"
+        );
+    }
+    match unread_reason(rt, file)? {
+        Some(reason) => eprintln!(rt;
+            "farm: the password cannot be read: {reason}; nothing was connected"
+        ),
+        None => eprintln!(rt;
+            "farm: {file} could not be read, for a reason that is gone by now; nothing was connected"
+        ),
+    }
+}
+
+/// Says what a status means that a proxy gives who has no leave.
+fn explain_refusal(rt: &HostRuntime, code: u16, has_login: bool) -> io::Result<()> {
+    if has_login {
+        return eprintln!(rt;
+            "its status is {code}: a proxy there refuses the user or the password"
+        );
+    }
+    eprintln!(rt;
+        "its status is {code}: a proxy there wants a user and a password (--user, --password-file)"
+    )
+}
+
 /// Says which answer of a server was a wrong one.
-fn explain_answer(rt: &HostRuntime, wrong: Wrong, address: &str, port: u16) -> io::Result<()> {
+fn explain_answer(
+    rt: &HostRuntime,
+    wrong: Wrong,
+    address: &str,
+    port: u16,
+    has_login: bool,
+) -> io::Result<()> {
     let _ = eprint!(rt; "farm: a wrong answer from port {port} of {address}: ");
     match wrong {
         Wrong::Cut => rt.eprintln("the connection was closed before the whole answer came"),
@@ -161,6 +212,8 @@ fn explain_answer(rt: &HostRuntime, wrong: Wrong, address: &str, port: u16) -> i
         Wrong::TooLong { len } => {
             eprintln!(rt; "its content-length is {len}, and at most 100663296 is wanted")
         }
+        Wrong::Status { code: 401 } => explain_refusal(rt, 401, has_login),
+        Wrong::Status { code: 403 } => explain_refusal(rt, 403, has_login),
         Wrong::Status { code } => {
             eprintln!(rt;
                 "its status is {code}, and 200, 404 or 409 is wanted; is 'farm serve' running there?"

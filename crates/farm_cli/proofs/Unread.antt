@@ -20,7 +20,7 @@ use Rattle.farm_cli.specs.Commands.{CommandEnds, CommandIsDone}
 use Rattle.judge_commands.specs.Judged.{ContestIsDone}
 use Rattle.farm_cli.specs.ServedContest.{DoorUse, IsUnasked}
 use Rattle.judge_commands.specs.Making.{MakeIsDone}
-use Rattle.farm_cli.specs.Hosting.{LinkUse, IsUnlinked, HostIsDone}
+use Rattle.farm_cli.specs.Hosting.{LinkUse, IsUnlinked, HostIsDone, host_of}
 
 -- no byte was taken, and none was written
 nothing_done : (at : Streams) → PrefixDone (λ settings. settings ≡ standard_settings) at at
@@ -66,7 +66,8 @@ command_ends files (Some (Store path)) door link store at unread unwritten same 
 command_ends files (Some (Judge folder hosts journal)) door link store at unread unwritten same alone shut still empty = (still, empty)
 command_ends files (Some (Make number size)) door link store at unread unwritten same alone shut still empty = (still, empty)
 command_ends files (Some (Serve folder address port lanes connections patience until_input_ends)) door link store at unread unwritten same alone shut still empty = (still, inr (same, empty))
-command_ends files (Some (Host address port name fuel wait)) door link store at unread unwritten same alone shut still empty = (still, inl (alone, empty))
+command_ends files (Some (Host address port name fuel wait None)) door link store at unread unwritten same alone shut still empty = (still, inl (host_of name wait [], refl, inl (alone, empty)))
+command_ends files (Some (Host address port name fuel wait (Some login))) door link store at unread unwritten same alone shut still empty = (still, inr (alone, empty))
 
 pub unread_ends : {N M : Type 0} (files : Option (List TreeFile)) (words : List (List ℕ)) (door : DoorUse N) (link : LinkUse M) (store : StoreUse) (at : Streams) (unread unwritten : Type 0) → IsUnasked door → IsUnlinked link → IsUnopened store → unread → unwritten
     → IfSome (command_of words) (λ asked. CommandEnds files asked door link store at at unread unwritten exit.Memory)
@@ -82,7 +83,7 @@ command_is_done files (Some (Store path)) link store left faultless = λ told is
 command_is_done files (Some (Judge folder hosts journal)) link store left faultless = λ has none. inr refl
 command_is_done files (Some (Make number size)) link store left faultless = λ none. inr refl
 command_is_done files (Some (Serve folder address port lanes connections patience until_input_ends)) link store left faultless = λ has none. inr refl
-command_is_done files (Some (Host address port name fuel wait)) link store left faultless = λ none uncut unmisled. inr refl
+command_is_done files (Some (Host address port name fuel wait login)) link store left faultless = λ has none uncut unmisled. inr refl
 
 pub unread_is_done : {M : Type 0} (files : Option (List TreeFile)) (words : List (List ℕ)) (link : LinkUse M) (store : StoreUse) (left : Option (List ℕ)) (faultless : Type 0)
     → IfSome (command_of words) (λ asked. CommandIsDone files asked link store left faultless exit.Memory)

@@ -1,14 +1,21 @@
 -- How the work of a judgehost over a link ends.
-use Rattle.std.specs.Prelude.{◌≡◌, ◌≤◌, ◌⊎◌, ℕ, List, [], ◌++◌, codes, Option, Some, None, IfSome, is_some, Bool, true, ⊤}
+use Rattle.std.specs.Prelude.{◌≡◌, ◌≤◌, ◌⊎◌, ℕ, List, [], ◌++◌, length, nat_le, if◌then◌else◌, codes, Option, Some, None, IfSome, is_some, Result, Ok, Err, Bool, true, ⊤}
+use Rattle.std.specs.Option.{IsSomeAnd}
 use Rattle.std.specs.Fmt.{decimal}
 use Rattle.farm_io.specs.Streams.{Rose}
 use Rattle.farm_io.specs.Doors.{DoorState, LetsIn, TakesBack}
+use Rattle.farm_tree.specs.declared.reads.TreeFile.{TreeFile}
+use Rattle.farm_tree.specs.Reading.{file_at, file_limit}
+use Rattle.command_line.specs.CommandLine.{LoginValue}
 use Rattle.judgehost.specs.declared.gate.Point.{Point}
 use Rattle.judgehost.specs.declared.bench.BenchFault.TheVariants as fault
 use Rattle.judgehost.specs.declared.host.HostEnd.{HostEnd}
 use Rattle.judgehost.specs.declared.host.HostEnd.TheVariants as host
 use Rattle.remote_host.specs.declared.asks.Caller.{Caller}
 use Rattle.remote_host.specs.declared.asks.Wrong.{Wrong}
+use Rattle.remote_host.specs.declared.passwords.BadPassword.{BadPassword}
+use Rattle.remote_host.specs.declared.passwords.BadPassword.TheVariants as bad
+use Rattle.remote_host.specs.Passwords.{password_in, authorization}
 use Rattle.remote_host.specs.Standing.{Line}
 use Rattle.remote_host.specs.Ends.{WorkedAs}
 use Rattle.exit_status.specs.declared.exit.Exit.{Exit}
@@ -57,9 +64,25 @@ pub record Hosted {N : Type 0} (link : LinkUse N) (who : Caller) (fuel : ℕ) : 
   pub worked : WorkedAs who (line_of link conn []) (line_of link back ahead) fuel claims posts wrong end
   pub died : (point : Point) (turn : ℕ) → end ≡ host.Died point turn → link.may_die point turn ≡ true
 
--- the judgehost of this name, which waits where it is said for how long
-abbrev pub host_of : List ℕ → Option ℕ → Caller
-host_of name wait = record { name = name; waits = is_some wait; lines = [] }
+-- the judgehost of this name, which waits where it is said for how long, and whose requests have these further lines
+abbrev pub host_of : List ℕ → Option ℕ → List ℕ → Caller
+host_of name wait lines = record { name = name; waits = is_some wait; lines = lines }
+
+-- the password that a file gives, or why it gives none
+abbrev pub password_at : Option (List ℕ) → Result (List ℕ) BadPassword
+password_at None = Err bad.NoFile
+password_at (Some bytes) = if nat_le (length bytes) file_limit then password_in bytes else Err bad.TooLong
+
+-- what the file at the path gives, where the tree tells its files
+abbrev pub PasswordIs : Option (List TreeFile) → List ℕ → Result (List ℕ) BadPassword → Type 0
+PasswordIs files path password = IfSome files (λ held. password_at (file_at held path) ≡ password)
+
+-- who works: the judgehost of this name, whose requests say the user and the password of the login's file, if there is one
+abbrev pub IsCaller : Option (List TreeFile) → List ℕ → Option ℕ → Option LoginValue → Caller → Type 0
+IsCaller files name wait None who = who ≡ host_of name wait []
+IsCaller files name wait (Some login) who =
+    (password : List ℕ) × PasswordIs files login.password_file (Ok password)
+    × (who ≡ host_of name wait (authorization login.user password))
 
 -- how a host's end is called, where its line is written
 abbrev pub end_word : HostEnd → Option (List ℕ)
@@ -151,16 +174,73 @@ UnlinkedEnds link unwritten exit.StoreFault = ⊥
 UnlinkedEnds link unwritten (exit.BadStore flaw) = ⊥
 UnlinkedEnds link unwritten (exit.StoreFull mark) = ⊥
 
--- How it ends: no connection came, or one did and went back, and the host worked over it.
-abbrev pub HostEnds : {N : Type 0} → LinkUse N → Caller → ℕ → Option (List ℕ) → Option (List ℕ) → Type 0 → Exit
+-- How it ends with who it is: no connection came, or one did and went back, and the host worked over it.
+abbrev pub CallerEnds : {N : Type 0} → LinkUse N → Caller → ℕ → Option (List ℕ) → Option (List ℕ) → Type 0 → Exit
     → Type 0
-HostEnds link who fuel held held' unwritten e =
+CallerEnds link who fuel held held' unwritten e =
     (IsUnlinked link × UnlinkedEnds link unwritten e)
     ⊎ ((h : Hosted link who fuel)
     × ToldEnds who.name h.claims h.posts h.wrong h.end (link.faults h.back) held held' unwritten e)
 
--- without a fault, where its connection did not fail and no answer was wrong, it is done unless memory is wanting
-unfoldable pub HostIsDone : {N : Type 0} → LinkUse N → Caller → ℕ → Type 0 → Exit → Type 0
-HostIsDone link who fuel faultless e =
-    faultless → ¬ ((h : Hosted link who fuel) × IsCutOff h.wrong h.end (link.faults h.back))
-    → ¬ ((h : Hosted link who fuel) × (answer : Wrong) × IsMisled h.wrong h.end answer) → (e ≡ exit.Done) ⊎ (e ≡ exit.Memory)
+-- A password that the login's file does not give
+
+-- the line that says why
+abbrev pub bad_password_line : BadPassword → List ℕ
+bad_password_line bad.NoFile = codes "bad password: no file\n"
+bad_password_line bad.Empty = codes "bad password: empty\n"
+bad_password_line bad.TooLong = codes "bad password: too long\n"
+bad_password_line bad.Control = codes "bad password: control character\n"
+
+-- it is the line of the fault that the file has
+pub record IsBadPasswordLine (files : Option (List TreeFile)) (path text : List ℕ) : Type 0 where
+  pub fault : BadPassword
+  pub found : PasswordIs files path (Err fault)
+  pub is : text ≡ bad_password_line fault
+
+-- how it ends without a password; `unwritten` says that the output is as it was
+abbrev pub NoPasswordEnds : Option (List TreeFile) → List ℕ → Option (List ℕ) → Option (List ℕ) → Type 0 → Exit → Type 0
+NoPasswordEnds files path held held' unwritten exit.Done = ⊥
+NoPasswordEnds files path held held' unwritten exit.Usage = ⊥
+NoPasswordEnds files path held held' unwritten exit.BadContest = Writes (IsBadPasswordLine files path) held held'
+NoPasswordEnds files path held held' unwritten exit.ReadFault = ⊥
+NoPasswordEnds files path held held' unwritten exit.WriteFault = WritesFront (IsBadPasswordLine files path) held held'
+NoPasswordEnds files path held held' unwritten exit.Memory = unwritten
+NoPasswordEnds files path held held' unwritten exit.TreeFault = unwritten
+NoPasswordEnds files path held held' unwritten exit.DoorFault = ⊥
+NoPasswordEnds files path held held' unwritten exit.InputLimit = ⊥
+NoPasswordEnds files path held held' unwritten exit.LinkFault = ⊥
+NoPasswordEnds files path held held' unwritten (exit.BadAnswer answer) = ⊥
+NoPasswordEnds files path held held' unwritten exit.StoreFault = ⊥
+NoPasswordEnds files path held held' unwritten (exit.BadStore flaw) = ⊥
+NoPasswordEnds files path held held' unwritten (exit.StoreFull mark) = ⊥
+
+-- there is a login, and its file gives no password, or could not be read
+abbrev pub NoLoginEnds : Option (List TreeFile) → Option LoginValue → Option (List ℕ) → Option (List ℕ) → Type 0 → Exit
+    → Type 0
+NoLoginEnds files None held held' unwritten e = ⊥
+NoLoginEnds files (Some login) held held' unwritten e = NoPasswordEnds files login.password_file held held' unwritten e
+
+-- How it ends: the host works, or its login has no password, and no connection was asked for.
+abbrev pub HostEnds : {N : Type 0} → Option (List TreeFile) → LinkUse N → List ℕ → Option ℕ → Option LoginValue → ℕ
+    → Option (List ℕ) → Option (List ℕ) → Type 0 → Exit → Type 0
+HostEnds files link name wait login fuel held held' unwritten e =
+    ((who : Caller) × IsCaller files name wait login who × CallerEnds link who fuel held held' unwritten e)
+    ⊎ (IsUnlinked link × NoLoginEnds files login held held' unwritten e)
+
+-- there is no login, or the tree tells a file that gives its password
+abbrev pub HasPassword : Option (List TreeFile) → Option LoginValue → Type 0
+HasPassword files None = ⊤
+HasPassword files (Some login) =
+    IsSomeAnd files (λ held. (password : List ℕ) × (password_at (file_at held login.password_file) ≡ Ok password))
+
+-- with a password where it has a login, and without a fault, where its connection did not fail and no answer was wrong, it
+-- is done unless memory is wanting
+unfoldable pub HostIsDone : {N : Type 0} → Option (List TreeFile) → LinkUse N → List ℕ → Option ℕ → Option LoginValue → ℕ
+    → Type 0 → Exit → Type 0
+HostIsDone files link name wait login fuel faultless e =
+    HasPassword files login → faultless
+    → ((who : Caller) → IsCaller files name wait login who
+    → ¬ ((h : Hosted link who fuel) × IsCutOff h.wrong h.end (link.faults h.back)))
+    → ((who : Caller) → IsCaller files name wait login who
+    → ¬ ((h : Hosted link who fuel) × (answer : Wrong) × IsMisled h.wrong h.end answer))
+    → (e ≡ exit.Done) ⊎ (e ≡ exit.Memory)

@@ -176,8 +176,9 @@ where
             name,
             fuel,
             wait,
+            login,
         } => host(
-            alloc, address, port, name, fuel, wait, out, gate, link, pause,
+            alloc, address, port, name, fuel, wait, login, tree, out, gate, link, pause,
         ),
     }
 }

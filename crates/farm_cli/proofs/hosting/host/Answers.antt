@@ -1,23 +1,25 @@
-use Rattle.std.proofs.Common.{◌+◌, arith}
+use Rattle.std.proofs.Common.{◌+◌, ap, refl, sym, subst, Err, ◌∙◌}
+use Rattle.std.specs.Prelude.{option_map}
 use Rattle.judgehost.specs.declared.gate.Go.TheVariants as go
-use Rattle.farm_cli.specs.Hosting.{LinkUse, host_of}
-use Rattle.farm_cli.proofs.Hostings.{hosted_ends}
+use Rattle.command_line.specs.CommandLine.{login_value}
+use Rattle.remote_host.specs.declared.passwords.BadPassword.{BadPassword}
+use Rattle.farm_cli.specs.Hosting.{LinkUse, PasswordIs}
+use Rattle.farm_cli.proofs.Hostings.{without_password}
 use Rattle.farm_cli.proofs.hosting.host.Goals as goal
 
-pub returns-clause-ends : goal.returns-clause-ends
-returns-clause-ends g c =
+pub returns-in-Err-Bad-clause-ends : goal.returns-in-Err-Bad-clause-ends
+returns-in-Err-Bad-clause-ends g c =
     let link : LinkUse g.row.N-Conn.Denot = record {
       held = g.N.Conn.Sink.held;
       left = g.N.Conn.Source.left;
       faults = λ n. g.N.Conn.Source.faults n + g.N.Conn.Sink.faults n;
       may_die = λ point turn. g.G.Gate.may_answer c.args.gate.now 1 point turn go.Die;
       old = g.N.Link.state c.args.link.now;
-      new = g.N.Link.state c.give_back.new.self;
+      new = g.N.Link.state c.args.link.now;
       before = g.N.Link.faults c.args.link.now;
-      now = g.N.Link.faults c.give_back.new.self;
+      now = g.N.Link.faults c.args.link.now;
     } in
-    let w = c.work_over-conn.ensures in
-    let fresh = c.in-Ok-connect.ensures.fresh in
-    hosted_ends link (host_of c.args.name c.args.wait) c.caller_of-caller.result c.args.fuel c.from.result (g.N.Link.state c.connect.new.self) c.in-Ok-connect.conn c.work_over-conn.result.conn w.worked.0 _ _ _ _ _ _ _ c.tell.result
-    c.caller_of-caller.ensures (omega (arith, c.from.ensures)) c.in-Ok-connect.ensures.connects fresh.none (omega (arith, fresh.reads, fresh.writes)) c.give_back.ensures.back
-    w.worked.1 w.died (c.tell.ensures.ends _ w.failed)
+    let files = g.T.Tree.files c.args.tree.now in
+    let found = c.read_login.ensures.bad c.in-Err-Bad.bad (c.in-Err-Bad.is ∙ ap Err c.in-Err-Bad.field-0-is) in
+    without_password files link c.args.name c.args.wait (option_map login_value c.args.login) (login_value c.in-Some.login) c.args.fuel _ _ _ c.refuse.result
+    (ap (option_map login_value) c.in-Some.is) refl (c.refuse.ensures.ends files c.in-Some.login.password_file.now (subst (λ (b : BadPassword). PasswordIs files c.in-Some.login.password_file.now (Err b)) (sym c.in-Err-Bad.bad-is) found))

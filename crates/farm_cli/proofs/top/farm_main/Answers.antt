@@ -1,7 +1,7 @@
 use Rattle.std.proofs.Common.{rules, ◌≡◌, ◌+◌, ℕ, List, Option, Some, map, ap, refl, sym, ◌∙◌, string_bytes}
 use Rattle.std.specs.Option.{option_map}
 use Rattle.std.specs.Borrow.{Bor}
-use Rattle.command_line.specs.CommandLine.{Script, command_value, size_value}
+use Rattle.command_line.specs.CommandLine.{Script, command_value, login_value, size_value}
 use Rattle.judge_server.specs.Exchanges.{around_of}
 use Rattle.contest_server.specs.Visits.{watch}
 use Rattle.farm_io.specs.Streams.{Rose}
@@ -67,8 +67,8 @@ returns-in-Serve-clause-complete g c =
 
 pub returns-in-Host-clause-complete : goal.returns-in-Host-clause-complete
 returns-in-Host-clause-complete g c =
-    host_complete (g.T.Tree.files c.args.tree.now) c.in-Host.address.now c.in-Host.port c.in-Host.name c.in-Host.fuel c.in-Host.wait _ _ _ (g.S.Source.left c.args.input.now) _ _ _ _ _ _ _ _ c.host.result
-    (sym (ap (λ o. option_map command_value o) (c.in-Some.is ∙ ap Some c.in-Host.is)) ∙ c.in-Ok.ensures) c.host.ensures.ends c.host.ensures.write_fault
+    host_complete (g.T.Tree.files c.args.tree.now) c.in-Host.address.now c.in-Host.port c.in-Host.name c.in-Host.fuel c.in-Host.wait (option_map login_value c.in-Host.login) _ _ _ (g.S.Source.left c.args.input.now) _ _ _ _ _ _ _ _ c.host.result
+    (sym (ap (λ o. option_map command_value o) (c.in-Some.is ∙ ap Some c.in-Host.is)) ∙ c.in-Ok.ensures) c.host.ensures.ends c.host.ensures.write_fault c.host.ensures.tree_fault
 
 pub returns-in-Serve-clause-ends : goal.returns-in-Serve-clause-ends
 returns-in-Serve-clause-ends c = search rules
