@@ -1,3 +1,4 @@
+use Rattle.std.proofs.Common.{inl, refl}
 use Rattle.script_commands.specs.Scripted.{Streams}
 use Rattle.script_commands.proofs.Ends.{all_done, lines_done, prefix_done}
 use Rattle.script_commands.proofs.answering.answer.Goals as goal
@@ -32,3 +33,9 @@ returns-in-NoMemory-clause-ends g c settings at =
     let old : Streams = record { left = g.S.Source.left c.args.input.now; held = g.K.Sink.held c.args.out.now } in
     let new : Streams = record { left = g.S.Source.left c.run_script.new.input; held = g.K.Sink.held c.run_script.new.out } in
     prefix_done settings c.args.farm.now c.run_script.new.farm old new at c.in-NoMemory.ensures.ends
+
+pub returns-in-Done-clause-write_fault : goal.returns-in-Done-clause-write_fault
+returns-in-Done-clause-write_fault g c = λ q. cc
+
+pub returns-in-Done-clause-complete : goal.returns-in-Done-clause-complete
+returns-in-Done-clause-complete g c = λ short read written. inl refl
