@@ -1,5 +1,5 @@
 -- What is written of a contest, with a journal and without one.
-use Rattle.std.proofs.Common.{◌≡◌, ℕ, List, [], ◌++◌, Option, Some, None, true, false, refl, sym, subst, ap, ◌∙◌}
+use Rattle.std.proofs.Common.{◌≡◌, ℕ, List, ◌++◌, Option, Some, None, refl, sym, subst, ap, ◌∙◌}
 use Rattle.std.specs.Prelude.{Bool, is_some}
 use Rattle.std.proofs.lemmas.List.{append-nil}
 use Rattle.farm_kinds.specs.declared.outcomes.TableRow.{TableRow}
