@@ -1,14 +1,26 @@
 -- A contest's serving among the commands.
-use Rattle.std.proofs.Common.{◌≡◌, ℕ, List, Option, Some, inr, refl, sym, subst}
-use Rattle.std.specs.Prelude.{◌⊎◌, Bool, IfSome}
+use Rattle.std.proofs.Common.{◌≡◌, ◌≤◌, ℕ, List, Option, Some, Ok, inl, inr, refl, sym, subst, arith}
+use Rattle.std.specs.Prelude.{◌⊎◌, Bool, false, IfSome}
 use Rattle.std.specs.declared.net.ip_addr.IpAddr.{IpAddr}
 use Rattle.farm_tree.specs.declared.reads.TreeFile.{TreeFile}
 use Rattle.farm_io.specs.declared.door.Listening.{Listening}
+use Rattle.farm_io.specs.Doors.{DoorState, listening_at}
+use Rattle.farm_io.specs.Streams.{Rose}
+use Rattle.farm_model.specs.State.{start}
+use Rattle.farm_board.specs.Histories.{opening_board}
+use Rattle.contest_folder.specs.RosterValue.{RosterValue}
+use Rattle.contest_folder.specs.JudgingCases.{case_at}
+use Rattle.contest_server.specs.declared.ends.ServeEnd.{ServeEnd}
+use Rattle.contest_server.specs.declared.ends.ServeEnd.TheVariants as end
+use Rattle.contest_server.specs.Contest.{entering_events, seats}
+use Rattle.contest_server.specs.Visits.{with_cases}
+use Rattle.contest_server.specs.Serving.{HasCauseEnd}
+use Rattle.contest_server.specs.Served.{Serves}
 use Rattle.exit_status.specs.declared.exit.Exit.{Exit}
 use Rattle.exit_status.specs.declared.exit.Exit.TheVariants as exit
 use Rattle.command_line.specs.CommandLine.{CommandValue, Serve}
-use Rattle.judge_commands.specs.Judged.{NoContestEnds, HasContest, ContestIsDone}
-use Rattle.farm_cli.specs.ServedContest.{DoorUse, IsUnasked, ServeEnds}
+use Rattle.judge_commands.specs.Judged.{ContestIs, NoContestEnds, HasContest, ContestIsDone}
+use Rattle.farm_cli.specs.ServedContest.{DoorUse, IsServed, IsUnasked, ServeEnds, exit_of}
 use Rattle.farm_cli.specs.Hosting.{LinkUse}
 use Rattle.script_commands.specs.Stored.{StoreUse}
 use Rattle.farm_cli.specs.Commands.{CommandIsDone}
@@ -38,3 +50,43 @@ unserved files folder at lanes connections door held held' unwritten (exit.BadAn
 unserved files folder at lanes connections door held held' unwritten exit.StoreFault same h = h
 unserved files folder at lanes connections door held held' unwritten (exit.BadStore flaw) same h = h
 unserved files folder at lanes connections door held held' unwritten (exit.StoreFull mark) same h = h
+
+by_end : {N : Type 0} (files : Option (List TreeFile)) (folder : List ℕ) (at : Listening) (lanes connections : ℕ) (door : DoorUse N) (held held' : Option (List ℕ)) (unwritten : Type 0) (ended : ServeEnd)
+    → IsServed files folder at lanes connections door held held' ended → ServeEnds files folder at lanes connections door held held' unwritten (exit_of ended)
+by_end files folder at lanes connections door held held' unwritten end.Done h = h
+by_end files folder at lanes connections door held held' unwritten end.DoorFault h = inl h
+by_end files folder at lanes connections door held held' unwritten end.WriteFault h = inl h
+by_end files folder at lanes connections door held held' unwritten end.NoMemory h = inl h
+
+-- a contest that was served where the door was to listen
+pub served : {N : Type 0} (files : Option (List TreeFile)) (folder : List ℕ) (at : Listening) (lanes connections : ℕ) (door : DoorUse N) (listening : DoorState N) (held held' : Option (List ℕ)) (unwritten : Type 0) (roster : RosterValue) (ended : ServeEnd) (e : Exit)
+    → e ≡ exit_of ended → ContestIs files folder (Ok roster) → listening ≡ listening_at door.old at
+    → Serves (with_cases (case_at roster) door.watch) (opening_board (start roster.settings) (seats lanes) false) (entering_events roster) listening door.new held held' connections ended
+    → ServeEnds files folder at lanes connections door held held' unwritten e
+served {N} files folder at lanes connections door listening held held' unwritten roster ended e is read same serves =
+    let whole : IsServed files folder at lanes connections door held held' ended = record {
+      roster = roster;
+      read = read;
+      serves = subst (λ (d : DoorState N). Serves (with_cases (case_at roster) door.watch) (opening_board (start roster.settings) (seats lanes) false) (entering_events roster) d door.new held held' connections ended) same serves;
+    } in
+    subst (λ (z : Exit). ServeEnds files folder at lanes connections door held held' unwritten z) (sym is)
+    (by_end files folder at lanes connections door held held' unwritten ended whole)
+
+-- what failed where a contest's serving ended so
+pub write_failed : (door door' out out' : ℕ) (ended : ServeEnd) → HasCauseEnd door door' out out' ended → exit_of ended ≡ exit.WriteFault → Rose out out'
+write_failed door door' out out' end.Done h is = let both : exit.Done ≡ exit.WriteFault = is in cc
+write_failed door door' out out' end.DoorFault h is = let both : exit.DoorFault ≡ exit.WriteFault = is in cc
+write_failed door door' out out' end.WriteFault h is = h.out_failed refl
+write_failed door door' out out' end.NoMemory h is = let both : exit.Memory ≡ exit.WriteFault = is in cc
+
+pub door_failed : (first door door' out out' : ℕ) (ended : ServeEnd) → first ≤ door → HasCauseEnd door door' out out' ended → exit_of ended ≡ exit.DoorFault → Rose first door'
+door_failed first door door' out out' end.Done later h is = let both : exit.Done ≡ exit.DoorFault = is in cc
+door_failed first door door' out out' end.DoorFault later h is = omega (arith, later, h.door_failed refl)
+door_failed first door door' out out' end.WriteFault later h is = let both : exit.WriteFault ≡ exit.DoorFault = is in cc
+door_failed first door door' out out' end.NoMemory later h is = let both : exit.Memory ≡ exit.DoorFault = is in cc
+
+pub ends_of_serving : (ended : ServeEnd) → (exit_of ended ≡ exit.Done) ⊎ (exit_of ended ≡ exit.DoorFault) ⊎ (exit_of ended ≡ exit.WriteFault) ⊎ (exit_of ended ≡ exit.Memory)
+ends_of_serving end.Done = inl refl
+ends_of_serving end.DoorFault = inr (inl refl)
+ends_of_serving end.WriteFault = inr (inr (inl refl))
+ends_of_serving end.NoMemory = inr (inr (inr refl))

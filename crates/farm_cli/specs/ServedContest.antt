@@ -42,6 +42,13 @@ listening_of address port patience until_input_ends = record {
   until_input_ends = until_input_ends;
 }
 
+-- how a command ends whose serving ended so
+abbrev pub exit_of : ServeEnd → Exit
+exit_of end.Done = exit.Done
+exit_of end.DoorFault = exit.DoorFault
+exit_of end.WriteFault = exit.WriteFault
+exit_of end.NoMemory = exit.Memory
+
 -- no connection was asked for
 abbrev pub IsUnasked : {N : Type 0} → DoorUse N → Type 0
 IsUnasked door = door.new ≡ door.old

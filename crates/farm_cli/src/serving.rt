@@ -4,7 +4,7 @@ ghost use Rattle.farm_tree.specs.declared.reads.TreeFile.{TreeFile};
 ghost use Rattle.judge_server.specs.Exchanges.{around_of};
 ghost use Rattle.contest_server.specs.Visits.{watch};
 ghost use Rattle.judge_commands.specs.Judged.{ContestIs, HasContest};
-ghost use Rattle.farm_cli.specs.ServedContest.{DoorUse, ServeEnds};
+ghost use Rattle.farm_cli.specs.ServedContest.{DoorUse, ServeEnds, exit_of};
 
 use contest_folder::{Roster, read_contest};
 use contest_server::{ServeEnd, serve_contest};
@@ -82,7 +82,14 @@ where
     let Ok(()) = door.listen(at) else {
         return Exit::DoorFault;
     };
-    match serve_contest(rt, alloc, roster, lanes, connections, clock, door, out) {
+    exit_of(serve_contest(rt, alloc, roster, lanes, connections, clock, door, out))
+}
+
+/// How the program ends where the serving of a contest ends so.
+fn exit_of(end: ServeEnd) -> Exit
+    ensures { result ≡ exit_of end }
+{
+    match end {
         ServeEnd::Done => Exit::Done,
         ServeEnd::DoorFault => Exit::DoorFault,
         ServeEnd::WriteFault => Exit::WriteFault,

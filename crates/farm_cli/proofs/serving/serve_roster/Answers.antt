@@ -1,8 +1,21 @@
-use Rattle.std.proofs.Common.{rules}
+use Rattle.std.proofs.Common.{◌∙◌, sym, subst}
+use Rattle.std.specs.Prelude.{◌≡◌, ◌⊎◌}
+use Rattle.exit_status.specs.declared.exit.Exit.{Exit}
+use Rattle.exit_status.specs.declared.exit.Exit.TheVariants as exit
+use Rattle.farm_cli.proofs.Servings.{served, write_failed, door_failed, ends_of_serving}
 use Rattle.farm_cli.proofs.serving.serve_roster.Goals as goal
 
-pub returns-in-DoorFault-clause-ends : goal.returns-in-DoorFault-clause-ends
-returns-in-DoorFault-clause-ends c = search rules
+pub returns-clause-ends : goal.returns-clause-ends
+returns-clause-ends g c files folder read =
+    served files folder c.args.at c.args.lanes c.args.connections _ _ _ _ _ c.args.roster.now c.serve_contest.result c.exit_of.result c.exit_of.ensures read c.in-Ok.ensures.listens
+    c.serve_contest.ensures.serves
 
-pub returns-in-DoorFault-clause-all : goal.returns-in-DoorFault-clause-all
-returns-in-DoorFault-clause-all c = search rules
+pub returns-clause-write_fault : goal.returns-clause-write_fault
+returns-clause-write_fault g c = λ q. write_failed _ _ _ _ c.serve_contest.result c.serve_contest.ensures.cause (sym c.exit_of.ensures ∙ q)
+
+pub returns-clause-door_fault : goal.returns-clause-door_fault
+returns-clause-door_fault g c = λ q. door_failed _ _ _ _ _ c.serve_contest.result c.listen.ensures.cause.later c.serve_contest.ensures.cause (sym c.exit_of.ensures ∙ q)
+
+pub returns-clause-all : goal.returns-clause-all
+returns-clause-all g c =
+    subst (λ (z : Exit). (z ≡ exit.Done) ⊎ (z ≡ exit.DoorFault) ⊎ (z ≡ exit.WriteFault) ⊎ (z ≡ exit.Memory)) (sym c.exit_of.ensures) (ends_of_serving c.serve_contest.result)
