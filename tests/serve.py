@@ -71,6 +71,12 @@ class Server:
         self.out.seek(0)
         return self.process.returncode, self.out.read().decode()
 
+    def ended_in_order(self):
+        """The same of one that was started with --until-input-ends, once its input has ended."""
+        self.process.stdin.close()
+        self.process.stdin = None
+        return self.ended()
+
 
 def ask(client, method, path, body=None):
     """The status and the reply, by a client that keeps its connection."""
@@ -361,25 +367,47 @@ def hostile(program, folder):
         waiting.close()
         other.close()
         for _ in range(50):
-            with server.connect() as conn:
-                conn.setsockopt(socket.SOL_SOCKET, socket.SO_LINGER, b"\1\0\0\0\0\0\0\0")
-                conn.sendall(BOARD + BOARD[:10])
+            conn = server.connect()
+            conn.sendall(BOARD + BOARD[:10])
+            tear_off(conn)
         yield "and so is the next behind 50 that are torn off", is_answered(server.client()), None
 
 
+ROUTES = [
+    "/judgehosts", "/judgehosts/fetch-work", "/judgehosts/renew", "/judgehosts/add-judging-run", "/judgehosts/down",
+    "/judgements/1/verify", "/judgements/1/ask", "/rejudgings", "/rejudgings/1/apply", "/rejudgings/1/cancel",
+]
+# The first field of a body, and with what it is filled: numbers, empty texts, empty objects, a text, and one of escapes.
+KINDS = [('"submissions":[1', ",1", "]"), ('"x":[""', ',""', "]"), ('"x":[{}', ",{}", "]"), ('"hostname":"', "h", '"'), ('"who":"', "\\n", '"')]
+
+
+def bodies():
+    """Bodies of at most 32 MiB, one of each kind."""
+    for front, piece, end in KINDS:
+        count = ((1 << 25) - len(front) - len(end) - 2) // len(piece)
+        yield f"{{{front}{piece * count}{end}}}"
+
+
 def large(program, folder):
-    """A list of as many numbers as a body holds, and one of as many as there may be submissions."""
+    """A list of as many numbers as there may be submissions, and bodies of 32 MiB on each route."""
     # it is to run on behind both
     with Server(program, folder, lanes=1, connections=3) as server:
-        for name, count, wanted in [
-            ("16 million", (1 << 24) - 30, b'{"reply":"bad-body","why":"too-many-values"}'),
-            ("100,000", 100_000, b'{"number":1,"reply":"not-final"}'),
-        ]:
-            body = '{"submissions":[1' + ",1" * (count - 1) + "]}"
-            got = sent(server, request("POST", "/rejudgings", body))
-            yield f"a list of {name} numbers", got.endswith(b"\r\n\r\n" + wanted), got[-200:]
-        kib = memory_of(server, "VmHWM")
-        yield f"takes no more than twice its body: {kib} KiB", kib < 80_000, kib
+        body = '{"submissions":[1' + ",1" * 99_999 + "]}"
+        got = sent(server, request("POST", "/rejudgings", body))
+        yield "a list of 100,000 numbers", got.endswith(b'\r\n\r\n{"number":1,"reply":"not-final"}'), got[-200:]
+        most = {}
+        with server.connect() as conn:
+            for body, (front, _, _) in zip(bodies(), KINDS):
+                refused = 0
+                for path in ROUTES:
+                    conn.sendall(request("POST", path, body))
+                    refused += conn.recv(4096).endswith(b'"why":"too-many-values"}')
+                most[front] = refused, memory_of(server, "VmHWM")
+        (_, lists), (_, texts) = most[KINDS[2][0]], most[KINDS[4][0]]
+        refused = [refused for refused, _ in most.values()]
+        yield "millions of numbers, texts or objects are refused on each route", refused == [len(ROUTES)] * 3 + [0] * 2, refused
+        yield f"  with no more memory than the body: {lists} KiB", lists < 45_000, lists
+        yield f"a text of 32 MiB takes three times that: {texts} KiB", texts < 110_000, texts
 
 
 def silent(program, folder):
@@ -504,6 +532,74 @@ def public(program, _):
             yield "the board in the end", server.ended()[1].endswith(f"{count} timelimit\nboard {count}\n"), None
 
 
+class Others:
+    """Two other clients that ask all the time while a block runs: one keeps its connection, one comes anew each time."""
+
+    def __init__(self, server):
+        self.server, self.stop, self.worst = server, threading.Event(), 0
+        # the connections that were made, by each of them
+        self.kept, self.came = [], []
+        self.threads = [threading.Thread(target=self.ask_on, args=(made,)) for made in (self.kept, self.came)]
+
+    def __enter__(self):
+        for thread in self.threads:
+            thread.start()
+        return self
+
+    def __exit__(self, *_):
+        self.stop.set()
+        for thread in self.threads:
+            thread.join()
+
+    def ask_on(self, made):
+        client = self.server.client()
+        while not self.stop.is_set():
+            before = client.sock
+            self.worst = max(self.worst, seconds_to_answer(client))
+            if client.sock is not before:
+                made.append(client.sock)
+            if made is self.came:
+                client.close()
+            self.stop.wait(0.01)
+        client.close()
+
+    def look(self):
+        """That each was answered within a second."""
+        return f"  others wait {self.worst:.3f} s at the most", self.worst < 1, self.worst
+
+
+def ask_again(client, *asked):
+    """The same as `ask`; over a new connection, where the server has ended the one that was kept."""
+    try:
+        return ask(client, *asked)
+    except ConnectionError:
+        client.close()
+        return ask(client, *asked)
+
+
+def seconds_to_answer(client):
+    """How long it takes until `GET /audit` is answered."""
+    begun = time.monotonic()
+    try:
+        good = ask_again(client, "GET", "/audit")[0] == 200
+    except (OSError, http.client.HTTPException):
+        good = False
+    return time.monotonic() - begun if good else float("inf")
+
+
+def tear_off(conn):
+    """Ends a connection as a machine does that knows nothing of it any more."""
+    conn.setsockopt(socket.SOL_SOCKET, socket.SO_LINGER, b"\1\0\0\0\0\0\0\0")
+    conn.close()
+
+
+def lines_of(text):
+    """How many requests each connection made, and how it ended; or none where a line is not in its place."""
+    lines = [line.split(" ") for line in text.splitlines() if line.startswith("conn ")]
+    ordered = all(line[1] == str(at) and line[2] == "requests" for at, line in enumerate(lines, 1))
+    return [(int(line[3]), line[4]) for line in lines] if ordered else None
+
+
 def slowest(server, count):
     """How long the slowest of so many clients waited, each of which comes, asks once and goes."""
     worst = 0
@@ -543,6 +639,111 @@ def crowds(program, folder):
             client.close()
 
 
+def work_on(server, stop, seen):
+    """Works as a judgehost, and keeps the reply to each result and how long it waited. Where its connection has ended, it comes
+    up again over a new one, and goes on."""
+    client = server.client()
+    while not stop.is_set():
+        begun = time.monotonic()
+        if client.sock is None:
+            ask(client, "POST", "/judgehosts", H1)
+        try:
+            got = ask(client, "POST", "/judgehosts/fetch-work", H1)[1]
+            run = H1 | {"judging": got["judging"], "test": got["test"], "result": "correct"}
+            reply = ask(client, "POST", "/judgehosts/add-judging-run", run)[1]["reply"]
+        except ConnectionError:
+            client.close()
+            reply = None
+        seen.append((reply, time.monotonic() - begun))
+    client.close()
+
+
+def among_many(program, _):
+    """A judgehost that works on while 1,000 clients come that keep their connections."""
+    lines = "".join(f"{n} alpha echo a.rv32\n" for n in range(1, 20_001))
+    with tempfile.TemporaryDirectory() as folder:
+        write(folder, ONE_TEST | {"submissions.txt": lines})
+        with Server(program, folder, connections=10_000) as server:
+            stop, seen, kept, worst = threading.Event(), [], [], 0
+            host = threading.Thread(target=work_on, args=(server, stop, seen))
+            host.start()
+            for _ in range(1000):
+                kept.append(server.client())
+                worst = max(worst, seconds_to_answer(kept[-1]))
+            stop.set()
+            host.join()
+            done = [reply for reply, _ in seen if reply]
+            yield f"1,000 come while a judgehost works, and wait {worst:.3f} s at the most", worst < 1, worst
+            worst = max(seconds for _, seconds in seen)
+            good = set(done) == {"counted"} and len(done) > 100 and worst < 1
+            yield f"it has {len(done)} results counted, and waits {worst:.3f} s at the most", good, (set(done), len(done), worst)
+            for client in kept:
+                client.close()
+
+
+POST = request("POST", "/judgehosts", '{"hostname":"h9"}')
+# What a client has sent when it ends: nothing, some of a head, a head, some of a body, a request, and many requests.
+PHASES = [b"", POST[:10], POST[:-17], POST[:-1], BOARD, BOARD * 1000]
+
+
+def killed(program, _):
+    """Clients that end in the middle of each phase of their connections, as one that is killed and as one whose machine is."""
+    times = 5
+    with tempfile.TemporaryDirectory() as folder:
+        write(folder, ONE_TEST | {"submissions.txt": "".join(f"{n} alpha echo a.rv32\n" for n in range(1, 1001))})
+        with Server(program, folder, lanes=8, connections=10_000, options=["--until-input-ends"], stdin=subprocess.PIPE) as server:
+            with Others(server) as others:
+                for text in PHASES * times:
+                    for end in (socket.socket.close, tear_off):
+                        conn = server.connect()
+                        conn.sendall(text)
+                        if text == PHASES[-1]:
+                            conn.recv(1000)
+                        time.sleep(0.02)
+                        end(conn)
+            yield f"{2 * times} are killed or torn off in each of {len(PHASES)} phases", *others.look()[1:]
+            status, text = server.ended_in_order()
+            lines = lines_of(text) or []
+            found = {(requests, how): lines.count((requests, how)) for requests, how in [(0, "end"), (0, "cut"), (0, "read-fault")]}
+            good = status == 0 and len(lines) == 2 * times * len(PHASES) + len(others.kept) + len(others.came)
+            good = good and list(found.values())[:2] == [times, 3 * times] and found[0, "read-fault"] >= 4 * times
+            faults = sum(how in ("read-fault", "write-fault") for _, how in lines)
+            good = good and faults <= 8 * times and {how for _, how in lines} <= {"end", "cut", "read-fault", "write-fault"}
+            yield "  their lines, and those of the others", good, (status, len(lines), len(others.kept), len(others.came), found, faults)
+
+
+def aborted(program, folder):
+    """Clients that are gone before they are let in."""
+    with Server(program, folder, lanes=2, options=["--until-input-ends"], stdin=subprocess.PIPE) as server:
+        server.process.send_signal(signal.SIGSTOP)
+        for end in (socket.socket.close, tear_off) * 50:
+            end(server.connect())
+        server.process.send_signal(signal.SIGCONT)
+        took = seconds_to_answer(server.client())
+        yield f"the next one behind 100 that were gone before they came in waits {took:.3f} s", took < 1, took
+        status, text = server.ended_in_order()
+        lines = lines_of(text) or []
+        good = status == 0 and lines[-1] == (1, "end") and set(lines[:-1]) <= {(0, "end"), (0, "read-fault")}
+        yield f"  the lines of {len(lines) - 1} of them", good, (status, set(lines), lines[-1:])
+
+
+def comes_back(program, folder):
+    """A judgehost that is gone, and comes back under its name while that is up."""
+    with Server(program, folder, connections=10) as server:
+        first = server.client()
+        entered = ask(first, "POST", "/judgehosts", H1)[0]
+        task = ask(first, "POST", "/judgehosts/fetch-work", H1)[1]
+        tear_off(first.sock)
+        again = server.client()
+        got = ask(again, "POST", "/judgehosts", H1)
+        yield "a judgehost that comes back while it is up", entered == 200 and got == (409, {"name": "h1", "reply": "known"}), got
+        run = H1 | {"judging": task["judging"], "test": task["test"]}
+        got = [ask(again, "POST", f"/judgehosts/{path}", run | more)[0] for path, more in [("renew", {}), ("add-judging-run", {"result": "correct"})]]
+        yield "goes on with what it held", got == [200, 200], got
+        got = ask(again, "POST", "/judgehosts/fetch-work", H1)
+        yield "and is given more", got[0] == 200 and (got[1]["judging"], got[1]["test"]) == (1, 2), got
+
+
 def ends(program, folder):
     """The ends of the program."""
     with socket.socket() as taken:
@@ -574,7 +775,9 @@ def main():
     sound = True
     with tempfile.TemporaryDirectory() as folder:
         write(folder, FILES)
-        looks = [look(program, folder) for look in (talks, whole_connections, exact_bytes, batches, cut_anywhere, hostile, large, silent, lanes, public, crowds, ends)]
+        looks = [look(program, folder) for look in (
+            talks, whole_connections, exact_bytes, batches, cut_anywhere, comes_back, hostile, killed, aborted, large, silent, lanes,
+            public, crowds, among_many, ends)]
         for some in [*looks, page(program)]:
             for name, good, got in some:
                 print(f"{'ok  ' if good else 'NOT '} {name}{'' if good else f': {got!r}'}")

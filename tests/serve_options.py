@@ -13,13 +13,15 @@ import socket
 import subprocess
 import sys
 import tempfile
+import threading
 import time
 
 sys.dont_write_bytecode = True
 
+from host import contest, table_of  # noqa: E402
 from judge import write  # noqa: E402
 from place import program_and_numbers  # noqa: E402
-from serve import BOARD, FILES, Server, ask, is_answered  # noqa: E402
+from serve import BOARD, FILES, Others, Server, ask, ask_again, is_answered, lines_of, tear_off  # noqa: E402
 
 
 def reaches(address, port):
@@ -70,13 +72,45 @@ def refused(program, folder, *words):
     return ran.returncode, ran.stdout, ran.stderr
 
 
-def seconds_until_end(conn, limit=15):
-    """How long it takes until the server has ended the connection."""
+def silent(conn):
+    """Says nothing."""
+    conn.recv(1)
+
+
+def halting(conn):
+    """Says half a request."""
+    conn.sendall(BOARD[:-1])
+    conn.recv(1)
+
+
+def trickling(conn):
+    """Says a byte a second."""
+    for byte in BOARD:
+        conn.sendall(bytes([byte]))
+        conn.settimeout(1)
+        try:
+            conn.recv(1)
+            return
+        except TimeoutError:
+            conn.settimeout(15)
+
+
+def deaf(conn):
+    """Takes no answer."""
+    while True:
+        conn.sendall(BOARD * 100)
+
+
+# Clients that are let go, and how their lines end.
+IMPATIENT = [(silent, "read-fault"), (halting, "read-fault"), (trickling, "read-fault"), (deaf, "write-fault")]
+
+
+def seconds_until_end(conn, behave):
+    """How long it takes until the server has ended the connection of a client that behaves so."""
     begun = time.monotonic()
-    conn.settimeout(limit)
+    conn.settimeout(15)
     try:
-        while conn.recv(65536):
-            pass
+        behave(conn)
     except ConnectionError:
         pass
     except TimeoutError:
@@ -86,36 +120,34 @@ def seconds_until_end(conn, limit=15):
 
 def patience(program, folder):
     """Who says nothing, says no whole request or takes no response for so many seconds is let go, with a fault on its line."""
-    with Server(program, folder, options=["--patience", "2"], connections=4) as server:
-        silent = server.connect()
-        took = seconds_until_end(silent)
-        yield f"--patience 2: one that says nothing is let go, after {took:.1f} s", 1 < took < 8, took
-        half = server.connect()
-        half.sendall(BOARD[:-1])
-        took = seconds_until_end(half)
-        yield f"one that says half a request, after {took:.1f} s", 1 < took < 8, took
-        trickle = server.connect()
-        begun, took = time.monotonic(), float("inf")
-        for byte in b"GET /board HTTP/1.1\r\nx: " + b"y" * 200:
-            try:
-                trickle.sendall(bytes([byte]))
-            except ConnectionError:
-                took = time.monotonic() - begun
-                break
-            time.sleep(0.1)
-        yield f"one that says a byte every tenth of a second, after {took:.1f} s", took < 10, took
-        other, good = server.client(), True
-        for _ in range(6):
-            time.sleep(0.5)
-            good = good and is_answered(other)
-        yield "one that asks twice a second is not", good, None
-        other.close()
-        for conn in (silent, half, trickle):
-            conn.close()
-        status, text = server.ended()
-        lines = text.splitlines()[:4]
-        wanted = [f"conn {n} requests 0 read-fault" for n in (1, 2, 3)] + ["conn 4 requests 6 end"]
-        yield "their lines", status == 0 and lines == wanted, (status, lines)
+    options = ["--patience", "2", "--until-input-ends"]
+    with tempfile.TemporaryDirectory() as large:
+        # a board that fills what the system holds for a connection
+        write(large, FILES | {"submissions.txt": "".join(f"{n} otters echo a.rv32\n" for n in range(1, 2001))})
+        with Server(program, large, lanes=8, connections=10_000, options=options, stdin=subprocess.PIPE) as server:
+            conns, took = [server.connect() for _ in IMPATIENT], {}
+
+            def wait_for(conn, behave):
+                took[behave] = seconds_until_end(conn, behave)
+
+            threads = [threading.Thread(target=wait_for, args=(conn, behave)) for conn, (behave, _) in zip(conns, IMPATIENT)]
+            with Others(server) as others:
+                for thread in threads:
+                    thread.start()
+                for thread in threads:
+                    thread.join()
+            for behave, _ in IMPATIENT:
+                what, seconds = behave.__doc__.lower().rstrip("."), took[behave]
+                yield f"--patience 2: one that {what} is let go after {seconds:.1f} s", 1 < seconds < 8, took
+            yield others.look()
+            yield "  and one of them, which asks all the time, was never let go", len(others.kept) == 1, len(others.kept)
+            for conn in conns:
+                conn.close()
+            status, text = server.ended_in_order()
+            lines = lines_of(text) or []
+            good = status == 0 and [how for _, how in lines[:4]] == [how for _, how in IMPATIENT]
+            good = good and [requests for requests, _ in lines[:3]] == [0, 0, 0] and {how for _, how in lines[4:]} == {"end"}
+            yield "  their lines", good, (status, lines[:6])
     with Server(program, folder, connections=1) as server:
         conn = server.connect()
         conn.settimeout(3)
@@ -158,6 +190,62 @@ def ends_in_order(program, folder):
         yield "without the option the end of the input is nothing", is_answered(server.client()), None
 
 
+def host_on(program, server, name, stop):
+    """A judgehost that is started again whenever it has ended."""
+    words = ["--port", str(server.port), "--name", name, "--fuel", "100000", "--wait", "1"]
+    while not stop.is_set():
+        host = subprocess.Popen([program, "host", "127.0.0.1", *words], stdout=subprocess.DEVNULL, stderr=subprocess.DEVNULL)
+        while host.poll() is None and not stop.wait(0.05):
+            pass
+        host.kill()
+        host.wait()
+
+
+def hold_up(server, stop):
+    """Clients that come one after the other and hold up the server, for half a second or until it lets them go."""
+    while not stop.is_set():
+        for text, end in [(b"", socket.socket.close), (BOARD[:-1], tear_off), (BOARD * 1000, socket.socket.close), (BOARD, tear_off)]:
+            conn = server.connect()
+            conn.settimeout(0.5)
+            try:
+                conn.sendall(text)
+                conn.recv(1)
+            except OSError:
+                pass
+            end(conn)
+
+
+def whole_contest(program, _):
+    """Judgehosts that judge a whole contest, among clients that hold up the server: the board is the table of `judge`."""
+    options = ["--patience", "2", "--until-input-ends"]
+    with tempfile.TemporaryDirectory() as place:
+        folder = os.path.join(place, "contest")
+        verdicts = contest(program, folder, 1)
+        with Server(program, folder, lanes=6, connections=100_000, options=options, stdin=subprocess.PIPE) as server:
+            stop, begun, worst, board = threading.Event(), time.monotonic(), 0, None
+            threads = [threading.Thread(target=host_on, args=(program, server, f"h{n}", stop)) for n in range(1, 4)]
+            threads += [threading.Thread(target=hold_up, args=(server, stop)) for _ in range(2)]
+            for thread in threads:
+                thread.start()
+            while board != verdicts and time.monotonic() - begun < 60:
+                client, asked = server.client(), time.monotonic()
+                board = table_of(ask_again(client, "GET", "/board")[1])
+                worst = max(worst, time.monotonic() - asked)
+                client.close()
+                time.sleep(0.02)
+            took = time.monotonic() - begun
+            stop.set()
+            for thread in threads:
+                thread.join()
+            yield f"a contest that is judged among clients that hold up the server, in {took:.1f} s", board == verdicts, (board, verdicts)
+            yield f"  others wait {worst:.3f} s at the most", worst < 1, worst
+            status, text = server.ended_in_order()
+            wanted = [f"{n} {verdict}" for n, verdict in enumerate(verdicts, 1)] + [f"board {len(verdicts)}"]
+            lines = lines_of(text)
+            good = status == 0 and text.splitlines()[-len(wanted):] == wanted and lines is not None
+            yield f"  {len(lines or [])} lines in order, and behind them the table of judge", good, (status, text[-300:])
+
+
 def reaches_and_is_answered(server):
     try:
         with socket.create_connection(("127.0.0.1", server.port), timeout=2) as conn:
@@ -173,7 +261,7 @@ def main():
     sound = True
     with tempfile.TemporaryDirectory() as folder:
         write(folder, FILES)
-        for look in (addresses, patience, ends_in_order):
+        for look in (addresses, patience, ends_in_order, whole_contest):
             for name, good, got in look(program, folder):
                 print(f"{'ok  ' if good else 'NOT '} {name}{'' if good else f': {got!r}'}")
                 sound = sound and good
