@@ -1,5 +1,5 @@
 -- How the serving goes on, and how it ends.
-use Rattle.std.proofs.Common.{◌≡◌, ℕ, ◌+◌, ◌*◌, ◌<◌, ◌≤◌, ◌⊎◌, inl, inr, ⊎_elim, List, [], ◌∷◌, ◌++◌, Option, Result, Ok, Err, length, refl, sym, ap, ◌∙◌, subst, arith, append-nil}
+use Rattle.std.proofs.Common.{◌≡◌, ℕ, ◌+◌, ◌<◌, ◌≤◌, ◌⊎◌, inl, inr, ⊎_elim, List, [], ◌∷◌, ◌++◌, Option, Result, Ok, Err, length, refl, sym, ap, ◌∙◌, subst, arith, append-nil}
 use Rattle.std.proofs.lemmas.List.{length-append}
 use Rattle.std.specs.Io.KnownBytes.{Appends}
 use Rattle.farm_io.specs.Doors.{IsEmpty}
@@ -12,7 +12,7 @@ use Rattle.contest_server.specs.declared.serving.Coming.{Coming}
 use Rattle.contest_server.specs.declared.serving.Coming.TheVariants as coming
 use Rattle.contest_server.specs.Visits.{Watch, Start, Visit, conn_lines}
 use Rattle.contest_server.specs.Texts.{WritesFront}
-use Rattle.contest_server.specs.Serving.{Desk, share, StaysOrderly, Opening, Tells, TellsFront, TellsAll, TellsSome, TellsFirst, TakesAll, AcceptsNext, MakesRoom, with_coming, ServesNext, IsUnderWay, Wrote, IfWhole, end_of, end_after, EndsWith, Rests, ServesAll, ServesLanes}
+use Rattle.contest_server.specs.Serving.{Desk, StaysOrderly, Opening, Tells, TellsFront, TellsAll, TellsSome, TellsFirst, TakesAll, AcceptsNext, MakesRoom, with_coming, ServesNext, IsUnderWay, Wrote, IfWhole, end_of, end_after, EndsWith, Rests, ServesAll, ServesLanes}
 use Rattle.contest_server.proofs.Telling.{whole_front, front_of_more, lines_both}
 
 stays_through : {N : Type 0} (w : Watch N) (board : BoardId) (a b c : Desk N) → StaysOrderly w board a b → StaysOrderly w board b c → StaysOrderly w board a c
@@ -25,7 +25,7 @@ front_told {N} w o d held n t = record { visits = t.visits; stands = t.stands; c
 
 -- there was room, once those were told that have ended
 pub room_at_once : {N : Type 0} (w : Watch N) (board : BoardId) (old new : Desk N) (held held' : Option (List ℕ)) (n : ℕ) (result : Result (Unit {0}) TextFault) → TellsSome w board old new held held' n result → MakesRoom w board old new held held' n result
-room_at_once {N} w board old new held held' n result t = record { stays = t.stays; fewer = t.fewer; left = t.left; told = t.told }
+room_at_once {N} w board old new held held' n result t = record { stays = t.stays; fewer = t.fewer; told = t.told }
 
 -- there was room once the first one was told too
 pub room_behind : {N : Type 0} (w : Watch N) (board : BoardId) (old mid new : Desk N) (held held' held'' : Option (List ℕ)) (n : ℕ) (u : Unit {0}) (result : Result (Unit {0}) TextFault)
@@ -33,12 +33,9 @@ pub room_behind : {N : Type 0} (w : Watch N) (board : BoardId) (old mid new : De
 room_behind {N} w board old mid new held held' held'' n u result t f =
     let fewer_before = t.fewer in
     let fewer_now = f.fewer in
-    let left_before = t.left in
-    let left_now = f.left in
     record {
       stays = stays_through w board old mid new t.stays f.stays;
       fewer = omega (arith, fewer_before, fewer_now);
-      left = omega (arith, left_before, left_now, fewer_now);
       told = λ o h. f.told o (t.told o h);
     }
 
@@ -51,12 +48,9 @@ pub serves_next : {N : Type 0} (w : Watch N) (board : BoardId) (old mid new : De
 serves_next {N} w board old mid new held held' n u c m a =
     let up = coming_up c (length mid.starts) (length old.starts) m.fewer in
     let more = a.more in
-    let left_before = m.left in
-    let left_now = a.left in
     record {
       stays = stays_through w board old mid new m.stays a.stays;
       more = omega (arith, up, more);
-      left = omega (arith, left_before, left_now);
       ended = a.ended;
       told = λ o t. a.told o held' n (m.told o t);
     }
@@ -64,25 +58,20 @@ serves_next {N} w board old mid new held held' n u c m a =
 pub no_memory_next : {N : Type 0} (w : Watch N) (board : BoardId) (old new : Desk N) (held held' : Option (List ℕ)) (n : ℕ) (u : Unit {0}) → MakesRoom w board old new held held' n (Ok u) → ServesNext w board old new held held' n (Err fault.NoMemory)
 no_memory_next {N} w board old new held held' n u m =
     let fewer = m.fewer in
-    let left = m.left in
-    record { stays = m.stays; more = omega (arith, fewer); left = omega (arith, left); ended = tt; told = λ o t. front_told w o new held' n (m.told o t) }
+    record { stays = m.stays; more = omega (arith, fewer); ended = tt; told = λ o t. front_told w o new held' n (m.told o t) }
 
 pub no_room_next : {N : Type 0} (w : Watch N) (board : BoardId) (old new : Desk N) (held held' : Option (List ℕ)) (n : ℕ) (why : TextFault) → MakesRoom w board old new held held' n (Err why) → ServesNext w board old new held held' n (Err why)
 no_room_next {N} w board old new held held' n why m =
     let fewer = m.fewer in
-    let left = m.left in
-    record { stays = m.stays; more = omega (arith, fewer); left = omega (arith, left); ended = tt; told = m.told }
+    record { stays = m.stays; more = omega (arith, fewer); ended = tt; told = m.told }
 
 pub goes_on : {N : Type 0} (w : Watch N) (board : BoardId) (first now new : Desk N) (held held' held'' : Option (List ℕ)) (n : ℕ) → IsUnderWay w board first now held held' n → ServesNext w board now new held' held'' n (Ok coming.Conn) → IsUnderWay w board first new held held'' (n + 1)
 goes_on {N} w board first now new held held' held'' n u s =
     let few = u.few in
     let more = s.more in
-    let left_before = u.left in
-    let left_now = s.left in
     record {
       stays = stays_through w board first now new u.stays s.stays;
       few = omega (arith, few, more);
-      left = omega (arith, left_before, left_now);
       told = λ o t. s.told o (u.told o t);
     }
 
@@ -104,23 +93,18 @@ whole_end end.NoMemory starts none = tt
 pub record Before {N : Type 0} (w : Watch N) (board : BoardId) (first now : Desk N) (held held' : Option (List ℕ)) (n most : ℕ) (e : ServeEnd) : Type 0 where
   pub stays : StaysOrderly w board first now
   pub within : n ≤ most
-  pub left : first.pass.left + length now.starts ≤ now.pass.left + length first.starts + most * (share + 2)
   pub told : (o : Opening N) → Tells w o first held 0 → Tells w o now held' n
   pub done : e ≡ end.Done → (n ≡ most) ⊎ IsEmpty now.door.coming
 
 ends_told : {N : Type 0} (w : Watch N) (board : BoardId) (first now new : Desk N) (held held' held'' : Option (List ℕ)) (n most : ℕ) (e : ServeEnd) (u : Unit {0}) → Before w board first now held held' n most e → TellsAll w board now new held' held'' n (Ok u)
     → ServesAll w board first new held held'' most e
 ends_told {N} w board first now new held held' held'' n most e u b t =
-    let left_before = b.left in
-    let left_now = t.left in
-    let seats = b.stays.seats in
     let within = b.within in
     let none : new.starts ≡ [] = t.none in
     let empty : length new.starts ≡ 0 = ap (λ (xs : List (Start N)). length xs) none in
     record {
       stays = stays_through w board first now new b.stays t.stays;
       whole = whole_end e new.starts none;
-      left = omega (arith, left_before, left_now, seats);
       rests = λ o h. let s : Tells w o new held'' n = t.told o (b.told o h) in let count = s.count in record {
         visits = s.visits;
         stands = s.stands;
@@ -154,16 +138,11 @@ front_rests {N} w o d held n most why within t = let count = t.count in record {
 
 ends_front : {N : Type 0} (w : Watch N) (board : BoardId) (first now new : Desk N) (held held' held'' : Option (List ℕ)) (n most : ℕ) (e : ServeEnd) (why : TextFault) → Before w board first now held held' n most e → TellsAll w board now new held' held'' n (Err why)
     → ServesAll w board first new held held'' most (end_of why)
-ends_front {N} w board first now new held held' held'' n most e why b t =
-    let left_before = b.left in
-    let left_now = t.left in
-    let seats = b.stays.seats in
-    record {
-      stays = stays_through w board first now new b.stays t.stays;
-      whole = not_whole why new.starts;
-      left = omega (arith, left_before, left_now, seats);
-      rests = λ o h. front_rests w o new held'' n most why b.within (t.told o (b.told o h));
-    }
+ends_front {N} w board first now new held held' held'' n most e why b t = record {
+  stays = stays_through w board first now new b.stays t.stays;
+  whole = not_whole why new.starts;
+  rests = λ o h. front_rests w o new held'' n most why b.within (t.told o (b.told o h));
+}
 
 ends_by : {N : Type 0} (w : Watch N) (board : BoardId) (first now new : Desk N) (held held' held'' : Option (List ℕ)) (n most : ℕ) (e : ServeEnd) (told : Result (Unit {0}) TextFault) → Before w board first now held held' n most e → TellsAll w board now new held' held'' n told
     → ServesAll w board first new held held'' most (end_after e told)
@@ -180,7 +159,6 @@ pub before_all : {N : Type 0} (w : Watch N) (board : BoardId) (first now : Desk 
 before_all {N} w board first now held held' n most all u = record {
   stays = u.stays;
   within = omega arith;
-  left = subst (λ (k : ℕ). first.pass.left + length now.starts ≤ now.pass.left + length first.starts + k * (share + 2)) all u.left;
   told = λ o t. subst (λ (k : ℕ). Tells w o now held' k) all (u.told o t);
   done = λ is. inl refl;
 }
@@ -188,43 +166,31 @@ before_all {N} w board first now held held' n most all u = record {
 -- none is left to come
 pub before_end : {N : Type 0} (w : Watch N) (board : BoardId) (first now new : Desk N) (held held' held'' : Option (List ℕ)) (n most : ℕ) → n < most → IsUnderWay w board first now held held' n → ServesNext w board now new held' held'' n (Ok coming.End)
     → Before w board first new held held'' n most end.Done
-before_end {N} w board first now new held held' held'' n most within u s =
-    let left_before = u.left in
-    let left_now = s.left in
-    record {
-      stays = stays_through w board first now new u.stays s.stays;
-      within = omega (arith, within);
-      left = omega (arith, left_before, left_now, within);
-      told = λ o t. s.told o (u.told o t);
-      done = λ is. inr s.ended;
-    }
+before_end {N} w board first now new held held' held'' n most within u s = record {
+  stays = stays_through w board first now new u.stays s.stays;
+  within = omega (arith, within);
+  told = λ o t. s.told o (u.told o t);
+  done = λ is. inr s.ended;
+}
 
 -- the door failed
 pub before_fault : {N : Type 0} (w : Watch N) (board : BoardId) (first now new : Desk N) (held held' held'' : Option (List ℕ)) (n most : ℕ) → n < most → IsUnderWay w board first now held held' n → ServesNext w board now new held' held'' n (Ok coming.Failed)
     → Before w board first new held held'' n most end.DoorFault
-before_fault {N} w board first now new held held' held'' n most within u s =
-    let left_before = u.left in
-    let left_now = s.left in
-    record {
-      stays = stays_through w board first now new u.stays s.stays;
-      within = omega (arith, within);
-      left = omega (arith, left_before, left_now, within);
-      told = λ o t. s.told o (u.told o t);
-      done = λ is. absurd (cc is);
-    }
+before_fault {N} w board first now new held held' held'' n most within u s = record {
+  stays = stays_through w board first now new u.stays s.stays;
+  within = omega (arith, within);
+  told = λ o t. s.told o (u.told o t);
+  done = λ is. absurd (cc is);
+}
 
 -- a line was not written whole
 pub ends_broken : {N : Type 0} (w : Watch N) (board : BoardId) (first now new : Desk N) (held held' held'' : Option (List ℕ)) (n most : ℕ) (why : TextFault) → n < most → IsUnderWay w board first now held held' n → ServesNext w board now new held' held'' n (Err why)
     → ServesAll w board first new held held'' most (end_of why)
-ends_broken {N} w board first now new held held' held'' n most why within u s =
-    let left_before = u.left in
-    let left_now = s.left in
-    record {
-      stays = stays_through w board first now new u.stays s.stays;
-      whole = not_whole why new.starts;
-      left = omega (arith, left_before, left_now, within);
-      rests = λ o h. front_rests w o new held'' n most why (omega (arith, within)) (s.told o (u.told o h));
-    }
+ends_broken {N} w board first now new held held' held'' n most why within u s = record {
+  stays = stays_through w board first now new u.stays s.stays;
+  whole = not_whole why new.starts;
+  rests = λ o h. front_rests w o new held'' n most why (omega (arith, within)) (s.told o (u.told o h));
+}
 
 -- Those that were still being served are taken in
 
@@ -250,15 +216,11 @@ whole_done end.DoorFault starts whole is = absurd (cc is)
 whole_done end.WriteFault starts whole is = absurd (cc is)
 whole_done end.NoMemory starts whole is = absurd (cc is)
 
-pub serves_lanes : {N : Type 0} (w : Watch N) (board : BoardId) (old now new : Desk N) (held held' : Option (List ℕ)) (most : ℕ) (e : ServeEnd) → length old.starts ≡ 0 → ServesAll w board old now held held' most e → TakesAll w board now new → ServesLanes w board old new held held' most e
-serves_lanes {N} w board old now new held held' most e first s t =
-    let left_before = s.left in
-    let left_now = t.left in
-    let seats = s.stays.seats in
+pub serves_lanes : {N : Type 0} (w : Watch N) (board : BoardId) (old now new : Desk N) (held held' : Option (List ℕ)) (most : ℕ) (e : ServeEnd) → ServesAll w board old now held held' most e → TakesAll w board now new → ServesLanes w board old new held held' most e
+serves_lanes {N} w board old now new held held' most e s t =
     let empty : length new.starts ≡ 0 = ap (λ (xs : List (Start N)). length xs) t.none in
     record {
       orderly = t.stays.orderly;
-      left = omega (arith, left_before, left_now, seats, first);
       rests = λ o h.
           let r = s.rests o h in
           let more = t.taken o r.visits r.stands in

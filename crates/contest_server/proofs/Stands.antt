@@ -1,5 +1,5 @@
 -- What stands once a connection was accepted, and once one was taken in.
-use Rattle.std.proofs.Common.{◌≡◌, List, [], ◌∷◌, ◌++◌, Option, None, Some, map, refl, sym, ap, ◌∙◌, subst, arith, append_assoc}
+use Rattle.std.proofs.Common.{◌≡◌, ◌+◌, ◌<◌, List, [], ◌∷◌, ◌++◌, Option, None, Some, length, map, refl, sym, ap, ◌∙◌, subst, arith, append_assoc}
 use Rattle.std.specs.Prelude.{IsSome}
 use Rattle.std.proofs.lemmas.List.{map-append, length-append}
 use Rattle.std.proofs.lemmas.List.Elements.{All-head, All-tail}
@@ -65,9 +65,9 @@ gives_back {N} first old new visits s starts v same g t =
 
 -- A connection was accepted
 
-pub accepts : {N : Type 0} (w : Watch N) (board : BoardId) (door door' : DoorState N) (pass pass' : PassValue) (starts : List (Start N)) (s : Start N) → IsOrderly w board (desk door pass starts)
+pub accepts : {N : Type 0} (w : Watch N) (board : BoardId) (door door' : DoorState N) (pass pass' : PassValue) (starts : List (Start N)) (s : Start N) → IsOrderly w board (desk door pass starts) → share + length starts + 2 < pass.left
     → IsFresh (w.held s.came) (w.reads s.came) (w.writes s.came) → LetsIn door door' s.came → SplitsOff pass pass' s.begun share → AcceptsNext w board (desk door pass starts) (desk door' pass' (starts ++ s ∷ [])) coming.Conn
-accepts {N} w board door door' pass pass' starts s orderly fresh l split =
+accepts {N} w board door door' pass pass' starts s orderly enough fresh l split =
     let len = length-append starts (s ∷ []) in
     let room = orderly.door in
     let accepted = l.accepted in
@@ -82,11 +82,11 @@ accepts {N} w board door door' pass pass' starts s orderly fresh l split =
           door = omega (arith, len, room, accepted, returned);
           listens = subst (λ (z : Option Listening). IsSome z) (sym l.listens) orderly.listens;
           ready = all_more (IsReady w board) starts s orderly.ready ready;
+          left = omega (arith, len, left, enough);
         };
         seats = omega (arith, len, spare);
       };
       more = omega (arith, len);
-      left = omega (arith, left, len);
       ended = tt;
       told = λ o held n t. let count = t.count in record {
         visits = t.visits;
@@ -114,6 +114,7 @@ takes {N} w board door door' pass pass' s starts v e orderly same_conn same_pass
     let made_spare = made.spare in
     let spare = t.spare in
     let left = t.left in
+    let enough = orderly.left in
     let room = orderly.door in
     let accepted = b.accepted in
     let returned = b.returned in
@@ -129,11 +130,11 @@ takes {N} w board door door' pass pass' s starts v e orderly same_conn same_pass
           door = omega (arith, room, accepted, returned);
           listens = subst (λ (z : Option Listening). IsSome z) (sym b.listens) orderly.listens;
           ready = All-tail (IsReady w board) s starts orderly.ready;
+          left = omega (arith, left, enough);
         };
         seats = omega (arith, begun_spare, ready_spare, made_spare, spare);
       };
       fewer = omega arith;
-      left = omega (arith, left);
       coming = b.coming;
       taken = λ o visits h. record {
         last = v;

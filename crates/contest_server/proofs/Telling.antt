@@ -85,7 +85,6 @@ pub tells_first : {N : Type 0} (w : Watch N) (board : BoardId) (old new : Desk N
 tells_first {N} w board old new held held' e n k result t number puts = record {
   stays = t.stays;
   fewer = t.fewer;
-  left = t.left;
   coming = t.coming;
   told = λ o h. one_more w o board old new held held' e n k result t number puts h;
 }

@@ -1,5 +1,5 @@
 -- Where the serving of a contest stands.
-use Rattle.std.specs.Prelude.{◌≡◌, ℕ, ◌+◌, ◌*◌, ◌≤◌, ◌^◌, ◌⊎◌, List, [], ◌∷◌, ◌++◌, length, map, All, Option, None, Some, Result, Ok, Err}
+use Rattle.std.specs.Prelude.{◌≡◌, ℕ, ◌+◌, ◌<◌, ◌≤◌, ◌^◌, ◌⊎◌, List, [], ◌∷◌, ◌++◌, length, map, All, Option, None, Some, Result, Ok, Err}
 use Rattle.std.specs.Io.KnownBytes.{Appends}
 use Rattle.farm_io.specs.Doors.{DoorState, DoesListen, IsFresh, IsEmpty}
 use Rattle.farm_io.specs.Streams.{Rose}
@@ -53,7 +53,7 @@ pub record Desk (N : Type 0) : Type 0 where
 abbrev pub desk : {N : Type 0} → DoorState N → PassValue → List (Start N) → Desk N
 desk door pass starts = record { door = door; pass = pass; starts = starts }
 
--- how many calls the pass of a connection may make
+-- how many calls the pass of a connection may make; those that it has not made go back when it is taken in
 abbrev pub share : ℕ
 share = 2 ^ 42
 
@@ -64,13 +64,14 @@ pub record IsReady {N : Type 0} (w : Watch N) (board : BoardId) (s : Start N) : 
   pub board_is : s.begun.board ≡ board
   pub spare : s.begun.spare ≡ 0
 
--- the passes are of this board, the connections that are being served were accepted and not given back, and the door
--- listens
+-- the passes are of this board, the connections that are being served were accepted and not given back, the door listens,
+-- and the opening pass can take them all in and make a call behind that
 pub record IsOrderly {N : Type 0} (w : Watch N) (board : BoardId) (d : Desk N) : Type 0 where
   pub board_is : d.pass.board ≡ board
   pub door : d.door.returned + length d.starts ≤ d.door.accepted
   pub listens : DoesListen d.door
   pub ready : All (IsReady w board) d.starts
+  pub left : length d.starts < d.pass.left
 
 -- the desk is still in order, and a connection that is being served has a seat
 pub record StaysOrderly {N : Type 0} (w : Watch N) (board : BoardId) (old new : Desk N) : Type 0 where
@@ -122,7 +123,6 @@ pub record HasTaken {N : Type 0} (w : Watch N) (o : Opening N) (visits : List (V
 pub record TakesFirst {N : Type 0} (w : Watch N) (board : BoardId) (old new : Desk N) (e : ConnEnd) : Type 0 where
   pub stays : StaysOrderly w board old new
   pub fewer : length new.starts + 1 ≡ length old.starts
-  pub left : old.pass.left ≤ new.pass.left + 1
   pub coming : new.door.coming ≡ old.door.coming
   pub taken : (o : Opening N) (visits : List (Visit N)) → Stands w o visits old → HasTaken w o visits new e
 
@@ -137,7 +137,6 @@ pub record TellsFirst {N : Type 0} (w : Watch N) (board : BoardId) (old new : De
     (n : ℕ) (result : Result (Unit {0}) TextFault) : Type 0 where
   pub stays : StaysOrderly w board old new
   pub fewer : length new.starts + 1 ≡ length old.starts
-  pub left : old.pass.left ≤ new.pass.left + 1
   pub coming : new.door.coming ≡ old.door.coming
   pub told : (o : Opening N) → Tells w o old held n → Told w o new held' n result
 
@@ -147,7 +146,6 @@ pub record TellsFirst {N : Type 0} (w : Watch N) (board : BoardId) (old new : De
 pub record TakesAll {N : Type 0} (w : Watch N) (board : BoardId) (old new : Desk N) : Type 0 where
   pub stays : StaysOrderly w board old new
   pub none : new.starts ≡ []
-  pub left : old.pass.left ≤ new.pass.left + length old.starts
   pub coming : new.door.coming ≡ old.door.coming
   pub taken : (o : Opening N) (visits : List (Visit N)) → Stands w o visits old
       → (more : List (Visit N)) × (length more ≡ length old.starts) × Stands w o (visits ++ more) new
@@ -161,7 +159,6 @@ pub record TellsAll {N : Type 0} (w : Watch N) (board : BoardId) (old new : Desk
     (n : ℕ) (result : Result (Unit {0}) TextFault) : Type 0 where
   pub stays : StaysOrderly w board old new
   pub none : IfTold result new.starts
-  pub left : old.pass.left ≤ new.pass.left + length old.starts
   pub coming : new.door.coming ≡ old.door.coming
   pub told : (o : Opening N) → Tells w o old held n → Told w o new held' n result
 
@@ -170,7 +167,6 @@ pub record TellsSome {N : Type 0} (w : Watch N) (board : BoardId) (old new : Des
     (n : ℕ) (result : Result (Unit {0}) TextFault) : Type 0 where
   pub stays : StaysOrderly w board old new
   pub fewer : length new.starts ≤ length old.starts
-  pub left : old.pass.left + length new.starts ≤ new.pass.left + length old.starts
   pub coming : new.door.coming ≡ old.door.coming
   pub told : (o : Opening N) → Tells w o old held n → Told w o new held' n result
 
@@ -182,7 +178,6 @@ pub record MakesRoom {N : Type 0} (w : Watch N) (board : BoardId) (old new : Des
     (n : ℕ) (result : Result (Unit {0}) TextFault) : Type 0 where
   pub stays : StaysOrderly w board old new
   pub fewer : length new.starts ≤ length old.starts
-  pub left : old.pass.left + length new.starts ≤ new.pass.left + length old.starts
   pub told : (o : Opening N) → Tells w o old held n → Told w o new held' n result
 
 abbrev pub with_coming : ℕ → Coming → ℕ
@@ -200,7 +195,6 @@ IfEnded left coming.Failed = Unit {0}
 pub record AcceptsNext {N : Type 0} (w : Watch N) (board : BoardId) (old new : Desk N) (result : Coming) : Type 0 where
   pub stays : StaysOrderly w board old new
   pub more : length new.starts ≤ with_coming (length old.starts) result
-  pub left : old.pass.left + length new.starts ≤ new.pass.left + length old.starts + (share + 2)
   pub ended : IfEnded new.door.coming result
   pub told : (o : Opening N) (held : Option (List ℕ)) (n : ℕ) → Tells w o old held n
       → Tells w o new held (with_coming n result)
@@ -223,7 +217,6 @@ pub record ServesNext {N : Type 0} (w : Watch N) (board : BoardId) (old new : De
     (n : ℕ) (result : Result Coming TextFault) : Type 0 where
   pub stays : StaysOrderly w board old new
   pub more : length new.starts ≤ with_next (length old.starts) result
-  pub left : old.pass.left + length new.starts ≤ new.pass.left + length old.starts + (share + 2)
   pub ended : IfNextEnded new.door.coming result
   pub told : (o : Opening N) → Tells w o old held n → ToldNext w o new held' n result
 
@@ -240,7 +233,6 @@ pub record IsUnderWay {N : Type 0} (w : Watch N) (board : BoardId) (first now : 
     (n : ℕ) : Type 0 where
   pub stays : StaysOrderly w board first now
   pub few : length now.starts ≤ length first.starts + n
-  pub left : first.pass.left + length now.starts ≤ now.pass.left + length first.starts + n * (share + 2)
   pub told : (o : Opening N) → Tells w o first held 0 → Tells w o now held' n
 
 -- The end
@@ -290,14 +282,12 @@ pub record ServesAll {N : Type 0} (w : Watch N) (board : BoardId) (old new : Des
     (most : ℕ) (e : ServeEnd) : Type 0 where
   pub stays : StaysOrderly w board old new
   pub whole : IfWhole e new.starts
-  pub left : old.pass.left ≤ new.pass.left + (most * (share + 2) + (old.pass.spare + length old.starts))
   pub rests : (o : Opening N) → Tells w o old held 0 → Rests w o new held' most e
 
 -- the same, and no connection is being served any more
 pub record ServesLanes {N : Type 0} (w : Watch N) (board : BoardId) (old new : Desk N) (held held' : Option (List ℕ))
     (most : ℕ) (e : ServeEnd) : Type 0 where
   pub orderly : IsOrderly w board new
-  pub left : old.pass.left ≤ new.pass.left + (most * (share + 2) + 2 * old.pass.spare)
   pub rests : (o : Opening N) → Tells w o old held 0 → Rests w o new held' most e
 
 -- the count of the door's faults never falls, and rises where it failed; so does that of the sink

@@ -1,4 +1,4 @@
-ghost use Rattle.std.specs.Prelude.{◌≡◌, ◌≢◌, ◌+◌, ◌*◌, ◌<◌, [], List};
+ghost use Rattle.std.specs.Prelude.{◌≡◌, ◌≢◌, ◌<◌, [], List};
 ghost use Rattle.std.specs.Bool.{OnTrue, OnFalse};
 ghost use Rattle.farm_kinds.specs.declared.events.Event.{Event as EventValue};
 ghost use Rattle.farm_board.specs.BoardState.{BoardState};
@@ -6,7 +6,7 @@ ghost use Rattle.farm_board.specs.Histories.{IsOpening};
 ghost use Rattle.parallel_judge.specs.Hosts.{HasEntered};
 ghost use Rattle.judge_server.specs.Exchanges.{around_of};
 ghost use Rattle.contest_server.specs.Visits.{watch, with_cases};
-ghost use Rattle.contest_server.specs.Serving.{desk, share, IsOrderly, ServesLanes, HasCauseEnd};
+ghost use Rattle.contest_server.specs.Serving.{desk, IsOrderly, ServesLanes, HasCauseEnd};
 ghost use Rattle.contest_server.specs.Served.{HasServed, ShowsBoard};
 
 use crate::bell::Bell;
@@ -52,7 +52,6 @@ where
     requires orderly { IsOrderly (with_cases (Q.case_at cases.now) (watch D.Conn.left D.Conn.held D.Conn.Source.faults D.Conn.Sink.faults (around_of (C.shows clock.now) D.Conn.Peer.asks))) board.now.id (desk (D.state door.old) pass []) }
     requires some { 0 < most }
     requires seats { pass.spare ≡ most }
-    requires left { connections * (share + 2) + 2 * most < pass.left }
     ensures serves { ServesLanes (with_cases (Q.case_at cases.now) (watch D.Conn.left D.Conn.held D.Conn.Source.faults D.Conn.Sink.faults (around_of (C.shows clock.now) D.Conn.Peer.asks))) board.now.id (desk (D.state door.old) pass []) (desk (D.state door.new) result.0 []) (K.held out.old) (K.held out.new) connections result.1 }
     ensures cause { HasCauseEnd (D.faults door.old) (D.faults door.new) (K.faults out.old) (K.faults out.new) result.1 }
 {
@@ -63,7 +62,6 @@ where
             requires orderly { IsOrderly (with_cases (Q.case_at cases.now) (watch D.Conn.left D.Conn.held D.Conn.Source.faults D.Conn.Sink.faults (around_of (C.shows clock.now) D.Conn.Peer.asks))) board.now.id (desk (D.state door.now) pass []) }
             requires some { 0 < most }
             requires seats { pass.spare ≡ most }
-            requires left { connections * (share + 2) + 2 * most < pass.left }
             ensures { (result.0.ghost_name ≡ door.entry.ghost_name) × (result.1.ghost_name ≡ out.entry.ghost_name)
                 × ServesLanes (with_cases (Q.case_at cases.entry.now) (watch D.Conn.left D.Conn.held D.Conn.Source.faults D.Conn.Sink.faults (around_of (C.shows clock.entry.now) D.Conn.Peer.asks))) board.entry.now.id (desk (D.state door.entry.now) pass []) (desk (D.state result.0.now) result.2 []) (K.held out.entry.now) (K.held result.1.now) connections result.3
                 × HasCauseEnd (D.faults door.entry.now) (D.faults result.0.now) (K.faults out.entry.now) (K.faults result.1.now) result.3 }
@@ -154,7 +152,6 @@ where
     requires orderly { IsOrderly (with_cases (Q.case_at cases.now) (watch D.Conn.left D.Conn.held D.Conn.Source.faults D.Conn.Sink.faults (around_of (C.shows clock.now) D.Conn.Peer.asks))) board.now.id (desk (D.state door.old) pass []) }
     requires some { 0 < untold }
     requires seats { pass.spare ≡ untold }
-    requires left { connections * (share + 2) + 4 * untold < pass.left }
     ensures served { (start : BoardState) (events : List EventValue) → IsOpening start → HasEntered start events pass
         → HasServed (with_cases (Q.case_at cases.now) (watch D.Conn.left D.Conn.held D.Conn.Source.faults D.Conn.Sink.faults (around_of (C.shows clock.now) D.Conn.Peer.asks))) start events (D.state door.old) (D.state door.new) (K.held out.old) (K.held out.new) connections result }
     ensures cause { HasCauseEnd (D.faults door.old) (D.faults door.new) (K.faults out.old) (K.faults out.new) result }

@@ -35,6 +35,10 @@ const UNTOLD: u16 = 8192;
 /// all before it have ended and another one comes; behind the lines stands the text of `board`. Where 8,192 wait for
 /// that, the one that was accepted first is waited for.
 ///
+/// Each connection has a pass for 2^42 calls of the board, which is more than its requests can need, and gives back those
+/// that it has not made. So the 2^62 calls of a board last for any number of connections. Where too few are left for one
+/// more, the serving ends as where no memory is left.
+///
 /// Where the door fails, the connections that were accepted are served and their lines written, but no board. Where a
 /// text can't be written, they are served and given back.
 pub fn serve_contest<R: Threads + Wait + Sync, D: Door, K: Sink, C: Clock + Sync>(
@@ -50,7 +54,6 @@ pub fn serve_contest<R: Threads + Wait + Sync, D: Door, K: Sink, C: Clock + Sync
 where
     D::Conn: Drop,
     requires lanes { (1 ≤ lanes) × (lanes ≤ 16) }
-    requires connections { connections ≤ 100000 }
     requires door { (D.state door.old).returned ≤ (D.state door.old).accepted }
     requires listens { DoesListen (D.state door.old) }
     ensures serves { Serves (with_cases (case_at roster.now) (watch D.Conn.left D.Conn.held D.Conn.Source.faults D.Conn.Sink.faults (around_of (C.shows clock.now) D.Conn.Peer.asks))) (opening_board (start roster.now.settings) (seats lanes) false)

@@ -7,6 +7,6 @@ pub enum ServeEnd {
     DoorFault,
     /// Writing failed.
     WriteFault,
-    /// No memory was left.
+    /// No memory was left, or too few calls of the board for one more connection.
     NoMemory,
 }

@@ -1,4 +1,4 @@
-ghost use Rattle.std.specs.Prelude.{◌≡◌, ◌+◌, ◌*◌, ◌<◌, ◌≤◌, IfOk, Ok, []};
+ghost use Rattle.std.specs.Prelude.{◌≡◌, ◌+◌, ◌<◌, ◌≤◌, IfOk, IsTrue, Ok, []};
 ghost use Rattle.std.specs.VecDeque.{deque_len, deque_capacity};
 ghost use Rattle.farm_io.specs.Streams.{Rose};
 ghost use Rattle.contest_server.specs.Texts.{HasCauseTold};
@@ -20,7 +20,8 @@ use std::collections::VecDeque;
 use std::sync::Wait;
 use std::thread::{Scope, Threads};
 
-/// How many calls the pass of a connection may make.
+/// How many calls the pass of a connection may make: more than its requests can need. Those that it has not made go back
+/// to the opening pass when it is taken in.
 const SHARE: u64 = 1 << 42;
 
 /// What came of asking the door for a connection.
@@ -50,7 +51,6 @@ where
     requires orderly { IsOrderly (with_cases (Q.case_at cases.now) (watch D.Conn.left D.Conn.held D.Conn.Source.faults D.Conn.Sink.faults (around_of (C.shows clock.now) D.Conn.Peer.asks))) board.now.id (desk (D.state door.old) pass.old (starts_of lanes.old.items)) }
     requires lanes { AreLanes (with_cases (Q.case_at cases.now) (watch D.Conn.left D.Conn.held D.Conn.Source.faults D.Conn.Sink.faults (around_of (C.shows clock.now) D.Conn.Peer.asks))) clock.now cases.now lanes.old.items }
     requires some { 0 < deque_len lanes.old }
-    requires left { 0 < pass.old.left }
     ensures takes { TakesFirst (with_cases (Q.case_at cases.now) (watch D.Conn.left D.Conn.held D.Conn.Source.faults D.Conn.Sink.faults (around_of (C.shows clock.now) D.Conn.Peer.asks))) board.now.id (desk (D.state door.old) pass.old (starts_of lanes.old.items)) (desk (D.state door.new) pass.new (starts_of lanes.new.items)) result }
     ensures lanes { AreLanes (with_cases (Q.case_at cases.now) (watch D.Conn.left D.Conn.held D.Conn.Source.faults D.Conn.Sink.faults (around_of (C.shows clock.now) D.Conn.Peer.asks))) clock.now cases.now lanes.new.items }
     ensures later { D.faults door.old ≤ D.faults door.new }
@@ -86,7 +86,6 @@ where
     requires orderly { IsOrderly (with_cases (Q.case_at cases.now) (watch D.Conn.left D.Conn.held D.Conn.Source.faults D.Conn.Sink.faults (around_of (C.shows clock.now) D.Conn.Peer.asks))) board.now.id (desk (D.state door.old) pass.old (starts_of lanes.old.items)) }
     requires lanes { AreLanes (with_cases (Q.case_at cases.now) (watch D.Conn.left D.Conn.held D.Conn.Source.faults D.Conn.Sink.faults (around_of (C.shows clock.now) D.Conn.Peer.asks))) clock.now cases.now lanes.old.items }
     requires some { 0 < deque_len lanes.old }
-    requires left { 0 < pass.old.left }
     requires count { deque_len lanes.old ≤ count }
     ensures tells { TellsFirst (with_cases (Q.case_at cases.now) (watch D.Conn.left D.Conn.held D.Conn.Source.faults D.Conn.Sink.faults (around_of (C.shows clock.now) D.Conn.Peer.asks))) board.now.id (desk (D.state door.old) pass.old (starts_of lanes.old.items)) (desk (D.state door.new) pass.new (starts_of lanes.new.items)) (K.held out.old) (K.held out.new) count result }
     ensures cause { HasCauseTold (K.faults out.old) (K.faults out.new) result }
@@ -183,7 +182,6 @@ where
     D::Conn: Drop,
     requires orderly { IsOrderly (with_cases (Q.case_at cases.now) (watch D.Conn.left D.Conn.held D.Conn.Source.faults D.Conn.Sink.faults (around_of (C.shows clock.now) D.Conn.Peer.asks))) board.now.id (desk (D.state door.old) pass.old (starts_of lanes.old.items)) }
     requires lanes { AreLanes (with_cases (Q.case_at cases.now) (watch D.Conn.left D.Conn.held D.Conn.Source.faults D.Conn.Sink.faults (around_of (C.shows clock.now) D.Conn.Peer.asks))) clock.now cases.now lanes.old.items }
-    requires left { deque_len lanes.old ≤ pass.old.left }
     requires count { deque_len lanes.old ≤ count }
     ensures tells { TellsSome (with_cases (Q.case_at cases.now) (watch D.Conn.left D.Conn.held D.Conn.Source.faults D.Conn.Sink.faults (around_of (C.shows clock.now) D.Conn.Peer.asks))) board.now.id (desk (D.state door.old) pass.old (starts_of lanes.old.items)) (desk (D.state door.new) pass.new (starts_of lanes.new.items)) (K.held out.old) (K.held out.new) count result }
     ensures cause { HasCauseTold (K.faults out.old) (K.faults out.new) result }
@@ -218,7 +216,6 @@ where
     D::Conn: Drop,
     requires orderly { IsOrderly (with_cases (Q.case_at cases.now) (watch D.Conn.left D.Conn.held D.Conn.Source.faults D.Conn.Sink.faults (around_of (C.shows clock.now) D.Conn.Peer.asks))) board.now.id (desk (D.state door.old) pass.old (starts_of lanes.old.items)) }
     requires lanes { AreLanes (with_cases (Q.case_at cases.now) (watch D.Conn.left D.Conn.held D.Conn.Source.faults D.Conn.Sink.faults (around_of (C.shows clock.now) D.Conn.Peer.asks))) clock.now cases.now lanes.old.items }
-    requires left { deque_len lanes.old ≤ pass.old.left }
     requires count { deque_len lanes.old ≤ count }
     ensures tells { TellsAll (with_cases (Q.case_at cases.now) (watch D.Conn.left D.Conn.held D.Conn.Source.faults D.Conn.Sink.faults (around_of (C.shows clock.now) D.Conn.Peer.asks))) board.now.id (desk (D.state door.old) pass.old (starts_of lanes.old.items)) (desk (D.state door.new) pass.new (starts_of lanes.new.items)) (K.held out.old) (K.held out.new) count result }
     ensures cause { HasCauseTold (K.faults out.old) (K.faults out.new) result }
@@ -247,7 +244,6 @@ where
     D::Conn: Drop,
     requires orderly { IsOrderly (with_cases (Q.case_at cases.now) (watch D.Conn.left D.Conn.held D.Conn.Source.faults D.Conn.Sink.faults (around_of (C.shows clock.now) D.Conn.Peer.asks))) board.now.id (desk (D.state door.old) pass.old (starts_of lanes.old.items)) }
     requires lanes { AreLanes (with_cases (Q.case_at cases.now) (watch D.Conn.left D.Conn.held D.Conn.Source.faults D.Conn.Sink.faults (around_of (C.shows clock.now) D.Conn.Peer.asks))) clock.now cases.now lanes.old.items }
-    requires left { deque_len lanes.old ≤ pass.old.left }
     ensures takes { TakesAll (with_cases (Q.case_at cases.now) (watch D.Conn.left D.Conn.held D.Conn.Source.faults D.Conn.Sink.faults (around_of (C.shows clock.now) D.Conn.Peer.asks))) board.now.id (desk (D.state door.old) pass.old (starts_of lanes.old.items)) (desk (D.state door.new) pass.new (starts_of lanes.new.items)) }
     ensures later { D.faults door.old ≤ D.faults door.new }
 {
@@ -286,7 +282,7 @@ where
     requires lanes { AreLanes (with_cases (Q.case_at cases.now) (watch D.Conn.left D.Conn.held D.Conn.Source.faults D.Conn.Sink.faults (around_of (C.shows clock.now) D.Conn.Peer.asks))) clock.now cases.now lanes.old.items }
     requires room { deque_len lanes.old < deque_capacity lanes.old }
     requires spare { 0 < pass.old.spare }
-    requires left { share < pass.old.left }
+    requires left { share + deque_len lanes.old + 2 < pass.old.left }
     ensures accepts { AcceptsNext (with_cases (Q.case_at cases.now) (watch D.Conn.left D.Conn.held D.Conn.Source.faults D.Conn.Sink.faults (around_of (C.shows clock.now) D.Conn.Peer.asks))) board.now.id (desk (D.state door.old) pass.old (starts_of lanes.old.items)) (desk (D.state door.new) pass.new (starts_of lanes.new.items)) result }
     ensures lanes { AreLanes (with_cases (Q.case_at cases.now) (watch D.Conn.left D.Conn.held D.Conn.Source.faults D.Conn.Sink.faults (around_of (C.shows clock.now) D.Conn.Peer.asks))) clock.now cases.now lanes.new.items }
     ensures later { D.faults door.old ≤ D.faults door.new }
@@ -328,7 +324,6 @@ where
     requires lanes { AreLanes (with_cases (Q.case_at cases.now) (watch D.Conn.left D.Conn.held D.Conn.Source.faults D.Conn.Sink.faults (around_of (C.shows clock.now) D.Conn.Peer.asks))) clock.now cases.now lanes.old.items }
     requires some { 0 < most }
     requires few { deque_len lanes.old ≤ most }
-    requires left { deque_len lanes.old ≤ pass.old.left }
     requires count { deque_len lanes.old ≤ count }
     ensures makes { MakesRoom (with_cases (Q.case_at cases.now) (watch D.Conn.left D.Conn.held D.Conn.Source.faults D.Conn.Sink.faults (around_of (C.shows clock.now) D.Conn.Peer.asks))) board.now.id (desk (D.state door.old) pass.old (starts_of lanes.old.items)) (desk (D.state door.new) pass.new (starts_of lanes.new.items)) (K.held out.old) (K.held out.new) count result }
     ensures room { IfOk result (λ _. deque_len lanes.new < most) }
@@ -348,7 +343,14 @@ where
     )
 }
 
-/// Makes room for a connection, and begins to serve the next one, where so many came.
+/// Whether the calls that are left suffice for one more connection, beside those by which all are taken in.
+fn has_calls<A: Admission>(pass: &Pass<A>, lanes: usize) -> bool
+    ensures { IsTrue result → share + lanes + 2 < pass.now.left }
+{
+    pass.left().saturating_sub(SHARE + 2) > lanes as u64
+}
+
+/// Makes room for a connection, and begins to serve the next one, where so many came and calls of the board are left.
 fn serve_ready<
     's,
     E,
@@ -381,7 +383,6 @@ where
     requires lanes { AreLanes (with_cases (Q.case_at cases.now) (watch D.Conn.left D.Conn.held D.Conn.Source.faults D.Conn.Sink.faults (around_of (C.shows clock.now) D.Conn.Peer.asks))) clock.now cases.now lanes.old.items }
     requires some { 0 < most }
     requires seats { pass.old.spare + deque_len lanes.old ≡ most }
-    requires left { share + deque_len lanes.old + 1 < pass.old.left }
     requires count { deque_len lanes.old ≤ count }
     ensures serves { ServesNext (with_cases (Q.case_at cases.now) (watch D.Conn.left D.Conn.held D.Conn.Source.faults D.Conn.Sink.faults (around_of (C.shows clock.now) D.Conn.Peer.asks))) board.now.id (desk (D.state door.old) pass.old (starts_of lanes.old.items)) (desk (D.state door.new) pass.new (starts_of lanes.new.items)) (K.held out.old) (K.held out.new) count result }
     ensures cause { HasCauseNext (D.faults door.old) (D.faults door.new) (K.faults out.old) (K.faults out.new) result }
@@ -391,6 +392,9 @@ where
         rt, alloc, board, clock, cases, door, out, pass, lanes, most, count,
     )?;
     if lanes.try_reserve(1).is_err() {
+        return Err(TextFault::NoMemory);
+    }
+    if !has_calls(pass, lanes.len()) {
         return Err(TextFault::NoMemory);
     }
     Ok(accept_next(
@@ -432,7 +436,6 @@ where
     requires lanes { AreLanes (with_cases (Q.case_at cases.now) (watch D.Conn.left D.Conn.held D.Conn.Source.faults D.Conn.Sink.faults (around_of (C.shows clock.now) D.Conn.Peer.asks))) clock.now cases.now lanes.old.items }
     requires some { 0 < most }
     requires seats { pass.old.spare + deque_len lanes.old ≡ most }
-    requires left { share + deque_len lanes.old + 1 < pass.old.left }
     requires count { deque_len lanes.old ≤ count }
     ensures serves { ServesNext (with_cases (Q.case_at cases.now) (watch D.Conn.left D.Conn.held D.Conn.Source.faults D.Conn.Sink.faults (around_of (C.shows clock.now) D.Conn.Peer.asks))) board.now.id (desk (D.state door.old) pass.old (starts_of lanes.old.items)) (desk (D.state door.new) pass.new (starts_of lanes.new.items)) (K.held out.old) (K.held out.new) count result }
     ensures cause { HasCauseNext (D.faults door.old) (D.faults door.new) (K.faults out.old) (K.faults out.new) result }
@@ -465,7 +468,6 @@ where
     D::Conn: Drop,
     requires orderly { IsOrderly (with_cases (Q.case_at cases.now) (watch D.Conn.left D.Conn.held D.Conn.Source.faults D.Conn.Sink.faults (around_of (C.shows clock.now) D.Conn.Peer.asks))) board.now.id (desk (D.state door.old) pass.old (starts_of lanes.old.items)) }
     requires lanes { AreLanes (with_cases (Q.case_at cases.now) (watch D.Conn.left D.Conn.held D.Conn.Source.faults D.Conn.Sink.faults (around_of (C.shows clock.now) D.Conn.Peer.asks))) clock.now cases.now lanes.old.items }
-    requires left { deque_len lanes.old ≤ pass.old.left }
     requires count { deque_len lanes.old ≤ count }
     ensures ends { EndsWith (with_cases (Q.case_at cases.now) (watch D.Conn.left D.Conn.held D.Conn.Source.faults D.Conn.Sink.faults (around_of (C.shows clock.now) D.Conn.Peer.asks))) board.now.id (desk (D.state door.old) pass.old (starts_of lanes.old.items)) (desk (D.state door.new) pass.new (starts_of lanes.new.items)) (K.held out.old) (K.held out.new) (K.faults out.old) (K.faults out.new) count end result }
     ensures lanes { AreLanes (with_cases (Q.case_at cases.now) (watch D.Conn.left D.Conn.held D.Conn.Source.faults D.Conn.Sink.faults (around_of (C.shows clock.now) D.Conn.Peer.asks))) clock.now cases.now lanes.new.items }
@@ -524,7 +526,6 @@ where
     requires some { 0 < most }
     requires none { deque_len lanes.old ≡ 0 }
     requires seats { pass.old.spare ≡ most }
-    requires left { connections * (share + 2) + most < pass.old.left }
     ensures serves { ServesAll (with_cases (Q.case_at cases.now) (watch D.Conn.left D.Conn.held D.Conn.Source.faults D.Conn.Sink.faults (around_of (C.shows clock.now) D.Conn.Peer.asks))) board.now.id (desk (D.state door.old) pass.old (starts_of lanes.old.items)) (desk (D.state door.new) pass.new (starts_of lanes.new.items)) (K.held out.old) (K.held out.new) connections result }
     ensures cause { HasCauseEnd (D.faults door.old) (D.faults door.new) (K.faults out.old) (K.faults out.new) result }
     ensures lanes { AreLanes (with_cases (Q.case_at cases.now) (watch D.Conn.left D.Conn.held D.Conn.Source.faults D.Conn.Sink.faults (around_of (C.shows clock.now) D.Conn.Peer.asks))) clock.now cases.now lanes.new.items }
@@ -629,7 +630,6 @@ where
     requires orderly { IsOrderly (with_cases (Q.case_at cases.now) (watch D.Conn.left D.Conn.held D.Conn.Source.faults D.Conn.Sink.faults (around_of (C.shows clock.now) D.Conn.Peer.asks))) board.now.id (desk (D.state door.old) pass.old []) }
     requires some { 0 < most }
     requires seats { pass.old.spare ≡ most }
-    requires left { connections * (share + 2) + 2 * most < pass.old.left }
     ensures serves { ServesLanes (with_cases (Q.case_at cases.now) (watch D.Conn.left D.Conn.held D.Conn.Source.faults D.Conn.Sink.faults (around_of (C.shows clock.now) D.Conn.Peer.asks))) board.now.id (desk (D.state door.old) pass.old []) (desk (D.state door.new) pass.new []) (K.held out.old) (K.held out.new) connections result }
     ensures cause { HasCauseEnd (D.faults door.old) (D.faults door.new) (K.faults out.old) (K.faults out.new) result }
 {

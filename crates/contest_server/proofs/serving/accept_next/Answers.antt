@@ -1,11 +1,11 @@
-use Rattle.std.proofs.Common.{[], ◌∷◌, ◌++◌, ◌≡◌, sym, ap, ◌∙◌, subst}
+use Rattle.std.proofs.Common.{[], ◌∷◌, ◌++◌, ◌≡◌, ◌+◌, ◌<◌, length, sym, ap, ◌∙◌, subst, arith}
 use Rattle.std.specs.Prelude.{All}
-use Rattle.std.proofs.lemmas.List.{map-append}
+use Rattle.std.proofs.lemmas.List.{map-append, length-map}
 use Rattle.contest_server.specs.declared.serving.Coming.TheVariants as coming
 use Rattle.judge_server.specs.Exchanges.{around_of}
 use Rattle.contest_server.specs.Visits.{watch, with_cases, Start}
 use Rattle.contest_server.specs.Lanes.{start_of, starts_of, IsLane}
-use Rattle.contest_server.specs.Serving.{desk, AcceptsNext}
+use Rattle.contest_server.specs.Serving.{desk, share, AcceptsNext}
 use Rattle.contest_server.proofs.Beside.{all_more}
 use Rattle.contest_server.proofs.Stands.{accepts}
 use Rattle.contest_server.proofs.serving.accept_next.Goals as goal
@@ -16,10 +16,14 @@ returns-in-Conn-clause-accepts g c =
     let board = c.args.board.now.id in
     let lanes = c.args.lanes.now.items in
     let s : Start g.row.D-Conn.Denot = record { came = c.in-Conn.conn; begun = c.split-own.result } in
+    let left = c.requires.left in
+    let len = length-map lanes start_of in
+    let lanes_ok = c.args.lanes.now.ok.0 in
+    let enough : share + length (starts_of lanes) + 2 < c.args.pass.now.left = omega (arith, left, len, lanes_ok) in
     let more : starts_of c.push_back_reserved.new.self.items ≡ starts_of lanes ++ s ∷ [] =
     ap starts_of c.push_back_reserved.ensures.items ∙ map-append start_of lanes (c.begin-lane.result ∷ []) ∙ ap (λ x. starts_of lanes ++ x ∷ []) c.begin-lane.ensures.start in
     subst (λ starts. AcceptsNext w board (desk (g.D.Door.state c.args.door.now) c.args.pass.now (starts_of lanes)) (desk (g.D.Door.state c.accept.new.self) c.split-own.new.pass starts) coming.Conn) (sym more)
-    (accepts w board (g.D.Door.state c.args.door.now) (g.D.Door.state c.accept.new.self) c.args.pass.now c.split-own.new.pass (starts_of lanes) s c.requires.orderly c.in-Conn.ensures.fresh c.in-Conn.ensures.accepts c.split-own.ensures.split)
+    (accepts w board (g.D.Door.state c.args.door.now) (g.D.Door.state c.accept.new.self) c.args.pass.now c.split-own.new.pass (starts_of lanes) s c.requires.orderly enough c.in-Conn.ensures.fresh c.in-Conn.ensures.accepts c.split-own.ensures.split)
 
 pub returns-in-Conn-clause-lanes : goal.returns-in-Conn-clause-lanes
 returns-in-Conn-clause-lanes g c =

@@ -1,4 +1,4 @@
-use Rattle.std.proofs.Common.{[], ap, subst, arith, length}
+use Rattle.std.proofs.Common.{[], ap, subst, arith}
 use Rattle.judge_server.specs.Exchanges.{around_of}
 use Rattle.contest_server.specs.Visits.{watch, with_cases}
 use Rattle.contest_server.specs.Lanes.{starts_of}
@@ -17,7 +17,7 @@ returns-clause-serves g c =
     let empty = ap starts_of c.new-lanes.ensures.items in
     let takes = c.take_all.ensures.takes in
     let whole = serves_lanes w board (desk door c.args.pass.now (starts_of c.new-lanes.result.items)) _ (desk (g.D.Door.state c.take_all.new.door) c.take_all.new.pass (starts_of c.take_all.new.lanes.items)) held held' c.args.connections c.serve_all-end.result
-    (ap (λ xs. length xs) empty) c.serve_all-end.ensures.serves takes in
+    c.serve_all-end.ensures.serves takes in
     let last = subst (λ starts. ServesLanes w board (desk door c.args.pass.now (starts_of c.new-lanes.result.items)) (desk (g.D.Door.state c.take_all.new.door) c.take_all.new.pass starts) held held' c.args.connections c.serve_all-end.result) takes.none whole in
     subst (λ starts. ServesLanes w board (desk door c.args.pass.now starts) (desk (g.D.Door.state c.take_all.new.door) c.take_all.new.pass []) held held' c.args.connections c.serve_all-end.result) empty last
 

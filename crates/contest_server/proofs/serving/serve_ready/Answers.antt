@@ -1,9 +1,8 @@
-use Rattle.std.proofs.Common.{Err, sym, ap, subst, arith}
-use Rattle.std.proofs.lemmas.List.{length-map}
+use Rattle.std.proofs.Common.{Err, sym, ap, subst}
 use Rattle.contest_server.specs.declared.lines.TextFault.TheVariants as fault
 use Rattle.judge_server.specs.Exchanges.{around_of}
 use Rattle.contest_server.specs.Visits.{watch, with_cases}
-use Rattle.contest_server.specs.Lanes.{start_of, starts_of}
+use Rattle.contest_server.specs.Lanes.{starts_of}
 use Rattle.contest_server.specs.Serving.{desk, ServesNext}
 use Rattle.contest_server.proofs.Ending.{no_memory_next}
 use Rattle.contest_server.proofs.serving.serve_ready.Goals as goal
@@ -19,10 +18,13 @@ returns-then-is_err-clause-serves g c =
     subst (λ starts. ServesNext w board old (desk door c.make_room.new.pass starts) held held' c.args.count (Err fault.NoMemory)) (sym (ap starts_of c.try_reserve.ensures.items))
     (no_memory_next w board old (desk door c.make_room.new.pass (starts_of c.make_room.new.lanes.items)) held held' c.args.count _ c.in_ok-make_room.ensures.makes)
 
-pub accept_next-requires-clause-left : goal.accept_next-requires-clause-left
-accept_next-requires-clause-left g c =
-    let room = c.in_ok-make_room.ensures.makes.left in
-    let enough = c.requires.left in
-    let before = length-map c.args.lanes.now.items start_of in
-    let before_ok = c.args.lanes.now.ok.0 in
-    omega (arith, room, enough, before, before_ok)
+pub returns-then-not-has_calls-clause-serves : goal.returns-then-not-has_calls-clause-serves
+returns-then-not-has_calls-clause-serves g c =
+    let w = with_cases (g.Q.Cases.case_at c.args.cases.now) (watch g.D.Conn.Source.left g.D.Conn.Sink.held g.D.Conn.Source.faults g.D.Conn.Sink.faults (around_of (g.C.Clock.shows c.args.clock.now) g.D.Conn.Peer.asks)) in
+    let board = c.args.board.now.id in
+    let old = desk (g.D.Door.state c.args.door.now) c.args.pass.now (starts_of c.args.lanes.now.items) in
+    let door = g.D.Door.state c.make_room.new.door in
+    let held = g.K.Sink.held c.args.out.now in
+    let held' = g.K.Sink.held c.make_room.new.out in
+    subst (λ starts. ServesNext w board old (desk door c.make_room.new.pass starts) held held' c.args.count (Err fault.NoMemory)) (sym (ap starts_of c.try_reserve.ensures.items))
+    (no_memory_next w board old (desk door c.make_room.new.pass (starts_of c.make_room.new.lanes.items)) held held' c.args.count _ c.in_ok-make_room.ensures.makes)

@@ -12,7 +12,6 @@ loop-init g c =
     record {
       stays = record { orderly = c.requires.orderly; seats = refl };
       count = omega arith;
-      left = omega arith;
       coming = refl;
       taken = λ o visits h. ([], refl, subst (λ vs. Stands w o vs (desk (g.D.Door.state c.args.door.now) c.args.pass.now (starts_of c.args.lanes.now.items))) (sym (append-nil visits)) h);
       lanes = c.requires.lanes;

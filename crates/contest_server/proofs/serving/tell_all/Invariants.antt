@@ -10,7 +10,6 @@ invariant-loop g l = record {
   stays : StaysOrderly (with_cases (g.Q.Cases.case_at l.cases) (watch g.D.Conn.Source.left g.D.Conn.Sink.held g.D.Conn.Source.faults g.D.Conn.Sink.faults (around_of (g.C.Clock.shows l.clock) g.D.Conn.Peer.asks))) l.board.id (desk (g.D.Door.state l.initial.door) l.initial.pass (starts_of l.initial.lanes.items))
       (desk (g.D.Door.state l.door) l.pass (starts_of l.lanes.items));
   count : length (starts_of l.lanes.items) + l.counter ≡ length (starts_of l.initial.lanes.items);
-  left : l.initial.pass.left ≤ l.pass.left + l.counter;
   coming : (g.D.Door.state l.door).coming ≡ (g.D.Door.state l.initial.door).coming;
   told : (o : Opening g.row.D-Conn.Denot)
       → Tells (with_cases (g.Q.Cases.case_at l.cases) (watch g.D.Conn.Source.left g.D.Conn.Sink.held g.D.Conn.Source.faults g.D.Conn.Sink.faults (around_of (g.C.Clock.shows l.clock) g.D.Conn.Peer.asks))) o (desk (g.D.Door.state l.initial.door) l.initial.pass (starts_of l.initial.lanes.items)) (g.K.Sink.held l.initial.out) l.count
