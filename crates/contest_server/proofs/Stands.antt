@@ -7,7 +7,7 @@ use Rattle.farm_io.specs.declared.door.Listening.{Listening}
 use Rattle.farm_io.specs.Doors.{DoorState, IsFirstOf, with_last, LetsIn, TakesBack, IsFresh}
 use Rattle.farm_board.specs.Passes.{BoardId, PassValue, SplitsOff, TakesIn}
 use Rattle.judge_server.specs.declared.ends.ConnEnd.{ConnEnd}
-use Rattle.contest_server.specs.declared.serving.Coming.TheVariants as coming
+use Rattle.contest_server.specs.declared.accepting.Coming.TheVariants as coming
 use Rattle.contest_server.specs.Visits.{Watch, Start, Visit, IsAnswered, IsVisit}
 use Rattle.contest_server.specs.Serving.{Came, with_all, all_came, GivesBack, desk, share, IsReady, IsOrderly, TakesFirst, AcceptsNext}
 use Rattle.contest_server.proofs.Beside.{all_more, splits_beside, joins_beside}

@@ -12,8 +12,8 @@ use Rattle.contest_server.specs.declared.ends.ServeEnd.{ServeEnd}
 use Rattle.contest_server.specs.declared.ends.ServeEnd.TheVariants as end
 use Rattle.contest_server.specs.declared.lines.TextFault.{TextFault}
 use Rattle.contest_server.specs.declared.lines.TextFault.TheVariants as fault
-use Rattle.contest_server.specs.declared.serving.Coming.{Coming}
-use Rattle.contest_server.specs.declared.serving.Coming.TheVariants as coming
+use Rattle.contest_server.specs.declared.accepting.Coming.{Coming}
+use Rattle.contest_server.specs.declared.accepting.Coming.TheVariants as coming
 use Rattle.contest_server.specs.Visits.{Watch, Start, Visit, IsVisit, conn_lines}
 use Rattle.contest_server.specs.Beside.{IsBeside}
 use Rattle.contest_server.specs.Texts.{WritesFront, HasCauseTold}

@@ -1,13 +1,19 @@
-use std::sync::{Condvar, Mutex, Wait};
+use std::sync::{Mutex, Wait};
+use std::thread::Parker;
+use std::time::Duration;
 
 /// How many workers there can be at the same time.
 pub(crate) const PLACES: usize = 16;
 
-/// Where workers say that their connection has ended, each by the place that it was given.
+/// For how long a connection that was asked to close is waited for before another one is asked.
+const MOMENT_MILLISECONDS: u64 = 50;
+
+/// Where workers say that their connection has ended, each by the place that it was given, and where one thread waits
+/// for them.
 #[derive(Drop)]
 pub(crate) struct Bell {
     rung: Mutex<[bool; PLACES]>,
-    changed: Condvar,
+    waiting: Parker,
 }
 
 impl Bell {
@@ -15,7 +21,7 @@ impl Bell {
     pub fn new() -> Bell {
         Bell {
             rung: Mutex::new([false; PLACES]),
-            changed: Condvar::new(),
+            waiting: Parker::new(),
         }
     }
 
@@ -26,18 +32,7 @@ impl Bell {
             rung[place] = true;
         }
         drop(rung);
-        self.changed.notify_all();
-    }
-
-    /// Which workers are done since this was last asked, once there is one.
-    pub fn await_any<W: Wait>(&self, rt: &W) -> [bool; PLACES] {
-        let rung = self.rung.lock(rt);
-        let mut rung = self
-            .changed
-            .wait_while(rt, rung, |rung| !rung.contains(&true));
-        let done = *rung;
-        *rung = [false; PLACES];
-        done
+        self.waiting.unpark();
     }
 
     /// Which workers are done since this was last asked.
@@ -46,6 +41,25 @@ impl Bell {
         let done = *rung;
         *rung = [false; PLACES];
         done
+    }
+
+    /// The same, once a moment has gone by, or there is one.
+    pub fn heard_soon<W: Wait>(&self, rt: &W) -> [bool; PLACES] {
+        self.waiting
+            .park_timeout(rt, Duration::from_millis(MOMENT_MILLISECONDS));
+        self.heard(rt)
+    }
+
+    /// The same, once there is one.
+    pub fn await_any<W: Wait>(&self, rt: &W) -> [bool; PLACES] {
+        for _ in rt.forever() {
+            let done = self.heard(rt);
+            if done.contains(&true) {
+                return done;
+            }
+            self.waiting.park(rt);
+        }
+        unreachable!()
     }
 }
 
@@ -68,9 +82,10 @@ impl Places {
         self.served.iter().filter(|served| served.is_some()).count()
     }
 
-    /// The first connection that is being served: how many came before it.
-    pub fn first(&self) -> Option<u64> {
-        self.served.iter().flatten().copied().min()
+    /// The first connection that is being served behind so many others: how many came before it.
+    pub fn first_behind(&self, others: u64) -> Option<u64> {
+        let served = self.served.iter().flatten().copied();
+        served.filter(|before| *before >= others).min()
     }
 
     /// Gives a free place to the connection behind so many others, and says which.

@@ -9,23 +9,22 @@ ghost use Rattle.contest_server.specs.Visits.{watch, with_cases};
 ghost use Rattle.contest_server.specs.Serving.{desk, IsOrderly, ServesLanes, HasCauseEnd};
 ghost use Rattle.contest_server.specs.Served.{HasServed, ShowsBoard};
 
-use crate::bell::Bell;
 use crate::ends::ServeEnd;
 use crate::lines::put_text;
+use crate::service::{Service, Watches};
 use crate::serving::{end_of, serve_lanes};
 use case_run::Cases;
 use command_text::push_reply;
-use farm_board::{Admission, Anyone, Board, Pass};
+use farm_board::{Admission, Pass};
 use farm_io::{Clock, Door, Sink};
 use farm_kinds::{Event, Reply};
-use judge_server::Paths;
-use std::alloc::Global;
 use std::sync::Wait;
 use std::thread;
 use std::thread::Threads;
 
 /// Serves so many connections at the most, each by a worker of its own, and hands the pass back.
 fn serve_in_scope<
+    's,
     R: Threads + Wait + Sync,
     D: Door,
     K: Sink,
@@ -33,56 +32,46 @@ fn serve_in_scope<
     C: Clock + Sync,
     Q: Cases + Sync,
 >(
-    rt: &R,
-    alloc: Global,
-    paths: &Paths,
-    board: &Board<Anyone, A>,
-    clock: &C,
-    cases: &Q,
-    bell: &Bell,
+    service: &Service<'s, R, A, C, Q>,
     door: &mut D,
     out: &mut K,
     pass: Pass<A>,
-    workers: u16,
-    most: u16,
     connections: u32,
 ) -> (Pass<A>, ServeEnd)
 where
     D::Conn: Drop,
-    requires orderly { IsOrderly (with_cases (Q.case_at cases.now) (watch D.Conn.left D.Conn.held D.Conn.Source.faults D.Conn.Sink.faults (around_of (C.shows clock.now) D.Conn.Peer.asks))) board.now.id (desk (D.state door.old) pass []) }
-    requires some { 0 < most }
-    requires seats { pass.spare ≡ most }
-    ensures serves { ServesLanes (with_cases (Q.case_at cases.now) (watch D.Conn.left D.Conn.held D.Conn.Source.faults D.Conn.Sink.faults (around_of (C.shows clock.now) D.Conn.Peer.asks))) board.now.id (desk (D.state door.old) pass []) (desk (D.state door.new) result.0 []) (K.held out.old) (K.held out.new) connections result.1 }
+    requires orderly { IsOrderly (⟦<Service<'s, R, A, C, Q> as Watches<D::Conn>>⟧.watched service.now) service.now.board.now.id
+        (desk (D.state door.old) pass []) }
+    requires some { 0 < service.now.most }
+    requires seats { pass.spare ≡ service.now.most }
+    ensures serves { ServesLanes (⟦<Service<'s, R, A, C, Q> as Watches<D::Conn>>⟧.watched service.now) service.now.board.now.id
+        (desk (D.state door.old) pass [])
+        (desk (D.state door.new) result.0 [])
+        (K.held out.old) (K.held out.new) connections result.1 }
     ensures cause { HasCauseEnd (D.faults door.old) (D.faults door.new) (K.faults out.old) (K.faults out.new) result.1 }
 {
     let (lent_door, lent_out, pass, end) = thread::scope(
         thread::scope_env(),
-        rt,
+        service.rt,
         |scope| -> (&mut D, &mut K, Pass<A>, ServeEnd)
-            requires orderly { IsOrderly (with_cases (Q.case_at cases.now) (watch D.Conn.left D.Conn.held D.Conn.Source.faults D.Conn.Sink.faults (around_of (C.shows clock.now) D.Conn.Peer.asks))) board.now.id (desk (D.state door.now) pass []) }
-            requires some { 0 < most }
-            requires seats { pass.spare ≡ most }
+            requires orderly { IsOrderly (with_cases (Q.case_at service.now.cases.now)
+                (watch D.Conn.left D.Conn.held D.Conn.Source.faults D.Conn.Sink.faults
+                (around_of (C.shows service.now.clock.now) D.Conn.Peer.asks)))
+                service.now.board.now.id
+                (desk (D.state door.now) pass []) }
+            requires some { 0 < service.now.most }
+            requires seats { pass.spare ≡ service.now.most }
             ensures { (result.0.ghost_name ≡ door.entry.ghost_name) × (result.1.ghost_name ≡ out.entry.ghost_name)
-                × ServesLanes (with_cases (Q.case_at cases.entry.now) (watch D.Conn.left D.Conn.held D.Conn.Source.faults D.Conn.Sink.faults (around_of (C.shows clock.entry.now) D.Conn.Peer.asks))) board.entry.now.id (desk (D.state door.entry.now) pass []) (desk (D.state result.0.now) result.2 []) (K.held out.entry.now) (K.held result.1.now) connections result.3
+                × ServesLanes (with_cases (Q.case_at service.entry.now.cases.now)
+                (watch D.Conn.left D.Conn.held D.Conn.Source.faults D.Conn.Sink.faults
+                (around_of (C.shows service.entry.now.clock.now) D.Conn.Peer.asks)))
+                service.entry.now.board.now.id
+                (desk (D.state door.entry.now) pass []) (desk (D.state result.0.now) result.2 [])
+                (K.held out.entry.now) (K.held result.1.now) connections result.3
                 × HasCauseEnd (D.faults door.entry.now) (D.faults result.0.now) (K.faults out.entry.now) (K.faults result.1.now) result.3 }
         {
             let mut pass = pass;
-            let end = serve_lanes(
-                rt,
-                alloc,
-                paths,
-                board,
-                clock,
-                cases,
-                bell,
-                scope,
-                door,
-                out,
-                &mut pass,
-                workers,
-                most,
-                connections,
-            );
+            let end = serve_lanes(service, scope, door, out, &mut pass, connections);
             (door, out, pass, end)
         },
     );
@@ -99,22 +88,20 @@ fn is_done(end: ServeEnd) -> bool
 }
 
 /// Asks for `board`, and writes its text.
-fn show_board<W: Wait, K: Sink, A: Admission>(
-    rt: &W,
-    alloc: Global,
-    board: &Board<Anyone, A>,
+fn show_board<'s, W: Wait, K: Sink, A: Admission, C, Q>(
+    service: &Service<'s, W, A, C, Q>,
     pass: &mut Pass<A>,
     out: &mut K,
 ) -> ServeEnd
-    requires board { pass.old.board ≡ board.now.id }
+    requires board { pass.old.board ≡ service.now.board.now.id }
     requires left { 0 < pass.old.left }
     ensures shows { ShowsBoard pass.old pass.new (K.held out.old) (K.held out.new) (K.faults out.old) (K.faults out.new) result }
 {
-    let reply = board.step(rt, pass, &Event::Board);
+    let reply = service.board.step(service.rt, pass, &Event::Board);
     if matches!(reply, Reply::NoMemory) {
         return ServeEnd::NoMemory;
     }
-    let mut text = Vec::new(alloc);
+    let mut text = Vec::new(service.alloc);
     if push_reply(&mut text, &reply).is_err() {
         return ServeEnd::NoMemory;
     }
@@ -127,6 +114,7 @@ fn show_board<W: Wait, K: Sink, A: Admission>(
 /// Serves so many connections at the most on a board that the contest has entered, and writes their lines and behind
 /// them the text of `board`.
 pub(crate) fn serve_board<
+    's,
     R: Threads + Wait + Sync,
     D: Door,
     K: Sink,
@@ -134,46 +122,26 @@ pub(crate) fn serve_board<
     C: Clock + Sync,
     Q: Cases + Sync,
 >(
-    rt: &R,
-    alloc: Global,
-    paths: &Paths,
-    board: &Board<Anyone, A>,
-    clock: &C,
-    cases: &Q,
+    service: &Service<'s, R, A, C, Q>,
     door: &mut D,
     out: &mut K,
     pass: Pass<A>,
-    lanes: u16,
-    untold: u16,
     connections: u32,
 ) -> ServeEnd
 where
     D::Conn: Drop,
-    requires orderly { IsOrderly (with_cases (Q.case_at cases.now) (watch D.Conn.left D.Conn.held D.Conn.Source.faults D.Conn.Sink.faults (around_of (C.shows clock.now) D.Conn.Peer.asks))) board.now.id (desk (D.state door.old) pass []) }
-    requires some { 0 < untold }
-    requires seats { pass.spare ≡ untold }
+    requires orderly { IsOrderly (⟦<Service<'s, R, A, C, Q> as Watches<D::Conn>>⟧.watched service.now) service.now.board.now.id
+        (desk (D.state door.old) pass []) }
+    requires some { 0 < service.now.most }
+    requires seats { pass.spare ≡ service.now.most }
     ensures served { (start : BoardState) (events : List EventValue) → IsOpening start → HasEntered start events pass
-        → HasServed (with_cases (Q.case_at cases.now) (watch D.Conn.left D.Conn.held D.Conn.Source.faults D.Conn.Sink.faults (around_of (C.shows clock.now) D.Conn.Peer.asks))) start events (D.state door.old) (D.state door.new) (K.held out.old) (K.held out.new) connections result }
+        → HasServed (⟦<Service<'s, R, A, C, Q> as Watches<D::Conn>>⟧.watched service.now)
+        start events (D.state door.old) (D.state door.new) (K.held out.old) (K.held out.new) connections result }
     ensures cause { HasCauseEnd (D.faults door.old) (D.faults door.new) (K.faults out.old) (K.faults out.new) result }
 {
-    let bell = Bell::new();
-    let (mut pass, end) = serve_in_scope(
-        rt,
-        alloc,
-        paths,
-        board,
-        clock,
-        cases,
-        &bell,
-        door,
-        out,
-        pass,
-        lanes,
-        untold,
-        connections,
-    );
+    let (mut pass, end) = serve_in_scope(service, door, out, pass, connections);
     if is_done(end) {
-        return show_board(rt, alloc, board, &mut pass, out);
+        return show_board(service, &mut pass, out);
     }
     end
 }

@@ -11,8 +11,10 @@ ghost use Rattle.contest_server.specs.Visits.{watch, with_cases};
 ghost use Rattle.contest_server.specs.Serving.{HasCauseEnd};
 ghost use Rattle.contest_server.specs.Served.{Serves};
 
+use crate::bell::Bell;
 use crate::boards::serve_board;
 use crate::ends::ServeEnd;
+use crate::service::Service;
 use contest_folder::Roster;
 use farm_board::{Admission, Anyone, Board, Pass};
 use farm_core::Farm;
@@ -29,8 +31,9 @@ use std::thread::Threads;
 const UNTOLD: u16 = 8192;
 
 /// Serves a contest to the connections of a door, `connections` at the most. Each is served by a worker of its own as
-/// soon as it was accepted, or by the caller where none can be started, and at most `lanes` at the same time: then the
-/// one that was accepted first is asked to close, and whichever ends first is waited for before the next is accepted.
+/// soon as it was accepted, or by the caller where none can be started, and at most `lanes` at the same time: then they
+/// are asked to close, the one that was accepted first at first and each a moment behind the one before it, until one has
+/// ended, before the next is accepted.
 /// Connections are given back to the door and their lines written in the order in which they came, each as soon as it and
 /// all before it have ended and another one comes; behind the lines stands the text of `board`. Where 8,192 wait for
 /// that, the one that was accepted first is waited for.
@@ -56,7 +59,9 @@ where
     requires lanes { (1 ≤ lanes) × (lanes ≤ 16) }
     requires door { (D.state door.old).returned ≤ (D.state door.old).accepted }
     requires listens { DoesListen (D.state door.old) }
-    ensures serves { Serves (with_cases (case_at roster.now) (watch D.Conn.left D.Conn.held D.Conn.Source.faults D.Conn.Sink.faults (around_of (C.shows clock.now) D.Conn.Peer.asks))) (opening_board (start roster.now.settings) (seats lanes) false)
+    ensures serves { Serves (with_cases (case_at roster.now)
+        (watch D.Conn.left D.Conn.held D.Conn.Source.faults D.Conn.Sink.faults (around_of (C.shows clock.now) D.Conn.Peer.asks)))
+        (opening_board (start roster.now.settings) (seats lanes) false)
         (entering_events roster.now) (D.state door.old) (D.state door.new) (K.held out.old) (K.held out.new) connections result }
     ensures cause { HasCauseEnd (D.faults door.old) (D.faults door.new) (K.faults out.old) (K.faults out.new) result }
     ensures complete { ¬ Rose (D.faults door.old) (D.faults door.new) → ¬ Rose (K.faults out.old) (K.faults out.new)
@@ -68,20 +73,19 @@ where
     let Ok((board, pass)) = open_board::<R, Brand>(rt, alloc, roster, lanes) else {
         return ServeEnd::NoMemory;
     };
-    let end = serve_board(
+    let bell = Bell::new();
+    let service = Service {
         rt,
         alloc,
-        &paths,
-        &board,
+        paths: &paths,
+        board: &board,
         clock,
-        roster,
-        door,
-        out,
-        pass,
-        lanes,
-        UNTOLD + lanes,
-        connections,
-    );
+        cases: roster,
+        bell: &bell,
+        workers: lanes,
+        most: UNTOLD + lanes,
+    };
+    let end = serve_board(&service, door, out, pass, connections);
     drop(board);
     end
 }
@@ -98,7 +102,8 @@ fn open_board<W: Wait, A: Admission>(
     ensures board { IfOk result (λ opened. opened.1.board ≡ opened.0.id) }
     ensures spare { IfOk result (λ opened. opened.1.spare ≡ open_limit lanes) }
     ensures left { IfOk result (λ opened. 2 ^ 62 ≤ opened.1.left + 2 * 2 ^ 32) }
-    ensures entered { IfOk result (λ opened. HasEntered (opening_board (start roster.now.settings) (seats lanes) false) (entering_events roster.now) opened.1) }
+    ensures entered { IfOk result (λ opened. HasEntered (opening_board (start roster.now.settings) (seats lanes) false)
+        (entering_events roster.now) opened.1) }
 {
     let farm = Farm::new(alloc, roster.settings().copy()?);
     let (board, mut pass) = Board::<Anyone, A>::new(

@@ -6,6 +6,7 @@ ghost use Rattle.judge_server.specs.Exchanges.{around_of};
 ghost use Rattle.contest_server.specs.Visits.{watch, with_cases, visit, IsAnswered};
 
 use crate::bell::Bell;
+use crate::service::{Service, Watches};
 use case_run::Cases;
 use farm_board::{Admission, Anyone, Board, Pass};
 use farm_io::{Clock, Peer, Sink, Source};
@@ -45,7 +46,8 @@ impl<N, P, C, Q> Drop for Promised<N, P, C, Q> {
 
 impl<N: Source + Sink + Peer, A: Admission, C: Clock, Q: Cases> Promise<Served<N, Pass<A>>>
     for Promised<N, Pass<A>, C, Q> {
-    ghost kept_by = { λ p r. IsAnswered (with_cases (Q.case_at p.cases.value) (watch N.left N.held N.Source.faults N.Sink.faults (around_of (C.shows p.clock.value) N.Peer.asks)))
+    ghost kept_by = { λ p r. IsAnswered (with_cases (Q.case_at p.cases.value)
+        (watch N.left N.held N.Source.faults N.Sink.faults (around_of (C.shows p.clock.value) N.Peer.asks)))
         (visit p.came.value r.conn p.begun.value r.pass r.end.requests r.end.how) };
 }
 
@@ -66,7 +68,8 @@ fn serve_one<W: Wait, A: Admission, C: Clock, Q: Cases, N: Source + Sink + Peer>
     requires calls { 2 ^ 42 ≤ pass.left }
     requires source { (n : N) → N.Source.beside n ≡ side (N.held n) (N.Sink.faults n) }
     requires sink { (n : N) → N.Sink.beside n ≡ side (N.left n) (N.Source.faults n) }
-    ensures answered { IsAnswered (with_cases (Q.case_at cases.now) (watch N.left N.held N.Source.faults N.Sink.faults (around_of (C.shows clock.now) N.Peer.asks)))
+    ensures answered { IsAnswered (with_cases (Q.case_at cases.now)
+        (watch N.left N.held N.Source.faults N.Sink.faults (around_of (C.shows clock.now) N.Peer.asks)))
         (visit conn result.conn pass result.pass result.end.requests result.end.how) }
 {
     let end = serve_conn(rt, alloc, paths, &mut pass, board, cases, &mut conn, clock);
@@ -95,25 +98,31 @@ pub(crate) fn begin<
     Q: Cases + Sync,
     N: Source + Sink + Peer + Send + Drop + 's,
 >(
-    rt: &'s W,
-    alloc: Global,
-    paths: &'s Paths,
-    board: &'s Board<Anyone, A>,
-    clock: &'s C,
-    cases: &'s Q,
-    bell: &'s Bell,
+    service: &Service<'s, W, A, C, Q>,
     scope: &Scope<'s, E>,
     place: usize,
     pass: Pass<A>,
     conn: N,
 ) -> Worker<N, A, C, Q>
-    requires board { pass.board ≡ board.now.id }
+    requires board { pass.board ≡ service.now.board.now.id }
     requires calls { 2 ^ 42 ≤ pass.left }
     requires source { (n : N) → N.Source.beside n ≡ side (N.held n) (N.Sink.faults n) }
     requires sink { (n : N) → N.Sink.beside n ≡ side (N.left n) (N.Source.faults n) }
     ensures start { start_of result ≡ record { came = conn; begun = pass } }
-    ensures lane { IsLane (with_cases (Q.case_at cases.now) (watch N.left N.held N.Source.faults N.Sink.faults (around_of (C.shows clock.now) N.Peer.asks))) clock.now cases.now result }
+    ensures lane { IsLane (⟦<Service<'s, W, A, C, Q> as Watches<N>>⟧.watched service.now)
+        service.now.clock.now service.now.cases.now result }
 {
+    let Service {
+        rt,
+        alloc,
+        paths,
+        board,
+        clock,
+        cases,
+        bell,
+        workers: _,
+        most: _,
+    } = *service;
     let promise = Promised {
         came: Snapshot::of(&conn),
         begun: Snapshot::of(&pass),
@@ -128,7 +137,8 @@ pub(crate) fn begin<
             requires calls { 2 ^ 42 ≤ pass.left }
             requires source { (n : N) → N.Source.beside n ≡ side (N.held n) (N.Sink.faults n) }
             requires sink { (n : N) → N.Sink.beside n ≡ side (N.left n) (N.Source.faults n) }
-            ensures answered { IsAnswered (with_cases (Q.case_at cases.entry.now) (watch N.left N.held N.Source.faults N.Sink.faults (around_of (C.shows clock.entry.now) N.Peer.asks)))
+            ensures answered { IsAnswered (with_cases (Q.case_at cases.entry.now)
+                (watch N.left N.held N.Source.faults N.Sink.faults (around_of (C.shows clock.entry.now) N.Peer.asks)))
                 (visit conn result.conn pass result.pass result.end.requests result.end.how) }
         {
             serve_one(
@@ -151,14 +161,13 @@ pub(crate) fn begin<
 }
 
 /// Waits until the connection was served.
-pub(crate) fn end<R: Threads, N: Source + Sink + Peer + Drop, A: Admission, C: Clock, Q: Cases>(
-    rt: &R,
-    clock: &C,
-    cases: &Q,
+pub(crate) fn end<'s, R: Threads, N: Source + Sink + Peer + Drop, A: Admission, C: Clock, Q: Cases>(
+    service: &Service<'s, R, A, C, Q>,
     lane: Worker<N, A, C, Q>,
 ) -> Served<N, Pass<A>>
-    requires lane { IsLane (with_cases (Q.case_at cases.now) (watch N.left N.held N.Source.faults N.Sink.faults (around_of (C.shows clock.now) N.Peer.asks))) clock.now cases.now lane }
-    ensures answered { IsAnswered (with_cases (Q.case_at cases.now) (watch N.left N.held N.Source.faults N.Sink.faults (around_of (C.shows clock.now) N.Peer.asks)))
+    requires lane { IsLane (⟦<Service<'s, R, A, C, Q> as Watches<N>>⟧.watched service.now)
+        service.now.clock.now service.now.cases.now lane }
+    ensures answered { IsAnswered (⟦<Service<'s, R, A, C, Q> as Watches<N>>⟧.watched service.now)
         (visit_of (start_of lane) result) }
 {
     let Lane {
@@ -167,7 +176,7 @@ pub(crate) fn end<R: Threads, N: Source + Sink + Peer + Drop, A: Admission, C: C
         promise: _,
     } = lane;
     if let Some(handle) = worker {
-        return handle.join(rt);
+        return handle.join(service.rt);
     }
     let Some(served) = served else {
         // Where there is no worker, the connection was served.
@@ -177,36 +186,43 @@ pub(crate) fn end<R: Threads, N: Source + Sink + Peer + Drop, A: Admission, C: C
 }
 
 /// Waits until the connection was served, and keeps what came of it: no thread is left.
-pub(crate) fn settle<R: Threads, N: Source + Sink + Peer + Drop, A: Admission, C: Clock, Q: Cases>(
-    rt: &R,
-    clock: &C,
-    cases: &Q,
-    lane: &mut Worker<N, A, C, Q>,
-)
-    requires lane { IsLane (with_cases (Q.case_at cases.now) (watch N.left N.held N.Source.faults N.Sink.faults (around_of (C.shows clock.now) N.Peer.asks))) clock.now cases.now lane.old }
-    ensures start { start_of lane.new ≡ start_of lane.old }
-    ensures lane { IsLane (with_cases (Q.case_at cases.now) (watch N.left N.held N.Source.faults N.Sink.faults (around_of (C.shows clock.now) N.Peer.asks))) clock.now cases.now lane.new }
-{
-    if let Some(handle) = lane.worker.take() {
-        lane.served = Some(handle.join(rt));
-    }
-}
-
-/// Waits until the connection at this index was served.
-pub(crate) fn settle_at<
+pub(crate) fn settle<
+    's,
     R: Threads,
     N: Source + Sink + Peer + Drop,
     A: Admission,
     C: Clock,
     Q: Cases,
->(rt: &R, clock: &C, cases: &Q, lanes: &mut VecDeque<Worker<N, A, C, Q>>, index: usize)
-    requires lanes { AreLanes (with_cases (Q.case_at cases.now) (watch N.left N.held N.Source.faults N.Sink.faults (around_of (C.shows clock.now) N.Peer.asks))) clock.now cases.now lanes.old.items }
+>(service: &Service<'s, R, A, C, Q>, lane: &mut Worker<N, A, C, Q>)
+    requires lane { IsLane (⟦<Service<'s, R, A, C, Q> as Watches<N>>⟧.watched service.now)
+        service.now.clock.now service.now.cases.now lane.old }
+    ensures start { start_of lane.new ≡ start_of lane.old }
+    ensures lane { IsLane (⟦<Service<'s, R, A, C, Q> as Watches<N>>⟧.watched service.now)
+        service.now.clock.now service.now.cases.now lane.new }
+{
+    if let Some(handle) = lane.worker.take() {
+        lane.served = Some(handle.join(service.rt));
+    }
+}
+
+/// Waits until the connection at this index was served.
+pub(crate) fn settle_at<
+    's,
+    R: Threads,
+    N: Source + Sink + Peer + Drop,
+    A: Admission,
+    C: Clock,
+    Q: Cases,
+>(service: &Service<'s, R, A, C, Q>, lanes: &mut VecDeque<Worker<N, A, C, Q>>, index: usize)
+    requires lanes { AreLanes (⟦<Service<'s, R, A, C, Q> as Watches<N>>⟧.watched service.now)
+        service.now.clock.now service.now.cases.now lanes.old.items }
     ensures starts { starts_of lanes.new.items ≡ starts_of lanes.old.items }
-    ensures lanes { AreLanes (with_cases (Q.case_at cases.now) (watch N.left N.held N.Source.faults N.Sink.faults (around_of (C.shows clock.now) N.Peer.asks))) clock.now cases.now lanes.new.items }
+    ensures lanes { AreLanes (⟦<Service<'s, R, A, C, Q> as Watches<N>>⟧.watched service.now)
+        service.now.clock.now service.now.cases.now lanes.new.items }
     ensures len { deque_len lanes.new ≡ deque_len lanes.old }
 {
     if index < lanes.len() {
-        settle(rt, clock, cases, &mut lanes[index]);
+        settle(service, &mut lanes[index]);
     }
 }
 

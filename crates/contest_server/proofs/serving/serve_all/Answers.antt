@@ -1,7 +1,7 @@
 use Rattle.std.proofs.Common.{◌≤◌, Ok, length, arith, sym, subst}
 use Rattle.std.proofs.lemmas.List.{length-map}
 use Rattle.contest_server.specs.declared.ends.ServeEnd.TheVariants as end
-use Rattle.contest_server.specs.declared.serving.Coming.TheVariants as coming
+use Rattle.contest_server.specs.declared.accepting.Coming.TheVariants as coming
 use Rattle.judge_server.specs.Exchanges.{around_of}
 use Rattle.contest_server.specs.Visits.{watch, with_cases}
 use Rattle.contest_server.specs.Lanes.{start_of, starts_of}
@@ -33,40 +33,40 @@ end_with-requires-in-Ok-Failed-clause-count g c =
 
 pub returns-in-Ok-End-clause-serves : goal.returns-in-Ok-End-clause-serves
 returns-in-Ok-End-clause-serves g c =
-    let w = with_cases (g.Q.Cases.case_at c.args.cases.now) (watch g.D.Conn.Source.left g.D.Conn.Sink.held g.D.Conn.Source.faults g.D.Conn.Sink.faults (around_of (g.C.Clock.shows c.args.clock.now) g.D.Conn.Peer.asks)) in
-    let came : ServesNext w c.args.board.now.id
+    let w = with_cases (g.Q.Cases.case_at c.args.service.now.cases.now) (watch g.D.Conn.Source.left g.D.Conn.Sink.held g.D.Conn.Source.faults g.D.Conn.Sink.faults (around_of (g.C.Clock.shows c.args.service.now.clock.now) g.D.Conn.Peer.asks)) in
+    let came : ServesNext w c.args.service.now.board.now.id
     (desk (g.D.Door.state c.loop-i.door) c.loop-i.pass (starts_of c.loop-i.lanes.items)) (desk (g.D.Door.state c.serve_next.new.door) c.serve_next.new.pass (starts_of c.serve_next.new.lanes.items))
     (g.K.Sink.held c.loop-i.out) (g.K.Sink.held c.serve_next.new.out) c.loop-i.i (Ok coming.End) =
-    subst (λ x. ServesNext w c.args.board.now.id
+    subst (λ x. ServesNext w c.args.service.now.board.now.id
     (desk (g.D.Door.state c.loop-i.door) c.loop-i.pass (starts_of c.loop-i.lanes.items)) (desk (g.D.Door.state c.serve_next.new.door) c.serve_next.new.pass (starts_of c.serve_next.new.lanes.items))
     (g.K.Sink.held c.loop-i.out) (g.K.Sink.held c.serve_next.new.out) c.loop-i.i (Ok x)) c.in-Ok-End.field-0-is c.in-Ok-End.ensures.serves in
-    let b = before_end w c.args.board.now.id _ _ _ _ _ _ c.loop-i.i c.args.connections c.loop-i-test.true c.loop-i.invariant.under_way came in
-    ends w c.args.board.now.id _ _ _ _ _ _ _ _ c.loop-i.i c.args.connections end.Done c.end_with.result b c.end_with.ensures.ends
+    let b = before_end w c.args.service.now.board.now.id _ _ _ _ _ _ c.loop-i.i c.args.connections c.loop-i-test.true c.loop-i.invariant.under_way came in
+    ends w c.args.service.now.board.now.id _ _ _ _ _ _ _ _ c.loop-i.i c.args.connections end.Done c.end_with.result b c.end_with.ensures.ends
 
 pub returns-in-Ok-Failed-clause-serves : goal.returns-in-Ok-Failed-clause-serves
 returns-in-Ok-Failed-clause-serves g c =
-    let w = with_cases (g.Q.Cases.case_at c.args.cases.now) (watch g.D.Conn.Source.left g.D.Conn.Sink.held g.D.Conn.Source.faults g.D.Conn.Sink.faults (around_of (g.C.Clock.shows c.args.clock.now) g.D.Conn.Peer.asks)) in
-    let came : ServesNext w c.args.board.now.id
+    let w = with_cases (g.Q.Cases.case_at c.args.service.now.cases.now) (watch g.D.Conn.Source.left g.D.Conn.Sink.held g.D.Conn.Source.faults g.D.Conn.Sink.faults (around_of (g.C.Clock.shows c.args.service.now.clock.now) g.D.Conn.Peer.asks)) in
+    let came : ServesNext w c.args.service.now.board.now.id
     (desk (g.D.Door.state c.loop-i.door) c.loop-i.pass (starts_of c.loop-i.lanes.items)) (desk (g.D.Door.state c.serve_next.new.door) c.serve_next.new.pass (starts_of c.serve_next.new.lanes.items))
     (g.K.Sink.held c.loop-i.out) (g.K.Sink.held c.serve_next.new.out) c.loop-i.i (Ok coming.Failed) =
-    subst (λ x. ServesNext w c.args.board.now.id
+    subst (λ x. ServesNext w c.args.service.now.board.now.id
     (desk (g.D.Door.state c.loop-i.door) c.loop-i.pass (starts_of c.loop-i.lanes.items)) (desk (g.D.Door.state c.serve_next.new.door) c.serve_next.new.pass (starts_of c.serve_next.new.lanes.items))
     (g.K.Sink.held c.loop-i.out) (g.K.Sink.held c.serve_next.new.out) c.loop-i.i (Ok x)) c.in-Ok-Failed.field-0-is c.in-Ok-Failed.ensures.serves in
-    let b = before_fault w c.args.board.now.id _ _ _ _ _ _ c.loop-i.i c.args.connections c.loop-i-test.true c.loop-i.invariant.under_way came in
-    ends w c.args.board.now.id _ _ _ _ _ _ _ _ c.loop-i.i c.args.connections end.DoorFault c.end_with-in-Ok-Failed.result b c.end_with-in-Ok-Failed.ensures.ends
+    let b = before_fault w c.args.service.now.board.now.id _ _ _ _ _ _ c.loop-i.i c.args.connections c.loop-i-test.true c.loop-i.invariant.under_way came in
+    ends w c.args.service.now.board.now.id _ _ _ _ _ _ _ _ c.loop-i.i c.args.connections end.DoorFault c.end_with-in-Ok-Failed.result b c.end_with-in-Ok-Failed.ensures.ends
 
 pub returns-in-Err-clause-serves : goal.returns-in-Err-clause-serves
 returns-in-Err-clause-serves g c =
-    let w = with_cases (g.Q.Cases.case_at c.args.cases.now) (watch g.D.Conn.Source.left g.D.Conn.Sink.held g.D.Conn.Source.faults g.D.Conn.Sink.faults (around_of (g.C.Clock.shows c.args.clock.now) g.D.Conn.Peer.asks)) in
+    let w = with_cases (g.Q.Cases.case_at c.args.service.now.cases.now) (watch g.D.Conn.Source.left g.D.Conn.Sink.held g.D.Conn.Source.faults g.D.Conn.Sink.faults (around_of (g.C.Clock.shows c.args.service.now.clock.now) g.D.Conn.Peer.asks)) in
     let old = desk (g.D.Door.state c.args.door.now) c.args.pass.now (starts_of c.args.lanes.now.items) in
     let new = desk (g.D.Door.state c.serve_next.new.door) c.serve_next.new.pass (starts_of c.serve_next.new.lanes.items) in
-    subst (λ e. ServesAll w c.args.board.now.id old new (g.K.Sink.held c.args.out.now) (g.K.Sink.held c.serve_next.new.out) c.args.connections e) (sym c.end_of.ensures)
-    (ends_broken w c.args.board.now.id _ _ _ _ _ _ c.loop-i.i c.args.connections c.in-Err.fault c.loop-i-test.true c.loop-i.invariant.under_way c.in-Err.ensures.serves)
+    subst (λ e. ServesAll w c.args.service.now.board.now.id old new (g.K.Sink.held c.args.out.now) (g.K.Sink.held c.serve_next.new.out) c.args.connections e) (sym c.end_of.ensures)
+    (ends_broken w c.args.service.now.board.now.id _ _ _ _ _ _ c.loop-i.i c.args.connections c.in-Err.fault c.loop-i-test.true c.loop-i.invariant.under_way c.in-Err.ensures.serves)
 
 pub returns-clause-serves : goal.returns-clause-serves
 returns-clause-serves g c =
-    let w = with_cases (g.Q.Cases.case_at c.args.cases.now) (watch g.D.Conn.Source.left g.D.Conn.Sink.held g.D.Conn.Source.faults g.D.Conn.Sink.faults (around_of (g.C.Clock.shows c.args.clock.now) g.D.Conn.Peer.asks)) in
+    let w = with_cases (g.Q.Cases.case_at c.args.service.now.cases.now) (watch g.D.Conn.Source.left g.D.Conn.Sink.held g.D.Conn.Source.faults g.D.Conn.Sink.faults (around_of (g.C.Clock.shows c.args.service.now.clock.now) g.D.Conn.Peer.asks)) in
     let within = c.loop-i.auto.i-end in
     let over = c.loop-i-test.false in
-    let b = before_all w c.args.board.now.id _ _ _ _ c.loop-i.i c.args.connections (omega (arith, within, over)) c.loop-i.invariant.under_way in
-    ends w c.args.board.now.id _ _ _ _ _ _ _ _ c.args.connections c.args.connections end.Done c.end_with-2.result b c.end_with-2.ensures.ends
+    let b = before_all w c.args.service.now.board.now.id _ _ _ _ c.loop-i.i c.args.connections (omega (arith, within, over)) c.loop-i.invariant.under_way in
+    ends w c.args.service.now.board.now.id _ _ _ _ _ _ _ _ c.args.connections c.args.connections end.Done c.end_with-2.result b c.end_with-2.ensures.ends

@@ -1,19 +1,19 @@
 use Rattle.std.proofs.Common.{[], ◌∷◌, ◌++◌, ◌≡◌, ◌+◌, ◌<◌, length, sym, ap, ◌∙◌, subst, arith}
 use Rattle.std.specs.Prelude.{All}
 use Rattle.std.proofs.lemmas.List.{map-append, length-map}
-use Rattle.contest_server.specs.declared.serving.Coming.TheVariants as coming
+use Rattle.contest_server.specs.declared.accepting.Coming.TheVariants as coming
 use Rattle.judge_server.specs.Exchanges.{around_of}
 use Rattle.contest_server.specs.Visits.{watch, with_cases, Start}
 use Rattle.contest_server.specs.Lanes.{start_of, starts_of, IsLane}
 use Rattle.contest_server.specs.Serving.{desk, share, AcceptsNext}
 use Rattle.contest_server.proofs.Beside.{all_more}
 use Rattle.contest_server.proofs.Stands.{accepts}
-use Rattle.contest_server.proofs.serving.accept_next.Goals as goal
+use Rattle.contest_server.proofs.accepting.accept_next.Goals as goal
 
 pub returns-in-Conn-clause-accepts : goal.returns-in-Conn-clause-accepts
 returns-in-Conn-clause-accepts g c =
-    let w = with_cases (g.Q.Cases.case_at c.args.cases.now) (watch g.D.Conn.Source.left g.D.Conn.Sink.held g.D.Conn.Source.faults g.D.Conn.Sink.faults (around_of (g.C.Clock.shows c.args.clock.now) g.D.Conn.Peer.asks)) in
-    let board = c.args.board.now.id in
+    let w = with_cases (g.Q.Cases.case_at c.args.service.now.cases.now) (watch g.D.Conn.Source.left g.D.Conn.Sink.held g.D.Conn.Source.faults g.D.Conn.Sink.faults (around_of (g.C.Clock.shows c.args.service.now.clock.now) g.D.Conn.Peer.asks)) in
+    let board = c.args.service.now.board.now.id in
     let lanes = c.args.lanes.now.items in
     let s : Start g.row.D-Conn.Denot = record { came = c.in-Conn.conn; begun = c.split-own.result } in
     let left = c.requires.left in
@@ -27,6 +27,6 @@ returns-in-Conn-clause-accepts g c =
 
 pub returns-in-Conn-clause-lanes : goal.returns-in-Conn-clause-lanes
 returns-in-Conn-clause-lanes g c =
-    let w = with_cases (g.Q.Cases.case_at c.args.cases.now) (watch g.D.Conn.Source.left g.D.Conn.Sink.held g.D.Conn.Source.faults g.D.Conn.Sink.faults (around_of (g.C.Clock.shows c.args.clock.now) g.D.Conn.Peer.asks)) in
-    subst (λ lanes. All (IsLane w c.args.clock.now c.args.cases.now) lanes) (sym c.push_back_reserved.ensures.items)
-    (all_more (IsLane w c.args.clock.now c.args.cases.now) c.args.lanes.now.items c.begin-lane.result c.requires.lanes c.begin-lane.ensures.lane)
+    let w = with_cases (g.Q.Cases.case_at c.args.service.now.cases.now) (watch g.D.Conn.Source.left g.D.Conn.Sink.held g.D.Conn.Source.faults g.D.Conn.Sink.faults (around_of (g.C.Clock.shows c.args.service.now.clock.now) g.D.Conn.Peer.asks)) in
+    subst (λ lanes. All (IsLane w c.args.service.now.clock.now c.args.service.now.cases.now) lanes) (sym c.push_back_reserved.ensures.items)
+    (all_more (IsLane w c.args.service.now.clock.now c.args.service.now.cases.now) c.args.lanes.now.items c.begin-lane.result c.requires.lanes c.begin-lane.ensures.lane)

@@ -5,11 +5,11 @@ use Rattle.contest_server.specs.Visits.{watch, with_cases}
 use Rattle.contest_server.specs.Lanes.{start_of, starts_of}
 use Rattle.contest_server.specs.Serving.{desk}
 use Rattle.contest_server.proofs.Telling.{tells_first}
-use Rattle.contest_server.proofs.serving.tell_next.Goals as goal
+use Rattle.contest_server.proofs.returning.tell_next.Goals as goal
 
 pub returns-clause-tells : goal.returns-clause-tells
 returns-clause-tells g c =
-    let w = with_cases (g.Q.Cases.case_at c.args.cases.now) (watch g.D.Conn.Source.left g.D.Conn.Sink.held g.D.Conn.Source.faults g.D.Conn.Sink.faults (around_of (g.C.Clock.shows c.args.clock.now) g.D.Conn.Peer.asks)) in
+    let w = with_cases (g.Q.Cases.case_at c.args.service.now.cases.now) (watch g.D.Conn.Source.left g.D.Conn.Sink.held g.D.Conn.Source.faults g.D.Conn.Sink.faults (around_of (g.C.Clock.shows c.args.service.now.clock.now) g.D.Conn.Peer.asks)) in
     let before = c.args.lanes.now in
     let after = c.take_in-end.new.lanes in
     let takes = c.take_in-end.ensures.takes in
@@ -20,7 +20,7 @@ returns-clause-tells g c =
     let ok_after = after.ok.0 in
     let len_before = length-map before.items start_of in
     let len_after = length-map after.items start_of in
-    tells_first w c.args.board.now.id (desk (g.D.Door.state c.args.door.now) c.args.pass.now (starts_of before.items))
+    tells_first w c.args.service.now.board.now.id (desk (g.D.Door.state c.args.door.now) c.args.pass.now (starts_of before.items))
     (desk (g.D.Door.state c.take_in-end.new.door) c.take_in-end.new.pass (starts_of after.items)) (g.K.Sink.held c.args.out.now) (g.K.Sink.held c.write_line.new.out)
     c.take_in-end.result c.args.count (c.args.count - c.len.result) c.write_line.result takes
     (omega (arith, len, fewer, count, ok_before, ok_after, len_before, len_after)) c.write_line.ensures.puts

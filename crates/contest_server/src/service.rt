@@ -1,0 +1,36 @@
+ghost use Rattle.judge_server.specs.Exchanges.{around_of};
+ghost use Rattle.contest_server.specs.Visits.{Watch, watch, with_cases};
+
+use crate::bell::Bell;
+use case_run::Cases;
+use farm_board::{Admission, Anyone, Board};
+use farm_io::{Clock, Peer, Sink, Source};
+use judge_server::Paths;
+use std::alloc::Global;
+
+/// What stays the same while a contest is served.
+#[derive(Clone, Copy)]
+pub(crate) struct Service<'s, R, A: Admission, C, Q> {
+    pub rt: &'s R,
+    pub alloc: Global,
+    pub paths: &'s Paths,
+    pub board: &'s Board<Anyone, A>,
+    pub clock: &'s C,
+    pub cases: &'s Q,
+    pub bell: &'s Bell,
+    /// How many connections are served at the same time at the most.
+    pub workers: u16,
+    /// How many that came may not be given back yet.
+    pub most: u16,
+}
+
+/// What is told of connections of a type, and of that by which they are served.
+pub(crate) trait Watches<N: Source + Sink + Peer> {
+    ghost watched: { Self → Watch N };
+}
+
+impl<'s, R, A: Admission, C: Clock, Q: Cases, N: Source + Sink + Peer> Watches<N>
+    for Service<'s, R, A, C, Q> {
+    ghost watched = { λ service. with_cases (Q.case_at service.cases.now)
+        (watch N.left N.held N.Source.faults N.Sink.faults (around_of (C.shows service.clock.now) N.Peer.asks)) };
+}
