@@ -33,7 +33,6 @@ pub fn serve<R: Threads + Wait + Sync, T: Tree, K: Sink, C: Clock + Sync, D: Doo
 where
     D::Conn: Drop,
     requires lanes { (1 ≤ lanes) × (lanes ≤ 16) }
-    requires connections { connections ≤ 100000 }
     requires door { (D.state door.old).returned ≤ (D.state door.old).accepted }
     ensures command { result ≢ Exit.Usage }
     ensures read_fault { result ≢ Exit.ReadFault }
@@ -69,7 +68,6 @@ fn serve_roster<R: Threads + Wait + Sync, K: Sink, C: Clock + Sync, D: Door>(
 where
     D::Conn: Drop,
     requires lanes { (1 ≤ lanes) × (lanes ≤ 16) }
-    requires connections { connections ≤ 100000 }
     requires door { (D.state door.old).returned ≤ (D.state door.old).accepted }
     ensures ends { (files : Option (List TreeFile)) (folder : List ℕ) → ContestIs files folder (Ok roster.now)
         → ServeEnds files folder at lanes connections
