@@ -1,17 +1,14 @@
+use crate::calling::end_with;
 use crate::rejudging_rows::REJUDGINGS;
 use crate::script_rows::SCRIPTS;
 use exit_status::Exit;
-use farm_cli::farm_main;
 use farm_io::{
-    FixedClock, MemoryLink, MemorySink, MemorySource, ReliableDoor, ReliableSink, ReliableSource,
-    Sink, Source,
+    MemoryLink, MemorySink, MemorySource, ReliableDoor, ReliableSink, ReliableSource, Sink, Source,
 };
 use farm_kinds::NoMemory;
 use farm_tree::{MemoryTree, ReliableTree, Tree, TreeFiles};
 use judgehost::{AlwaysOn, Gate};
-use parallel_judge::Silent;
 use record_store::MemoryDisk;
-use remote_host::NoPause;
 use std::alloc::{AllocError, Global};
 use std::process::Abort;
 use std::sync::Wait;
@@ -78,19 +75,16 @@ pub(crate) fn end_on<T: Tree, S: Source, K: Sink, G: Gate + Sync>(
     let words = words_of(alloc, line)?;
     let mut door = ReliableDoor::new(alloc, Vec::new(alloc))?;
     let mut link = MemoryLink::new(alloc, Vec::new(alloc), Vec::new(alloc))?;
-    Ok(farm_main(
+    Ok(end_with(
         rt,
         alloc,
         words.as_slice(),
         tree,
         input,
         out,
-        &FixedClock::new(0),
         &mut door,
         gate,
-        &mut Silent,
         &mut link,
-        &NoPause,
         disk,
     ))
 }

@@ -1,18 +1,17 @@
 ghost use Rattle.std.specs.Prelude.{◌≡◌, ◌≤◌, [], length, IfOk};
 ghost use Rattle.farm_io.specs.MemoryDoors.{IsNew};
 
+use crate::calling::end_with;
 use crate::farm_cli_tests::{tree_of, words_of};
 use exit_status::Exit;
-use farm_cli::farm_main;
 use farm_io::{
-    Connection, FixedClock, MemoryConn, MemoryLink, MemorySink, MemorySource, ReliableDoor,
-    ReliableSink, ReliableSource,
+    Connection, MemoryConn, MemoryLink, MemorySink, MemorySource, ReliableDoor, ReliableSink,
+    ReliableSource,
 };
 use farm_kinds::Task;
 use judgehost::AlwaysOn;
-use parallel_judge::Silent;
 use record_store::MemoryDisk;
-use remote_host::{NoPause, Wrong};
+use remote_host::Wrong;
 use std::alloc::{AllocError, Global};
 use std::process::Abort;
 use std::sync::Wait;
@@ -99,19 +98,16 @@ fn hosted(
     let mut tree = tree_of(alloc, "c/submissions.txt", b"")?;
     let mut door = ReliableDoor::new(alloc, Vec::new(alloc))?;
     let mut disk = MemoryDisk::new(alloc, Vec::new(alloc), Vec::new(alloc))?;
-    let exit = farm_main(
+    let exit = end_with(
         rt,
         alloc,
         words.as_slice(),
         &mut tree,
         &mut input,
         &mut out,
-        &FixedClock::new(0),
         &mut door,
         &AlwaysOn,
-        &mut Silent,
         link,
-        &NoPause,
         &mut disk,
     );
     Ok((exit, out))

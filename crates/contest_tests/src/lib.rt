@@ -2,6 +2,8 @@
 #![tactic(auto)]
 
 #[cfg(test)]
+mod calling;
+#[cfg(test)]
 mod farm_cli_tests;
 pub mod gates;
 #[cfg(test)]
