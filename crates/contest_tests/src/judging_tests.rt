@@ -1,7 +1,7 @@
 use crate::farm_cli_tests::{check_ended, end_of};
 use crate::gates::{DeathGate, Meeting, MeetingGate, RecordingGate, SeededGate};
 use exit_status::Exit;
-use farm_io::{ReliableSink, ReliableSource};
+use farm_io::{MemorySink, ReliableSink, ReliableSource};
 use farm_tree::{MemoryTree, ReliableTree};
 use folder_tests::files::files_of;
 use judgehost::{AlwaysOn, Gate, Point};
@@ -250,6 +250,41 @@ fn deaths_at_each_moment(rt: HostRuntime) -> Result<(), Fail> {
     Ok(())
 }
 
+/// A host that dies has claimed as often as its turn says, and has posted a result less unless it died behind it.
+fn check_dead(
+    rt: &(impl Threads + Wait + Sync + Abort),
+    alloc: Global,
+    point: Point,
+    turn: u64,
+) -> Result<(), Fail> {
+    let gate = DeathGate {
+        death: Some((1, point, turn)),
+    };
+    let line = "farm judge c --journal --hosts 1";
+    let (_, out) = judged(rt, alloc, line, CONTEST, "", &gate)?;
+    let journal = str::from_utf8(out.bytes()).unwrap_or("no text");
+    let claims = journal.matches("claim h1 => task").count() as u64;
+    let posts = journal.matches("result h1").count() as u64;
+    let posted = if point == Point::AfterPost {
+        turn
+    } else {
+        turn.saturating_sub(1)
+    };
+    assert_eq!(rt; (claims, posts), (turn, posted), "{point:?} {turn}");
+    assert!(rt; journal.contains("result h0"), "{point:?} {turn}");
+    Ok(())
+}
+
+#[test]
+fn a_death_is_seen_in_the_journal(rt: HostRuntime) -> Result<(), Fail> {
+    for point in [Point::AfterClaim, Point::BeforePost, Point::AfterPost] {
+        for turn in 1..=4u64 {
+            check_dead(&rt, rt.alloc(), point, turn)?;
+        }
+    }
+    Ok(())
+}
+
 #[test]
 fn a_journal_of_one_test(rt: HostRuntime) -> Result<(), Fail> {
     let line = "farm judge c --hosts 0 --journal";
@@ -290,7 +325,8 @@ fn a_host_runs_one_of_three_tests(rt: HostRuntime) -> Result<(), Fail> {
     Ok(())
 }
 
-/// Two hosts work at the same time: neither posts its first result before the other has claimed a task.
+/// Two hosts work at the same time: neither posts its first result before the other has claimed a task. In the journal
+/// the pass of each has made its own claims and posts.
 #[test]
 fn two_hosts_at_once(rt: HostRuntime) -> Result<(), Fail> {
     let gate = MeetingGate {
@@ -301,12 +337,21 @@ fn two_hosts_at_once(rt: HostRuntime) -> Result<(), Fail> {
             gave_up: false,
         }),
     };
-    check_table(&rt, rt.alloc(), 2, &gate, "")?;
+    let line = "farm judge c --journal --hosts 2";
+    let (_, out) = judged(&rt, rt.alloc(), line, CONTEST, "", &gate)?;
     let meeting = gate.meeting.into_inner();
     assert_eq!(rt;
         (meeting.one_came, meeting.two_came, meeting.gave_up),
         (true, true, false)
     );
+    let journal = str::from_utf8(out.bytes()).unwrap_or("no text");
+    assert!(rt; journal.starts_with(TABLE));
+    for call in ["1 claim h1", "2 claim h2", "1 result h1", "2 result h2"] {
+        assert!(rt; journal.contains(call), "{call}");
+    }
+    for call in ["1 claim h2", "2 claim h1", "1 result h2", "2 result h1"] {
+        assert!(rt; !journal.contains(call), "{call}");
+    }
     Ok(())
 }
 
@@ -344,5 +389,46 @@ fn judge_unread(
 fn a_tree_whose_first_read_fails(rt: HostRuntime) -> Result<(), Fail> {
     let (exit, out) = judge_unread(&rt, rt.alloc())?;
     check_ended(&rt, exit, Exit::TreeFault, out.bytes(), b"", "");
+    Ok(())
+}
+
+/// How judging ends where the put of this number fails, and what is written.
+fn judge_unwritten(
+    rt: &(impl Threads + Wait + Sync),
+    alloc: Global,
+    failing: u64,
+) -> Result<(Exit, MemorySink), Fail> {
+    let mut input = ReliableSource::new(Vec::new(alloc));
+    let failing = [failing].to_vec(alloc)?;
+    let mut out = MemorySink::new(Vec::with_capacity(alloc, ROOM)?, failing);
+    let mut tree = ReliableTree::new(alloc, files_of(alloc, CONTEST, "")?);
+    let line = "farm judge c --hosts 1";
+    let exit = end_of(rt, alloc, line, &mut tree, &mut input, &mut out, &AlwaysOn)?;
+    Ok((exit, out))
+}
+
+/// Compares how judging ends where the put of this number fails, and how many lines of the table are written.
+fn check_unwritten(
+    rt: &(impl Threads + Wait + Sync + Abort),
+    alloc: Global,
+    failing: u64,
+) -> Result<(), Fail> {
+    let (exit, out) = judge_unwritten(rt, alloc, failing)?;
+    let status = if failing < PUTS { 5 } else { 0 };
+    let written = out.bytes();
+    assert_eq!(rt; exit.status(), status, "{failing}");
+    assert!(rt; TABLE.as_bytes().starts_with(written), "{failing}");
+    assert_eq!(rt; written.len() == TABLE.len(), status == 0, "{failing}");
+    Ok(())
+}
+
+/// With how many puts a table is written.
+const PUTS: u64 = 1;
+
+#[test]
+fn each_put_of_a_table_fails(rt: HostRuntime) -> Result<(), Fail> {
+    for failing in 0..=PUTS {
+        check_unwritten(&rt, rt.alloc(), failing)?;
+    }
     Ok(())
 }

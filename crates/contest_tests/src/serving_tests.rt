@@ -1,17 +1,15 @@
 ghost use Rattle.std.specs.Prelude.{◌≡◌, ◌≤◌, [], IfOk};
-ghost use Rattle.farm_io.specs.MemoryDoors.{IsReliableNew};
+ghost use Rattle.farm_io.specs.MemoryDoors.{IsNew, IsReliableNew};
 
+use crate::calling::end_with;
 use crate::farm_cli_tests::{check_ended, tree_of, words_of};
 use exit_status::Exit;
-use farm_cli::farm_main;
 use farm_io::{
-    Connection, Door, FixedClock, MemoryDoor, MemoryLink, ReliableConn, ReliableDoor, ReliableSink,
-    ReliableSource,
+    Connection, Door, MemoryConn, MemoryDoor, MemoryLink, MemorySink, MemorySource, ReliableConn,
+    ReliableDoor, ReliableSink, ReliableSource,
 };
 use judgehost::AlwaysOn;
-use parallel_judge::Silent;
 use record_store::MemoryDisk;
-use remote_host::NoPause;
 use std::alloc::{AllocError, Global};
 use std::sync::Wait;
 use std::test::Fail;
@@ -20,13 +18,15 @@ use std::thread::Threads;
 /// How many bytes a sink of these tests holds.
 const ROOM: usize = 2000;
 
-const SERVE: &str = "farm serve c --port 0 --lanes 2 --connections 1";
+const SERVE: &str = "farm serve c --port 0 --lanes 2 --connections 2";
+
+const ASK: &[u8] = b"GET /board HTTP/1.1\r\nhost: x\r\n\r\n";
 
 /// A connection that asks for the board and has room for the response.
 fn conn(alloc: Global) -> Result<ReliableConn, AllocError>
     ensures { IfOk result IsReliableNew }
 {
-    let bytes = b"GET /board HTTP/1.1\r\nhost: x\r\n\r\n".to_vec(alloc)?;
+    let bytes = ASK.to_vec(alloc)?;
     let sink = ReliableSink::new(Vec::with_capacity(alloc, ROOM)?);
     Ok(Connection::new(ReliableSource::new(bytes), sink))
 }
@@ -38,6 +38,25 @@ fn door(alloc: Global) -> Result<ReliableDoor, AllocError>
     let mut coming = Vec::new(alloc);
     coming.push(conn(alloc)?)?;
     ReliableDoor::new(alloc, coming)
+}
+
+/// Such a connection whose calls may fail, but none does.
+fn failing_conn(alloc: Global) -> Result<MemoryConn, AllocError>
+    ensures { IfOk result IsNew }
+{
+    let source = MemorySource::new(ASK.to_vec(alloc)?, Vec::new(alloc));
+    let sink = MemorySink::new(Vec::with_capacity(alloc, ROOM)?, Vec::new(alloc));
+    Ok(Connection::new(source, sink))
+}
+
+/// A door to which one such connection comes, and whose call of this number fails.
+fn failing_door(alloc: Global, failing: u64) -> Result<MemoryDoor, AllocError>
+    ensures { IfOk result (λ door. (door.accepted ≡ 0) × (door.back ≡ [])) }
+{
+    let mut coming = Vec::new(alloc);
+    coming.push(failing_conn(alloc)?)?;
+    let failing = [failing].to_vec(alloc)?;
+    MemoryDoor::new(alloc, coming, failing)
 }
 
 /// How a contest without problems is served at the door, and what is written.
@@ -56,19 +75,16 @@ where
     let mut tree = tree_of(alloc, "c/submissions.txt", b"")?;
     let mut link = MemoryLink::new(alloc, Vec::new(alloc), Vec::new(alloc))?;
     let mut disk = MemoryDisk::new(alloc, Vec::new(alloc), Vec::new(alloc))?;
-    let exit = farm_main(
+    let exit = end_with(
         rt,
         alloc,
         words.as_slice(),
         &mut tree,
         &mut input,
         &mut out,
-        &FixedClock::new(0),
         door,
         &AlwaysOn,
-        &mut Silent,
         &mut link,
-        &NoPause,
         &mut disk,
     );
     Ok((exit, out))
@@ -85,9 +101,20 @@ fn one_connection_asks_for_the_board(rt: HostRuntime) -> Result<(), Fail> {
 
 #[test]
 fn a_port_that_is_taken(rt: HostRuntime) -> Result<(), Fail> {
-    let failing = [0].to_vec(rt.alloc())?;
-    let mut door = MemoryDoor::new(rt.alloc(), Vec::new(rt.alloc()), failing)?;
+    let mut door = failing_door(rt.alloc(), 0)?;
     let (exit, out) = served(&rt, rt.alloc(), &mut door)?;
     assert_eq!(rt; (exit.status(), out.bytes()), (8, b"".as_slice()));
+    assert_eq!(rt; door.back().len(), 0);
+    Ok(())
+}
+
+/// Who was let in before the door failed is served, and has its line.
+#[test]
+fn a_door_whose_second_accept_fails(rt: HostRuntime) -> Result<(), Fail> {
+    let mut door = failing_door(rt.alloc(), 2)?;
+    let (exit, out) = served(&rt, rt.alloc(), &mut door)?;
+    let line = b"conn 1 requests 1 end\n".as_slice();
+    assert_eq!(rt; (exit.status(), out.bytes()), (8, line));
+    assert_eq!(rt; door.back().len(), 1);
     Ok(())
 }
