@@ -1,5 +1,5 @@
 -- A contest's serving among the commands.
-use Rattle.std.proofs.Common.{◌≡◌, ◌≤◌, ℕ, List, Option, Some, Ok, inl, inr, refl, sym, subst, arith}
+use Rattle.std.proofs.Common.{◌≡◌, ◌≤◌, ℕ, List, Option, Some, None, Ok, Err, inl, inr, refl, sym, ◌∙◌, subst, arith}
 use Rattle.std.specs.Prelude.{◌⊎◌, Bool, false, IfSome}
 use Rattle.std.specs.declared.net.ip_addr.IpAddr.{IpAddr}
 use Rattle.farm_tree.specs.declared.reads.TreeFile.{TreeFile}
@@ -19,7 +19,7 @@ use Rattle.contest_server.specs.Served.{Serves}
 use Rattle.exit_status.specs.declared.exit.Exit.{Exit}
 use Rattle.exit_status.specs.declared.exit.Exit.TheVariants as exit
 use Rattle.command_line.specs.CommandLine.{CommandValue, Serve}
-use Rattle.judge_commands.specs.Judged.{ContestIs, NoContestEnds, HasContest, ContestIsDone}
+use Rattle.judge_commands.specs.Judged.{ContestIs, IsFaultLine, NoContestEnds, HasContest, ContestIsDone}
 use Rattle.farm_cli.specs.ServedContest.{DoorUse, IsServed, IsUnasked, ServeEnds, exit_of}
 use Rattle.farm_cli.specs.Hosting.{LinkUse}
 use Rattle.script_commands.specs.Stored.{StoreUse}
@@ -50,6 +50,30 @@ unserved files folder at lanes connections door held held' unwritten (exit.BadAn
 unserved files folder at lanes connections door held held' unwritten exit.StoreFault same h = h
 unserved files folder at lanes connections door held held' unwritten (exit.BadStore flaw) same h = h
 unserved files folder at lanes connections door held held' unwritten (exit.StoreFull mark) same h = h
+
+-- a folder that has a contest has no fault
+no_fault : (files : Option (List TreeFile)) (folder text : List ℕ) → IsFaultLine files folder text → ¬ (HasContest files folder)
+no_fault None folder text line has = has
+no_fault (Some held) folder text line has = let both : Err line.fault ≡ Ok has.0 = sym line.found ∙ has.1 in cc
+
+-- T, D and K: the tree, the door and the output have failed
+pub refused_complete : (files : Option (List TreeFile)) (folder : List ℕ) (held held' : Option (List ℕ)) (unwritten T D K : Type 0) (e : Exit)
+    → NoContestEnds files folder held held' unwritten e → (e ≡ exit.TreeFault → T) → (e ≡ exit.WriteFault → K)
+    → HasContest files folder → ¬ T → ¬ D → ¬ K → (e ≡ exit.Done) ⊎ (e ≡ exit.Memory)
+refused_complete files folder held held' unwritten T D K exit.Done h tree write has read door wrote = absurd h
+refused_complete files folder held held' unwritten T D K exit.Usage h tree write has read door wrote = absurd h
+refused_complete files folder held held' unwritten T D K exit.BadContest h tree write has read door wrote = absurd (no_fault files folder h.text h.is_text has)
+refused_complete files folder held held' unwritten T D K exit.ReadFault h tree write has read door wrote = absurd h
+refused_complete files folder held held' unwritten T D K exit.WriteFault h tree write has read door wrote = absurd (wrote (write refl))
+refused_complete files folder held held' unwritten T D K exit.Memory h tree write has read door wrote = inr refl
+refused_complete files folder held held' unwritten T D K exit.TreeFault h tree write has read door wrote = absurd (read (tree refl))
+refused_complete files folder held held' unwritten T D K exit.DoorFault h tree write has read door wrote = absurd h
+refused_complete files folder held held' unwritten T D K exit.InputLimit h tree write has read door wrote = absurd h
+refused_complete files folder held held' unwritten T D K exit.LinkFault h tree write has read door wrote = absurd h
+refused_complete files folder held held' unwritten T D K (exit.BadAnswer answer) h tree write has read door wrote = absurd h
+refused_complete files folder held held' unwritten T D K exit.StoreFault h tree write has read door wrote = absurd h
+refused_complete files folder held held' unwritten T D K (exit.BadStore flaw) h tree write has read door wrote = absurd h
+refused_complete files folder held held' unwritten T D K (exit.StoreFull mark) h tree write has read door wrote = absurd h
 
 by_end : {N : Type 0} (files : Option (List TreeFile)) (folder : List ℕ) (at : Listening) (lanes connections : ℕ) (door : DoorUse N) (held held' : Option (List ℕ)) (unwritten : Type 0) (ended : ServeEnd)
     → IsServed files folder at lanes connections door held held' ended → ServeEnds files folder at lanes connections door held held' unwritten (exit_of ended)
