@@ -461,6 +461,26 @@ def lanes(program, folder):
         yield "their lines", lines[:2] == wanted and len(lines) == 7, lines
 
 
+def stuck(program, folder):
+    """Where the client that was connected longest is within a request that it does not end, the one behind it is let go."""
+    with Server(program, folder, lanes=4, connections=100) as server:
+        first = server.client()
+        good = is_answered(first)
+        first.sock.sendall(BOARD[:-1])
+        others = [server.client() for _ in range(3)]
+        good = good and all(is_answered(client) for client in others)
+        worst = slowest(server, 10)
+        name = f"one is stuck within a request, three keep their connections, and ten that come wait {worst:.3f} s at the most"
+        yield name, good and worst < 1, worst
+        yield "the one behind it was let go", others[0].sock.recv(10) == b"", None
+        first.sock.sendall(BOARD[-1:])
+        got = b"".join(iter(lambda: first.sock.recv(4096), b""))
+        good = statuses_in(got) == {200: 1} and b"\r\nconnection: close\r\n" in got
+        yield "it is answered once it has asked, and its connection ends", good, got
+        for client in others:
+            client.close()
+
+
 def rows_of(client, path):
     """The rows of a board."""
     return ask(client, "GET", path)[1]["rows"]
@@ -777,7 +797,7 @@ def main():
         write(folder, FILES)
         looks = [look(program, folder) for look in (
             talks, whole_connections, exact_bytes, batches, cut_anywhere, comes_back, hostile, killed, aborted, large, silent, lanes,
-            public, crowds, among_many, ends)]
+            stuck, public, crowds, among_many, ends)]
         for some in [*looks, page(program)]:
             for name, good, got in some:
                 print(f"{'ok  ' if good else 'NOT '} {name}{'' if good else f': {got!r}'}")
