@@ -4,7 +4,7 @@ use Rattle.std.specs.Prelude.{◌⊎◌, Bool, false, IfSome}
 use Rattle.std.specs.declared.net.ip_addr.IpAddr.{IpAddr}
 use Rattle.farm_tree.specs.declared.reads.TreeFile.{TreeFile}
 use Rattle.farm_io.specs.declared.door.Listening.{Listening}
-use Rattle.farm_io.specs.Doors.{DoorState, listening_at}
+use Rattle.farm_io.specs.Doors.{DoorState, DoesListen, listening_at}
 use Rattle.farm_io.specs.Streams.{Rose}
 use Rattle.farm_model.specs.State.{start}
 use Rattle.farm_board.specs.Histories.{opening_board}
@@ -81,6 +81,10 @@ by_end files folder at lanes connections door held held' unwritten end.Done h = 
 by_end files folder at lanes connections door held held' unwritten end.DoorFault h = inl h
 by_end files folder at lanes connections door held held' unwritten end.WriteFault h = inl h
 by_end files folder at lanes connections door held held' unwritten end.NoMemory h = inl h
+
+-- a door that was told to listen does
+pub does_listen : {N : Type 0} (old new : DoorState N) (at : Listening) → new ≡ listening_at old at → DoesListen new
+does_listen old new at same = subst (λ d. DoesListen d) (sym same) refl
 
 -- a contest that was served where the door was to listen
 pub served : {N : Type 0} (files : Option (List TreeFile)) (folder : List ℕ) (at : Listening) (lanes connections : ℕ) (door : DoorUse N) (listening : DoorState N) (held held' : Option (List ℕ)) (unwritten : Type 0) (roster : RosterValue) (ended : ServeEnd) (e : Exit)

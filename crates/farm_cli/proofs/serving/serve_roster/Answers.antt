@@ -2,8 +2,11 @@ use Rattle.std.proofs.Common.{◌∙◌, sym, subst}
 use Rattle.std.specs.Prelude.{◌≡◌, ◌⊎◌}
 use Rattle.exit_status.specs.declared.exit.Exit.{Exit}
 use Rattle.exit_status.specs.declared.exit.Exit.TheVariants as exit
-use Rattle.farm_cli.proofs.Servings.{served, write_failed, door_failed, ends_of_serving}
+use Rattle.farm_cli.proofs.Servings.{does_listen, served, write_failed, door_failed, ends_of_serving}
 use Rattle.farm_cli.proofs.serving.serve_roster.Goals as goal
+
+pub serve_contest-requires-clause-listens : goal.serve_contest-requires-clause-listens
+serve_contest-requires-clause-listens g c = λ κs outlive. does_listen (g.D.Door.state c.args.door.now) (g.D.Door.state c.listen.new.self) c.args.at c.in-Ok.ensures.listens
 
 pub returns-clause-ends : goal.returns-clause-ends
 returns-clause-ends g c files folder read =
