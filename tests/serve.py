@@ -377,15 +377,20 @@ ROUTES = [
     "/judgehosts", "/judgehosts/fetch-work", "/judgehosts/renew", "/judgehosts/add-judging-run", "/judgehosts/down",
     "/judgements/1/verify", "/judgements/1/ask", "/rejudgings", "/rejudgings/1/apply", "/rejudgings/1/cancel",
 ]
-# The first field of a body, and with what it is filled: numbers, empty texts, empty objects, a text, and one of escapes.
-KINDS = [('"submissions":[1', ",1", "]"), ('"x":[""', ',""', "]"), ('"x":[{}', ",{}", "]"), ('"hostname":"', "h", '"'), ('"who":"', "\\n", '"')]
+# What a body begins with, with what it is filled (numbers, empty strings, empty objects, a string, one of escapes, and
+# white space), how it ends, and why it is refused.
+KINDS = [
+    ('"submissions":[1', ",1", "]", b"too-many-values"), ('"x":[""', ',""', "]", b"too-many-values"),
+    ('"x":[{}', ",{}", "]", b"too-many-values"), ('"hostname":"', "h", '"', b"too-long-strings"),
+    ('"who":"', "\\n", '"', b"too-long-strings"), ('"hostname":7,"who":7,"submissions":7', " ", "", b"bad "),
+]
 
 
 def bodies():
-    """Bodies of at most 32 MiB, one of each kind."""
-    for front, piece, end in KINDS:
+    """Bodies of at most 32 MiB, one of each kind, and why it is refused."""
+    for front, piece, end, why in KINDS:
         count = ((1 << 25) - len(front) - len(end) - 2) // len(piece)
-        yield f"{{{front}{piece * count}{end}}}"
+        yield f"{{{front}{piece * count}{end}}}", why
 
 
 def large(program, folder):
@@ -395,19 +400,16 @@ def large(program, folder):
         body = '{"submissions":[1' + ",1" * 99_999 + "]}"
         got = sent(server, request("POST", "/rejudgings", body))
         yield "a list of 100,000 numbers", got.endswith(b'\r\n\r\n{"number":1,"reply":"not-final"}'), got[-200:]
-        most = {}
+        refused = []
         with server.connect() as conn:
-            for body, (front, _, _) in zip(bodies(), KINDS):
-                refused = 0
+            for body, why in bodies():
+                refused.append(0)
                 for path in ROUTES:
                     conn.sendall(request("POST", path, body))
-                    refused += conn.recv(4096).endswith(b'"why":"too-many-values"}')
-                most[front] = refused, memory_of(server, "VmHWM")
-        (_, lists), (_, texts) = most[KINDS[2][0]], most[KINDS[4][0]]
-        refused = [refused for refused, _ in most.values()]
-        yield "millions of numbers, texts or objects are refused on each route", refused == [len(ROUTES)] * 3 + [0] * 2, refused
-        yield f"  with no more memory than the body: {lists} KiB", lists < 45_000, lists
-        yield f"a text of 32 MiB takes three times that: {texts} KiB", texts < 110_000, texts
+                    refused[-1] += b'"why":"' + why in conn.recv(4096)
+        most = memory_of(server, "VmHWM")
+        yield "each body of 32 MiB is refused by name on each route", refused == [len(ROUTES)] * len(KINDS), refused
+        yield f"  with no more memory than the body: {most} KiB", most < 45_000, most
 
 
 def silent(program, folder):

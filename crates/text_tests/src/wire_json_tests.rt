@@ -140,8 +140,9 @@ pub(crate) fn body_told(alloc: Global, part: &str) -> Result<Vec<u8>, NoMemory> 
     said(alloc, route, bytes_of(alloc, body)?.as_slice())
 }
 
-/// Bodies, each behind the word of its route and a bar, and what they say or are answered. In the last two an array
-/// stands beside the name, of 127 and of 128 levels, the object counted.
+/// Bodies, each behind the word of its route and a bar, and what they say or are answered. In the last ones stands beside
+/// the name an array of 127 and of 128 levels, the object counted; as many values as may stand there, and one more; and a
+/// string as long as it may be, and one longer, also of escapes.
 const BODIES: &str = concat!(
     "hosts|{\"hostname\":\"h1\"} => host h1\n",
     "hosts|  => {\"reply\":\"bad-body\",\"why\":\"not-json\"}\n",
@@ -183,6 +184,12 @@ const BODIES: &str = concat!(
     "rejudging|{} => empty\n",
     "hosts|{\"hostname\":\"h1\",\"deep\":«[*126»«]*126»} => host h1\n",
     "hosts|{\"hostname\":\"h1\",\"deep\":«[*127»«]*127»} => {\"reply\":\"bad-body\",\"why\":\"not-json\"}\n",
+    "hosts|{\"hostname\":\"h1\",\"x\":[1«,1*131069»]} => host h1\n",
+    "hosts|{\"hostname\":\"h1\",\"x\":[1«,1*131070»]} => {\"reply\":\"bad-body\",\"why\":\"too-many-values\"}\n",
+    "hosts|{\"hostname\":\"h1\",\"x\":\"«a*1048561»\"} => host h1\n",
+    "hosts|{\"hostname\":\"h1\",\"x\":\"«a*1048562»\"} => {\"reply\":\"bad-body\",\"why\":\"too-long-strings\"}\n",
+    "hosts|{\"hostname\":\"h1\",\"x\":\"«\\\"*524280»\"} => host h1\n",
+    "hosts|{\"hostname\":\"h1\",\"x\":\"«\\\"*524281»\"} => {\"reply\":\"bad-body\",\"why\":\"too-long-strings\"}\n",
 );
 
 #[test]

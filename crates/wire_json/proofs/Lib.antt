@@ -3,3 +3,4 @@ pub mod NumberLists
 pub mod Plain
 pub mod RowLists
 pub mod Texts
+pub mod StringBytes

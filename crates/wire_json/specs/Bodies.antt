@@ -8,11 +8,12 @@ use Rattle.farm_kinds.specs.Names.{jury}
 use Rattle.wire_json.specs.declared.bodies.Body.{Body}
 use Rattle.wire_json.specs.declared.bodies.Body.TheVariants as body
 use Rattle.wire_json.specs.declared.faults.BodyFault.{BodyFault}
-use Rattle.wire_json.specs.declared.faults.BodyFault.TheVariants.{NotJson, TooManyValues}
+use Rattle.wire_json.specs.declared.faults.BodyFault.TheVariants.{NotJson, TooManyValues, TooLongStrings}
 use Rattle.wire_json.specs.declared.faults.Field.TheVariants as field
 use Rattle.wire_json.specs.declared.routes.Route.{Route}
 use Rattle.wire_json.specs.declared.routes.Route.TheVariants as route
 use Rattle.wire_json.specs.Fields.{needed, optional, name_in, number_in, kind_in, max_in, numbers_in}
+use Rattle.wire_json.specs.Strings.{has_too_long_strings}
 
 -- the value, where it is an object
 abbrev pub only_object : Data → Option Data
@@ -81,9 +82,9 @@ abbrev pub in_object : (Data → Result Body BodyFault) → Option Data → Resu
 in_object fields None = Err NotJson
 in_object fields (Some d) = fields d
 
--- what the fields of a body say, unless it has too many values
+-- what the fields of a body say, unless it has too many values or too long strings
 abbrev pub in_body : (Data → Result Body BodyFault) → List ℕ → Result Body BodyFault
-in_body fields bytes = if has_too_many_values bytes then Err TooManyValues else in_object fields (object_of bytes)
+in_body fields bytes = if has_too_many_values bytes then Err TooManyValues else (if has_too_long_strings bytes then Err TooLongStrings else in_object fields (object_of bytes))
 
 -- what the body of a route says, or its first fault; a body without fields is not looked at
 abbrev pub body_of : Route → List ℕ → Result Body BodyFault

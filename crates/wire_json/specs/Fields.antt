@@ -8,7 +8,7 @@ use Rattle.farm_kinds.specs.Names.{name_read}
 use Rattle.wire_json.specs.declared.faults.Field.{Field}
 use Rattle.wire_json.specs.declared.faults.Field.TheVariants as field
 use Rattle.wire_json.specs.declared.faults.BodyFault.{BodyFault}
-use Rattle.wire_json.specs.declared.faults.BodyFault.TheVariants.{TooManyValues, NotJson, MissingField, BadField, NoMemory}
+use Rattle.wire_json.specs.declared.faults.BodyFault.TheVariants.{TooManyValues, TooLongStrings, NotJson, MissingField, BadField, NoMemory}
 
 abbrev pub field_name : Field → List ℕ
 field_name field.Hostname = codes "hostname"
@@ -78,6 +78,7 @@ optional name what absent body = optional_in name what absent (get (field_name n
 abbrev pub IsReading : {A : Type 0} → Result A BodyFault → Result A BodyFault → Type 0
 IsReading told (Ok a) = told ≡ Ok a
 IsReading told (Err TooManyValues) = told ≡ Err TooManyValues
+IsReading told (Err TooLongStrings) = told ≡ Err TooLongStrings
 IsReading told (Err NotJson) = told ≡ Err NotJson
 IsReading told (Err (MissingField name)) = told ≡ Err (MissingField name)
 IsReading told (Err (BadField name)) = told ≡ Err (BadField name)

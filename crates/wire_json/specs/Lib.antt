@@ -3,3 +3,4 @@ pub mod Bodies
 pub mod Objects
 pub mod Replies
 pub mod FaultTexts
+pub mod Strings

@@ -50,6 +50,8 @@ pub enum BodyFault {
     /// The body has more than 131,072 bytes with which a list, an object, or a value behind the first of one begins. No
     /// request needs so many, and reading them would take many times the body's size.
     TooManyValues,
+    /// The strings of the body have more than 1,048,576 bytes. No field takes one of more than 32.
+    TooLongStrings,
     /// The body is no JSON text (RFC 8259) in UTF-8, is nested deeper than 127, or is no object.
     NotJson,
     /// The body lacks this field.
@@ -77,6 +79,7 @@ fn why_text(alloc: Global, fault: BodyFault) -> Result<String, AllocError>
 {
     match fault {
         BodyFault::TooManyValues => String::from_str(alloc, "too-many-values"),
+        BodyFault::TooLongStrings => String::from_str(alloc, "too-long-strings"),
         BodyFault::NotJson => String::from_str(alloc, "not-json"),
         BodyFault::MissingField { name } => format!(in alloc; "missing {}", name.name()),
         BodyFault::BadField { name } => format!(in alloc; "bad {}", name.name()),

@@ -1,7 +1,8 @@
 //! The JSON bodies of the judge server: what a request's body says, and the body of each reply.
 //!
 //! Where things stand: `routes.rt` what a request may ask for, `bodies.rt` what its body says, `reading.rt` the
-//! lists of fields, over `fields.rt`, which reads one field, and `faults.rt`, what is wrong with a body;
+//! lists of fields, over `fields.rt`, which reads one field, `strings.rt`, which counts the bytes of its strings, and
+//! `faults.rt`, what is wrong with a body;
 //! `replies.rt` the JSON of each reply, `rows.rt` the rows of boards and matrices, `answers.rt` names and answers
 //! as text.
 //!
@@ -18,6 +19,7 @@ mod reading;
 mod replies;
 mod routes;
 mod rows;
+mod strings;
 mod worked;
 
 pub use answers::name_text;

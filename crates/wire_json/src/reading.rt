@@ -2,12 +2,14 @@ ghost use Rattle.std.specs.Prelude.{◌≡◌, ◌⊎◌, false, true, Some, Non
 ghost use Rattle.serde_json.specs.View.{view};
 ghost use Rattle.wire_json.specs.declared.bodies.Body.TheVariants as body;
 ghost use Rattle.wire_json.specs.Fields.{IsReading};
+ghost use Rattle.wire_json.specs.Strings.{has_too_long_strings};
 ghost use Rattle.wire_json.specs.Bodies.{begins_value, has_too_many_values, in_object, object_of, host_body, fetch_body, run_body, held_body, actor_body, rejudge_body, body_of, has_fields};
 
 use crate::bodies::Body;
 use crate::faults::{BodyFault, Field};
 use crate::fields::{kind_at, max_at, name_at, number_at, submissions_at, who_at};
 use crate::routes::Route;
+use crate::strings::has_too_long_strings;
 use serde_json::{Map, Value};
 use std::alloc::Global;
 
@@ -53,15 +55,19 @@ fn has_too_many_values(bytes: &[u8]) -> bool
     bytes.iter().filter(|b| begins_value(**b)).count() > MOST_VALUES
 }
 
-/// The object that a body is, unless it has more values than are read.
+/// The object that a body is, unless it has more values or longer strings than are read.
 fn fields_of(alloc: Global, bytes: &[u8]) -> Result<Value, BodyFault>
-    ensures ok { IfOk result (λ v. (has_too_many_values bytes.now ≡ false) × (object_of bytes.now ≡ Some (view v))) }
+    ensures ok { IfOk result (λ v. (has_too_many_values bytes.now ≡ false) × (has_too_long_strings bytes.now ≡ false) × (object_of bytes.now ≡ Some (view v))) }
     ensures too_many { result ≡ Err BodyFault.TooManyValues → has_too_many_values bytes.now ≡ true }
-    ensures not_json { result ≡ Err BodyFault.NotJson → (has_too_many_values bytes.now ≡ false) × (object_of bytes.now ≡ None) }
-    ensures err { IfErr result (λ e. (e ≡ BodyFault.TooManyValues) ⊎ (e ≡ BodyFault.NotJson) ⊎ (e ≡ BodyFault.NoMemory)) }
+    ensures too_long { result ≡ Err BodyFault.TooLongStrings → (has_too_many_values bytes.now ≡ false) × (has_too_long_strings bytes.now ≡ true) }
+    ensures not_json { result ≡ Err BodyFault.NotJson → (has_too_many_values bytes.now ≡ false) × (has_too_long_strings bytes.now ≡ false) × (object_of bytes.now ≡ None) }
+    ensures err { IfErr result (λ e. (e ≡ BodyFault.TooManyValues) ⊎ (e ≡ BodyFault.TooLongStrings) ⊎ (e ≡ BodyFault.NotJson) ⊎ (e ≡ BodyFault.NoMemory)) }
 {
     if has_too_many_values(bytes) {
         return Err(BodyFault::TooManyValues);
+    }
+    if has_too_long_strings(bytes) {
+        return Err(BodyFault::TooLongStrings);
     }
     object_of(alloc, bytes)
 }
@@ -133,8 +139,8 @@ fn rejudge_body(alloc: Global, fields: &Value) -> Result<Body, BodyFault>
 /// What the body of this route says, or its first fault. The fields are looked at in the order of the
 /// route's list; others are ignored, and of a field that stands more than once the last value counts.
 ///
-/// A body without fields is not looked at. An empty body counts as `{}`. One with too many values is refused before it is
-/// read, so that what is held beside it is bounded.
+/// A body without fields is not looked at. An empty body counts as `{}`. One with too many values or too long strings is
+/// refused before it is read, so that what is held beside it is bounded.
 pub fn read_body(alloc: Global, route: Route, bytes: &[u8]) -> Result<Body, BodyFault>
     ensures said { IsReading (body_of route bytes.now) result }
     ensures unread { has_fields route ≡ false → result ≡ Ok body.Empty }

@@ -9,8 +9,10 @@ ghost use Rattle.farm_kinds.specs.declared.events.Reply.TheVariants as reply;
 ghost use Rattle.wire_json.specs.declared.bodies.Body.TheVariants as body;
 ghost use Rattle.wire_json.specs.declared.routes.Route.TheVariants as route;
 ghost use Rattle.wire_json.specs.declared.faults.Field.TheVariants as field;
-ghost use Rattle.wire_json.specs.declared.faults.BodyFault.TheVariants.{TooManyValues, NotJson, MissingField, BadField};
+ghost use Rattle.wire_json.specs.declared.faults.BodyFault.TheVariants.{TooManyValues, TooLongStrings, NotJson, MissingField, BadField};
 ghost use Rattle.wire_json.specs.Bodies.{body_of};
+ghost use Rattle.wire_json.specs.Strings.{bytes_in_strings};
+ghost use Rattle.wire_json.specs.declared.strings.Position.TheVariants.{Outside};
 ghost use Rattle.wire_json.specs.Replies.{json_of};
 ghost use Rattle.wire_json.specs.FaultTexts.{json_of_fault};
 
@@ -39,6 +41,8 @@ pub fn worked_faults()
     ensures bad_max { compact_text (json_of_fault (BadField field.Max)) ≡ codes "{\"reply\":\"bad-body\",\"why\":\"bad max\"}" }
     ensures missing { compact_text (json_of_fault (MissingField field.Hostname)) ≡ codes "{\"reply\":\"bad-body\",\"why\":\"missing hostname\"}" }
     ensures too_many { compact_text (json_of_fault TooManyValues) ≡ codes "{\"reply\":\"bad-body\",\"why\":\"too-many-values\"}" }
+    ensures too_long { compact_text (json_of_fault TooLongStrings) ≡ codes "{\"reply\":\"bad-body\",\"why\":\"too-long-strings\"}" }
+    ensures strings { bytes_in_strings Outside (codes "{\"a\\\"b\":1,\"\":\"\\n\"}") ≡ 9 }
     ensures not_json { compact_text (json_of_fault NotJson) ≡ codes "{\"reply\":\"bad-body\",\"why\":\"not-json\"}" }
 {}
 

@@ -42,3 +42,7 @@ returns-clause-not_json c = refl
 pub returns-clause-too_many : goal.returns-clause-too_many
 unfolding serde_json_on_literals
 returns-clause-too_many c = refl
+
+pub returns-clause-too_long : goal.returns-clause-too_long
+unfolding serde_json_on_literals
+returns-clause-too_long c = refl
