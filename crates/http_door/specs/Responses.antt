@@ -5,6 +5,8 @@ use Rattle.std.specs.Fmt.{decimal}
 use Rattle.std.specs.Io.KnownBytes.{Keeps, Appends}
 use Rattle.http.specs.StatusCode.{reason_phrase}
 use Rattle.farm_io.specs.Streams.{Rose}
+use Rattle.http_door.specs.declared.responses.Content.{Content}
+use Rattle.http_door.specs.declared.responses.Content.TheVariants as content
 use Rattle.http_door.specs.declared.responses.ResponseFault.{ResponseFault}
 use Rattle.http_door.specs.declared.responses.ResponseFault.TheVariants as fault
 
@@ -17,20 +19,38 @@ abbrev pub close_line : Bool → List ℕ
 close_line true = codes "connection: close\r\n"
 close_line false = []
 
+-- The lines that say what a body is. A page may ask its own server for more, and run and show what stands in it: of
+-- style and script only those of these digests. Nothing else may be loaded, no other page may show it within itself, and
+-- it is taken for nothing else than a page (Content Security Policy, level 3).
+abbrev pub content_lines : Content → List ℕ
+content_lines content.Json = codes "content-type: application/json\r\n"
+content_lines content.Page =
+    codes "content-type: text/html; charset=utf-8\r\n"
+    ++ codes "content-security-policy: default-src 'none'; "
+    ++ codes "style-src 'sha256-G30TodyTMcG4q+tbaFjhqASOL2SBaKqaut9AMfWhnD4='; "
+    ++ codes "script-src 'sha256-jIWpfSAAKJsUAfPwlhFnoXZ4J5Sc3VOnc2W3TTwhj2s='; "
+    ++ codes "connect-src 'self'; base-uri 'none'; form-action 'none'; frame-ancestors 'none'\r\n"
+    ++ codes "x-content-type-options: nosniff\r\n"
+
 -- the status line, a line for each of the fields, and the empty line behind them
-abbrev pub head_lines : ℕ → List ℕ → ℕ → List ℕ → List ℕ
-head_lines code phrase len last =
+abbrev pub head_lines : ℕ → List ℕ → ℕ → List ℕ → List ℕ → List ℕ
+head_lines code phrase len what last =
     codes "HTTP/1.1 " ++ (decimal code ++ (codes " " ++ (phrase
     ++ (codes "\r\ncontent-length: " ++ (decimal len
-    ++ (codes "\r\ncontent-type: application/json\r\n" ++ (last ++ codes "\r\n")))))))
+    ++ (codes "\r\n" ++ (what ++ (last ++ codes "\r\n"))))))))
 
 -- the head of a response of this status with a body of so many bytes
-abbrev pub head_text : Bool → ℕ → ℕ → List ℕ
-head_text closing status len = head_lines status (phrase_of status) len (close_line closing)
+abbrev pub head_text : Content → Bool → ℕ → ℕ → List ℕ
+head_text what closing status len =
+    head_lines status (phrase_of status) len (content_lines what) (close_line closing)
 
--- the bytes of a response, behind which the server ends the connection or does not
+-- the bytes of a response with a body of this content, behind which the server ends the connection or does not
+abbrev pub content_response : Content → Bool → ℕ → List ℕ → List ℕ
+content_response what closing status body = head_text what closing status (length body) ++ body
+
+-- the same, where the body is JSON
 abbrev pub response_with : Bool → ℕ → List ℕ → List ℕ
-response_with closing status body = head_text closing status (length body) ++ body
+response_with closing status body = content_response content.Json closing status body
 
 -- the bytes of a response that says nothing of the connection
 abbrev pub response_text : ℕ → List ℕ → List ℕ

@@ -2,7 +2,7 @@
 //!
 //! An [`HttpReader`] cuts what a source gives into whole requests: a head of at most [`HEAD_LIMIT`] bytes
 //! and 64 fields, by the grammar of the crate `httparse`, and a body of the length that the head says. What
-//! cannot be a request is a [`Refusal`], which has a fixed response. [`write_response`] puts a response. An
+//! cannot be a request is a [`Refusal`], which has a fixed response. [`write_content`] puts a response, whose body is JSON or a page. An
 //! [`AnswerReader`] cuts what comes back on a connection into responses.
 //!
 //! The cuts are defined over whole lists of bytes in `specs/Requests.antt` and `specs/Answers.antt`; their laws are
@@ -10,7 +10,7 @@
 //!
 //! Where things stand: `reader.rt` has `HttpReader`, over `finding.rt` (when a head is looked for, and how a body
 //! is waited for), `heads.rt` (a head, by `httparse`), `fields.rt` (what its fields say of the body and the
-//! connection) and `window.rt` (the bytes that were taken); `responses.rt` is `write_response`, `refusals.rt` the
+//! connection) and `window.rt` (the bytes that were taken); `responses.rt` is `write_content`, `refusals.rt` the
 //! fixed responses, `ending.rt` why a reader gives no more. `specs/Requests.antt` is the cut of bytes into
 //! requests, `laws.rt` its laws, `worked.rt` the definitions at examples. The folder `answers` has the same for
 //! responses: its `AnswerReader` shares the window, the fields and how a body is waited for.
@@ -40,5 +40,5 @@ pub use laws::{
 };
 pub use reader::{Head, HttpReader, Next};
 pub use refusals::Refusal;
-pub use responses::{ResponseFault, write_response};
+pub use responses::{Content, ResponseFault, write_content, write_response};
 pub use worked::{worked_fields, worked_lengths, worked_responses};

@@ -2,7 +2,8 @@ ghost use Rattle.std.specs.Prelude.{◌≡◌, ℕ, List, [], ◌∷◌, ◌++�
 ghost use Rattle.http_door.specs.declared.fields.Framing.TheVariants.{Sized, BadLength, NoLength, TooLong};
 ghost use Rattle.http_door.specs.declared.refusals.Refusal.TheVariants as refusal;
 ghost use Rattle.http_door.specs.Fields.{framing_by, closes_by};
-ghost use Rattle.http_door.specs.Responses.{response_text};
+ghost use Rattle.http_door.specs.declared.responses.Content.TheVariants as content;
+ghost use Rattle.http_door.specs.Responses.{content_lines, content_response, response_text};
 ghost use Rattle.http_door.specs.Refusals.{refusal_status, refusal_body};
 
 /// The definition of a body's framing at fields.
@@ -36,8 +37,11 @@ pub fn worked_fields()
     ensures version { closes_by 0 ((codes "connection", codes "keep-alive") ∷ []) ≡ true }
 {}
 
-/// The definition of responses at the four refusals.
+/// The definition of responses at the four refusals, and at a page.
 pub fn worked_responses()
+    ensures page { content_response content.Page true 200 (codes "<p>")
+        ≡ codes "HTTP/1.1 200 OK\r\ncontent-length: 3\r\n" ++ content_lines content.Page
+        ++ codes "connection: close\r\n\r\n<p>" }
     ensures bad_head { response_text (refusal_status refusal.BadHead) (refusal_body refusal.BadHead)
         ≡ codes "HTTP/1.1 400 Bad Request\r\ncontent-length: 20\r\n"
         ++ codes "content-type: application/json\r\n\r\n{\"reply\":\"bad-head\"}" }

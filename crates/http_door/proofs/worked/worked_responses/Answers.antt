@@ -18,3 +18,7 @@ returns-clause-body_too_long c = refl
 pub returns-clause-no_length : goal.returns-clause-no_length
 unfolding digits
 returns-clause-no_length c = refl
+
+pub returns-clause-page : goal.returns-clause-page
+unfolding digits
+returns-clause-page c = refl
