@@ -1,0 +1,4 @@
+pub mod ViewValue
+pub mod Views
+pub mod ViewShape
+pub mod Page
