@@ -12,11 +12,12 @@ use Rattle.http_door.specs.declared.responses.ResponseFault.TheVariants as fault
 use Rattle.http_door.specs.Requests.{Request}
 use Rattle.http_door.specs.Responses.{response_with, Writes}
 use Rattle.case_run.specs.Cases.{TestCase}
+use Rattle.contest_page.specs.ViewValue.{ViewValue}
 use Rattle.judge_server.specs.declared.asking.Asked.{Asked}
 use Rattle.judge_server.specs.declared.asking.Asked.TheVariants as asked
 use Rattle.judge_server.specs.declared.asking.RequestFault.{RequestFault}
-use Rattle.judge_server.specs.Jobs.{owner_in, Gives, text_for, IsJobText, no_job}
-use Rattle.judge_server.specs.Conversation.{asked_of, reply_response, fault_response, job_response, job_or_reply, rows_response, Given, nothing_given}
+use Rattle.judge_server.specs.Jobs.{owner_in, Gives, text_for, IsJobText, no_job, no_view}
+use Rattle.judge_server.specs.Conversation.{asked_of, reply_response, fault_response, job_response, job_or_reply, rows_response, page_response, contest_response, Given, nothing_given}
 use Rattle.judge_server.specs.Entering.{Entered, with_look, AreEntered, Replies, AreKnown, entered_for, IsBegun, IsEntered}
 use Rattle.judge_server.specs.Exchanges.{Around, Exchange, IsCaseOf, IsGiven, entered_by}
 use Rattle.judge_server.specs.Serving.{IsPartly, IsExchange, PutsJob, PutsAnswer, close_or, how_after, OneAnswered}
@@ -92,22 +93,42 @@ begun_job step gives closing moment judging test a b held z =
     (nothing_given, record { replies = z.replies; made = z.made; front = z.front; entered = z.entered }, Keeps-refl held)
 
 -- what is given by a look
-abbrev look_given : Reply → Given
-look_given r = record { case = None; look = r }
+abbrev look_given : ViewValue → Reply → Given
+look_given view r = record { case = None; look = r; contest = view }
 
 -- a look gave a board, and the response has its rows
 pub put_rows : {A : Type 0} (step : A → Entered → A → Type 0) (gives : Gives) (closing : Bool) (moment : ℕ) (a b : A) (rows : List Answer) (held held' : Option (List ℕ)) (result : Result (Unit {0}) ResponseFault)
     → step a (with_look (reply.Board rows)) b → Writes held held' (rows_response closing (reply.Board rows)) result → PutsAnswer step gives closing moment asked.Public a b held held' result
-put_rows step gives closing moment a b rows held held' (Ok u) y x = (no_replies, look_given (reply.Board rows), no_replies-known, tt, (b, y, refl), x)
-put_rows step gives closing moment a b rows held held' (Err fault.WriteFault) y x = (no_replies, look_given (reply.Board rows), no_replies-known, tt, (b, y, refl), (x.0, x.2))
+put_rows step gives closing moment a b rows held held' (Ok u) y x = (no_replies, look_given no_view (reply.Board rows), no_replies-known, tt, (b, y, refl), x)
+put_rows step gives closing moment a b rows held held' (Err fault.WriteFault) y x = (no_replies, look_given no_view (reply.Board rows), no_replies-known, tt, (b, y, refl), (x.0, x.2))
 put_rows step gives closing moment a b rows held held' (Err fault.NoMemory) y x =
-    (look_given (reply.Board rows), record { replies = no_replies; made = with_look (reply.Board rows) ∷ []; front = ([], refl); entered = (b, y, refl) }, x)
+    (look_given no_view (reply.Board rows), record { replies = no_replies; made = with_look (reply.Board rows) ∷ []; front = ([], refl); entered = (b, y, refl) }, x)
 
 -- a look gave none
 pub no_rows : {A : Type 0} (step : A → Entered → A → Type 0) (gives : Gives) (closing : Bool) (moment : ℕ) (a b : A) (r : Reply) (held : Option (List ℕ))
     → step a (with_look r) b → PutsAnswer step gives closing moment asked.Public a b held held (Err fault.NoMemory)
 no_rows step gives closing moment a b r held y =
-    (look_given r, record { replies = no_replies; made = with_look r ∷ []; front = ([], refl); entered = (b, y, refl) }, Keeps-refl held)
+    (look_given no_view r, record { replies = no_replies; made = with_look r ∷ []; front = ([], refl); entered = (b, y, refl) }, Keeps-refl held)
+
+-- the same, where the response is the page with its rows
+pub put_page : {A : Type 0} (step : A → Entered → A → Type 0) (gives : Gives) (closing : Bool) (moment : ℕ) (a b : A) (rows : List Answer) (held held' : Option (List ℕ)) (result : Result (Unit {0}) ResponseFault)
+    → step a (with_look (reply.Board rows)) b → Writes held held' (page_response closing gives.contest (reply.Board rows)) result → PutsAnswer step gives closing moment asked.Page a b held held' result
+put_page step gives closing moment a b rows held held' (Ok u) y x = (no_replies, look_given gives.contest (reply.Board rows), no_replies-known, (tt, refl), (b, y, refl), x)
+put_page step gives closing moment a b rows held held' (Err fault.WriteFault) y x = (no_replies, look_given gives.contest (reply.Board rows), no_replies-known, (tt, refl), (b, y, refl), (x.0, x.2))
+put_page step gives closing moment a b rows held held' (Err fault.NoMemory) y x =
+    (look_given gives.contest (reply.Board rows), record { replies = no_replies; made = with_look (reply.Board rows) ∷ []; front = ([], refl); entered = (b, y, refl) }, x)
+
+pub no_page : {A : Type 0} (step : A → Entered → A → Type 0) (gives : Gives) (closing : Bool) (moment : ℕ) (a b : A) (r : Reply) (held : Option (List ℕ))
+    → step a (with_look r) b → PutsAnswer step gives closing moment asked.Page a b held held (Err fault.NoMemory)
+no_page step gives closing moment a b r held y =
+    (look_given no_view r, record { replies = no_replies; made = with_look r ∷ []; front = ([], refl); entered = (b, y, refl) }, Keeps-refl held)
+
+-- nothing is entered for the names of the contest
+pub put_contest : {A : Type 0} (step : A → Entered → A → Type 0) (gives : Gives) (closing : Bool) (moment : ℕ) (a : A) (held held' : Option (List ℕ)) (result : Result (Unit {0}) ResponseFault)
+    → Writes held held' (contest_response closing gives.contest) result → PutsAnswer step gives closing moment asked.Contest a a held held' result
+put_contest step gives closing moment a held held' (Ok u) x = (no_replies, look_given gives.contest reply.Nothing, no_replies-known, refl, refl, x)
+put_contest step gives closing moment a held held' (Err fault.WriteFault) x = (no_replies, look_given gives.contest reply.Nothing, no_replies-known, refl, refl, (x.0, x.2))
+put_contest step gives closing moment a held held' (Err fault.NoMemory) x = (nothing_given, begun_none step asked.Contest moment nothing_given a, x)
 
 -- no job was asked of the cases: the response is that to the reply
 pub job_refused : (gives : Gives) (closing : Bool) (judging test : ℕ) (r : Reply) (held held' : Option (List ℕ)) (result : Result (Unit {0}) ResponseFault)
@@ -126,15 +147,15 @@ job_refused gives closing judging test r held held' (Err fault.NoMemory) none x 
 
 -- the cases were asked, and gave this
 pub job_given : (gives : Gives) (closing : Bool) (judging test submission : ℕ) (case : Option TestCase) (r : Reply) (held held' : Option (List ℕ)) (result : Result (Unit {0}) ResponseFault)
-    → owner_in r ≡ Some submission → gives submission test case → Writes held held' (job_response closing judging test case) result → PutsJob gives closing judging test r held held' result
+    → owner_in r ≡ Some submission → gives.case submission test case → Writes held held' (job_response closing judging test case) result → PutsJob gives closing judging test r held held' result
 job_given gives closing judging test submission case r held held' (Ok u) some may x =
-    let given : Given = record { case = case; look = reply.Nothing } in (
+    let given : Given = record { case = case; look = reply.Nothing; contest = no_view } in (
       given,
       subst (λ (z : Option ℕ). IsCaseOf gives test z given) (sym some) may,
       subst (λ (z : Option ℕ). Appends held held' (job_or_reply closing judging test z r case)) (sym some) x,
     )
 job_given gives closing judging test submission case r held held' (Err fault.WriteFault) some may x =
-    let given : Given = record { case = case; look = reply.Nothing } in (
+    let given : Given = record { case = case; look = reply.Nothing; contest = no_view } in (
       given,
       subst (λ (z : Option ℕ). IsCaseOf gives test z given) (sym some) may,
       (x.0, subst (λ (z : Option ℕ). Appends held held' (take x.0 (job_or_reply closing judging test z r case))) (sym some) x.2),
@@ -153,16 +174,16 @@ no_job_is may closing judging test (None, m, is) = refl
 no_job_is may closing judging test (Some c, m, is) = absurd (cc is)
 
 pub job_text_given : (gives : Gives) (closing : Bool) (judging test submission : ℕ) (text : List ℕ) (r : Reply) (held held' : Option (List ℕ)) (result : Result (Unit {0}) ResponseFault)
-    → owner_in r ≡ Some submission → IsJobText (gives submission test) judging test (Some text) → Writes held held' (response_with closing 200 text) result → PutsJob gives closing judging test r held held' result
+    → owner_in r ≡ Some submission → IsJobText (gives.case submission test) judging test (Some text) → Writes held held' (response_with closing 200 text) result → PutsJob gives closing judging test r held held' result
 job_text_given gives closing judging test submission text r held held' result some x written =
     job_given gives closing judging test submission x.0 r held held' result some x.1
-    (subst (λ (z : List ℕ). Writes held held' z result) (job_text_is (gives submission test) closing judging test text x) written)
+    (subst (λ (z : List ℕ). Writes held held' z result) (job_text_is (gives.case submission test) closing judging test text x) written)
 
 pub no_job_given : (gives : Gives) (closing : Bool) (judging test submission : ℕ) (r : Reply) (held held' : Option (List ℕ)) (result : Result (Unit {0}) ResponseFault)
-    → owner_in r ≡ Some submission → IsJobText (gives submission test) judging test None → Writes held held' (response_with closing 404 no_job) result → PutsJob gives closing judging test r held held' result
+    → owner_in r ≡ Some submission → IsJobText (gives.case submission test) judging test None → Writes held held' (response_with closing 404 no_job) result → PutsJob gives closing judging test r held held' result
 no_job_given gives closing judging test submission r held held' result some x written =
     job_given gives closing judging test submission x.0 r held held' result some x.1
-    (subst (λ (z : List ℕ). Writes held held' z result) (no_job_is (gives submission test) closing judging test x) written)
+    (subst (λ (z : List ℕ). Writes held held' z result) (no_job_is (gives.case submission test) closing judging test x) written)
 
 -- what was entered for the request, with these replies, and what was given beside them
 abbrev exchange : Request → ℕ → Replies → Given → Bool → Exchange

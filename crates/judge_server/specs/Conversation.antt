@@ -15,7 +15,11 @@ use Rattle.wire_json.specs.Bodies.{body_of}
 use Rattle.wire_json.specs.FaultTexts.{json_of_fault}
 use Rattle.wire_json.specs.Replies.{json_of}
 use Rattle.http_door.specs.Requests.{Request}
-use Rattle.http_door.specs.Responses.{response_with}
+use Rattle.http_door.specs.declared.responses.Content.TheVariants as content
+use Rattle.http_door.specs.Responses.{content_response, response_with}
+use Rattle.contest_page.specs.ViewValue.{ViewValue}
+use Rattle.contest_page.specs.Views.{contest_text}
+use Rattle.contest_page.specs.Page.{page_text}
 use Rattle.judge_server.specs.declared.asking.Asked.{Asked}
 use Rattle.judge_server.specs.declared.asking.Asked.TheVariants as asked
 use Rattle.judge_server.specs.declared.asking.RequestFault.{RequestFault}
@@ -24,7 +28,7 @@ use Rattle.judge_server.specs.declared.routes.Routed.{Routed}
 use Rattle.judge_server.specs.declared.routes.Routed.TheVariants as routed
 use Rattle.case_run.specs.Cases.{TestCase}
 use Rattle.judge_server.specs.Routes.{routed_of}
-use Rattle.judge_server.specs.Jobs.{owner_in, text_for, no_job}
+use Rattle.judge_server.specs.Jobs.{owner_in, text_for, no_job, no_view}
 use Rattle.judge_server.specs.Published.{json_of_rows}
 
 -- Events
@@ -109,6 +113,8 @@ asked_by r (Err why) = asked.Refused (fault.BadBody why)
 abbrev pub asked_at : Routed → List ℕ → Asked
 asked_at (routed.Route r) bytes = asked_by r (body_of r bytes)
 asked_at routed.Public bytes = asked.Public
+asked_at routed.Page bytes = asked.Page
+asked_at routed.Contest bytes = asked.Contest
 asked_at routed.NoRoute bytes = asked.Refused fault.NoRoute
 asked_at routed.NoMethod bytes = asked.Refused fault.NoMethod
 
@@ -188,23 +194,35 @@ unfoldable pub rows_response : Bool → Reply → List ℕ
 rows_response closing (reply.Board rows) = response_with closing 200 (compact_text (json_of_rows rows))
 rows_response closing r = []
 
--- what a response takes beside the reply to an event: the case of the job that it gives, or that there is none; and what a
--- look at what the public sees gave
+-- the response that gives the page with the rows of a look; there is none where it gave none
+unfoldable pub page_response : Bool → ViewValue → Reply → List ℕ
+page_response closing view (reply.Board rows) = content_response content.Page closing 200 (page_text view rows)
+page_response closing view r = []
+
+-- the response that gives the names of a contest
+unfoldable pub contest_response : Bool → ViewValue → List ℕ
+contest_response closing view = response_with closing 200 (contest_text view)
+
+-- what a response takes beside the reply to an event: the case of the job that it gives, or that there is none; what a
+-- look at what the public sees gave; and the names of the contest
 pub record Given : Type 0 where
   pub case : Option TestCase
   pub look : Reply
+  pub contest : ViewValue
 
 abbrev pub nothing_given : Given
-nothing_given = record { case = None; look = reply.Nothing }
+nothing_given = record { case = None; look = reply.Nothing; contest = no_view }
 
 abbrev pub response_in : Bool → Asked → Reply → Given → List ℕ
 response_in closing (asked.Event ticks e) r given = reply_response closing r
 response_in closing (asked.Job judging test) r given = job_or_reply closing judging test (owner_in r) r given.case
 response_in closing asked.Public r given = rows_response closing given.look
+response_in closing asked.Page r given = page_response closing given.contest given.look
+response_in closing asked.Contest r given = contest_response closing given.contest
 response_in closing (asked.Refused why) r given = fault_response closing why
 
 -- The response to a request whose last event has this reply, where this was given; without an event no reply counts,
--- and what was given counts for a job, and for what the public sees, alone. Where the server asks to close the connection
+-- and what was given counts for a job, and for what anybody may see, alone. Where the server asks to close the connection
 -- behind it (`closing`), the response says so.
 abbrev pub response_of : Bool → Request → Reply → Given → List ℕ
 response_of closing request r given = response_in closing (asked_of request) r given

@@ -20,24 +20,24 @@ pub record Exchange : Type 0 where
   pub asked : Bool
 
 -- what a connection is served by: the numbers that the clock may show, whether the server ever asks to close it, and
--- the cases that it may give
+-- the cases and names that it may give
 pub record Around : Type 1 where
   pub shows : ℕ → Bool
   pub asks : Bool
   pub gives : Gives
 
--- without cases
+-- without cases and names
 abbrev pub around_of : (ℕ → Bool) → Bool → Around
 around_of shows asks = record { shows = shows; asks = asks; gives = gives_none }
 
--- the same, with these cases
+-- the same, with these
 abbrev pub giving : Gives → Around → Around
 giving gives around = record { shows = around.shows; asks = around.asks; gives = gives }
 
 -- what was given for the test of the submission that the reply names may be given; another reply gives nothing
 abbrev pub IsCaseOf : Gives → ℕ → Option ℕ → Given → Type 0
 IsCaseOf gives test None given = Unit {0}
-IsCaseOf gives test (Some submission) given = gives submission test given.case
+IsCaseOf gives test (Some submission) given = gives.case submission test given.case
 
 -- the look gave a board
 abbrev pub IsBoard : Reply → Type 0
@@ -49,6 +49,8 @@ abbrev pub IsGiven : Gives → Asked → Reply → Given → Type 0
 IsGiven gives (asked.Event ticks e) r given = Unit {0}
 IsGiven gives (asked.Job judging test) r given = IsCaseOf gives test (owner_in r) given
 IsGiven gives asked.Public r given = IsBoard given.look
+IsGiven gives asked.Page r given = IsBoard given.look × (given.contest ≡ gives.contest)
+IsGiven gives asked.Contest r given = given.contest ≡ gives.contest
 IsGiven gives (asked.Refused why) r given = Unit {0}
 
 -- the clock shows the moment, no reply says that memory ran out, what was given may be given, and the server asked to
@@ -60,11 +62,13 @@ pub record IsWhole (around : Around) (x : Exchange) : Type 0 where
   pub asked : x.asked ≡ true → around.asks ≡ true
 
 -- What is entered for what is asked. For a job it is asked whose submission the judging is; for what the public sees it is
--- looked at that.
+-- looked at that, also where it is shown as a page.
 abbrev pub entered_by : ℕ → Asked → Replies → Given → List Entered
 entered_by moment (asked.Event ticks e) r given = entered_for ticks moment e r
 entered_by moment (asked.Job judging test) r given = entered_for false moment (event.Owner judging) r
 entered_by moment asked.Public r given = with_look given.look ∷ []
+entered_by moment asked.Page r given = with_look given.look ∷ []
+entered_by moment asked.Contest r given = []
 entered_by moment (asked.Refused why) r given = []
 
 -- what is entered for the request

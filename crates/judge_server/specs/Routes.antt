@@ -57,8 +57,10 @@ route_at place.Submission path = with_id route.Submission (id_of path)
 route_at place.Verify path = with_id route.Verify (id_of path)
 route_at place.Ask path = with_id route.Ask (id_of path)
 route_at place.Board path = Some route.Board
--- what the public sees is not asked by a body
+-- what anybody may see is not asked by a body
 route_at place.Public path = None
+route_at place.Page path = None
+route_at place.Contest path = None
 route_at place.Audit path = Some route.Audit
 route_at place.Rejudgings path = Some route.Rejudgings
 route_at place.Rejudging path = with_id route.Rejudging (id_of path)
@@ -96,13 +98,15 @@ abbrev pub routed_by : List ℕ → Option Route → Routed
 routed_by method None = routed.NoRoute
 routed_by method (Some r) = if bytes_eq method (method_of r) then routed.Route r else routed.NoMethod
 
--- what the public sees is asked for by GET
-abbrev pub public_by : List ℕ → Routed
-public_by method = if bytes_eq method (codes "GET") then routed.Public else routed.NoMethod
+-- what anybody may see is asked for by GET
+abbrev pub got_by : List ℕ → Routed → Routed
+got_by method what = if bytes_eq method (codes "GET") then what else routed.NoMethod
 
 abbrev pub routed_at : List ℕ → Option Place → List ℕ → Routed
 routed_at method None path = routed.NoRoute
-routed_at method (Some place.Public) path = public_by method
+routed_at method (Some place.Public) path = got_by method routed.Public
+routed_at method (Some place.Page) path = got_by method routed.Page
+routed_at method (Some place.Contest) path = got_by method routed.Contest
 routed_at method (Some p) path = routed_by method (route_at p path)
 
 -- what a request asks for, by its method and its target

@@ -26,7 +26,8 @@ table =
     ∷ (codes "/judgements/{id}", place.Judgement)
     ∷ (codes "/judgements/{id}/submission", place.Submission) ∷ (codes "/judgements/{id}/verify", place.Verify)
     ∷ (codes "/judgements/{id}/ask", place.Ask) ∷ (codes "/board", place.Board)
-    ∷ (codes "/public", place.Public) ∷ (codes "/audit", place.Audit) ∷ (codes "/rejudgings", place.Rejudgings)
+    ∷ (codes "/public", place.Public) ∷ (codes "/", place.Page) ∷ (codes "/contest", place.Contest)
+    ∷ (codes "/audit", place.Audit) ∷ (codes "/rejudgings", place.Rejudgings)
     ∷ (codes "/rejudgings/{id}", place.Rejudging) ∷ (codes "/rejudgings/{id}/apply", place.Apply)
     ∷ (codes "/rejudgings/{id}/cancel", place.Cancel) ∷ []
 

@@ -31,6 +31,10 @@ pub enum Asked {
     Job { judging: u32, test: u32 },
     /// What the public sees.
     Public,
+    /// The same as a page for people.
+    Page,
+    /// The names of the contest.
+    Contest,
     /// Nothing.
     Refused(RequestFault),
 }
@@ -185,6 +189,8 @@ pub fn read_request(
     match find_route(paths, head.method.as_slice(), head.target.as_slice()) {
         Routed::Route(route) => read_asked(alloc, route, body),
         Routed::Public => Ok(Asked::Public),
+        Routed::Page => Ok(Asked::Page),
+        Routed::Contest => Ok(Asked::Contest),
         Routed::NoRoute => Ok(Asked::Refused(RequestFault::NoRoute)),
         Routed::NoMethod => Ok(Asked::Refused(RequestFault::NoMethod)),
     }

@@ -11,13 +11,15 @@ use crate::paths::Paths;
 use crate::replier::Replier;
 use crate::serving::serve_on;
 use case_run::Cases;
+use contest_page::{ContestView, Shows};
 use farm_board::{Admission, Anyone, Board, Pass};
 use farm_io::{Clock, Peer, Sink, Source};
 use farm_kinds::{Event, NoMemory, Reply, Text};
 use std::alloc::Global;
 use std::sync::Wait;
 
-/// Answers events by a board, each in its turn, on a pass, looks by asking for the board, and gives jobs of these cases.
+/// Answers events by a board, each in its turn, on a pass, looks by asking for the board, and gives jobs of these cases
+/// and the names that they show.
 #[derive(Drop)]
 struct BoardReplier<'a, W: Wait, A: Admission, Q: Cases> {
     rt: &'a W,
@@ -25,7 +27,7 @@ struct BoardReplier<'a, W: Wait, A: Admission, Q: Cases> {
     cases: &'a Q,
 }
 
-impl<'a, W: Wait, A: Admission, Q: Cases> Replier for BoardReplier<'a, W, A, Q> {
+impl<'a, W: Wait, A: Admission, Q: Cases + Shows> Replier for BoardReplier<'a, W, A, Q> {
     type State = Pass<A>;
 
     ghost suits = { λ r pass. pass.board ≡ r.board.now.id };
@@ -34,7 +36,7 @@ impl<'a, W: Wait, A: Admission, Q: Cases> Replier for BoardReplier<'a, W, A, Q> 
 
     ghost left = { λ pass. pass.left };
 
-    ghost gives = { λ r. gives_by (Q.case_at r.cases.now) };
+    ghost gives = { λ r. gives_by (Q.case_at r.cases.now) (Q.shown r.cases.now) };
 
     fn step(&self, state: &mut Pass<A>, event: &Event) -> Reply {
         self.board.step(self.rt, state, event)
@@ -53,6 +55,10 @@ impl<'a, W: Wait, A: Admission, Q: Cases> Replier for BoardReplier<'a, W, A, Q> 
     ) -> Result<Option<Text>, NoMemory> {
         write_case(alloc, self.cases, submission, judging, test)
     }
+
+    fn contest(&self) -> &ContestView {
+        self.cases.view()
+    }
 }
 
 /// Whether the other end may still say what nobody reads any more.
@@ -62,8 +68,8 @@ fn is_unheard(how: ConnHow) -> bool {
 
 /// Answers the requests of a connection by calls of a board until it ends, one after the other, each by at most three
 /// calls. Whoever is at its other end then sees that it has ended. The job of a judging is the case that `cases` have for
-/// the first judging of its submission, whose number is the submission's.
-pub fn serve_conn<W: Wait, A: Admission, Q: Cases, C: Clock, N: Source + Sink + Peer>(
+/// the first judging of its submission, whose number is the submission's; the names of the contest are those that they show.
+pub fn serve_conn<W: Wait, A: Admission, Q: Cases + Shows, C: Clock, N: Source + Sink + Peer>(
     rt: &W,
     alloc: Global,
     paths: &Paths,
@@ -77,7 +83,7 @@ pub fn serve_conn<W: Wait, A: Admission, Q: Cases, C: Clock, N: Source + Sink + 
     requires calls { 2 ^ 42 ≤ pass.old.left }
     requires source { (n : N) → N.Source.beside n ≡ side (N.held n) (N.Sink.faults n) }
     requires sink { (n : N) → N.Sink.beside n ≡ side (N.left n) (N.Source.faults n) }
-    ensures served { IsServed MakesCalls (giving (gives_by (Q.case_at cases.now)) (around_of (C.shows clock.now) N.Peer.asks))
+    ensures served { IsServed MakesCalls (giving (gives_by (Q.case_at cases.now) (Q.shown cases.now)) (around_of (C.shows clock.now) N.Peer.asks))
         (untaken pass.old (N.left conn.old) (N.held conn.old)) (untaken pass.new (N.left conn.new) (N.held conn.new))
         result.requests result.how }
     ensures cause { HasCauseServed (N.Source.faults conn.old) (N.Source.faults conn.new)

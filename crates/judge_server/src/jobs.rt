@@ -1,6 +1,6 @@
 ghost use Rattle.std.specs.Prelude.{◌≡◌, ◌≢◌, ◌≤◌, ◌+◌, IfOk};
 ghost use Rattle.http_door.specs.Responses.{HasCauseWritten};
-ghost use Rattle.judge_server.specs.Jobs.{owner_in, no_job, gives_by, IsJobText};
+ghost use Rattle.judge_server.specs.Jobs.{owner_in, no_job, IsCaseBy, IsJobText};
 ghost use Rattle.judge_server.specs.Serving.{PutsJob, PutsAnswer};
 
 use crate::answering::answer_reply;
@@ -23,7 +23,7 @@ pub(crate) fn write_case<Q: Cases>(
     judging: u32,
     test: u32,
 ) -> Result<Option<Text>, NoMemory>
-    ensures { IfOk result (λ text. IsJobText (gives_by (Q.case_at cases.now) submission test) judging test text) }
+    ensures { IfOk result (λ text. IsJobText (IsCaseBy (Q.case_at cases.now) submission test) judging test text) }
 {
     if test > 65_535 {
         return Ok(None);

@@ -5,9 +5,9 @@
 //!
 //! Where things stand: `paths.rt` the table of paths and its router, `routes.rt` the route of a request,
 //! `asking.rt` its event, `answering.rt` responses, `jobs.rt` those that give a job, `publishing.rt` those that give what the
-//! public sees; `replier.rt` what answers events, and how those of a request are entered, `serving.rt` is `serve_on`, which
-//! answers a connection by whatever answers events, and `calling.rt` is `serve_conn`, which does so by calls of a board, on
-//! a pass; `ends.rt` how a connection ends.
+//! public sees, `showing.rt` the page for people and the names of the contest; `replier.rt` what answers events, and how those
+//! of a request are entered, `serving.rt` is `serve_on`, which answers a connection by whatever answers events, and
+//! `calling.rt` is `serve_conn`, which does so by calls of a board, on a pass; `ends.rt` how a connection ends.
 //! `specs/Exchanges.antt` is what is entered and answered for a request, `specs/Serving.antt` what for a
 //! connection, `specs/PassCalls.antt` what that makes of a pass.
 //!
@@ -25,6 +25,7 @@ mod publishing;
 mod replier;
 mod routes;
 mod serving;
+mod showing;
 mod worked;
 
 pub use answering::{answer_fault, answer_reply, status_of};

@@ -20,6 +20,8 @@ pub enum Place {
     Ask,
     Board,
     Public,
+    Page,
+    Contest,
     Audit,
     Rejudgings,
     Rejudging,
@@ -27,7 +29,7 @@ pub enum Place {
     Cancel,
 }
 
-static TABLE: [(&str, Place); 17] = [
+static TABLE: [(&str, Place); 19] = [
     ("/judgehosts", Place::Hosts),
     ("/judgehosts/fetch-work", Place::FetchWork),
     ("/judgehosts/add-judging-run", Place::AddRun),
@@ -40,6 +42,8 @@ static TABLE: [(&str, Place); 17] = [
     ("/judgements/{id}/ask", Place::Ask),
     ("/board", Place::Board),
     ("/public", Place::Public),
+    ("/", Place::Page),
+    ("/contest", Place::Contest),
     ("/audit", Place::Audit),
     ("/rejudgings", Place::Rejudgings),
     ("/rejudgings/{id}", Place::Rejudging),

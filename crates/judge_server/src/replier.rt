@@ -1,13 +1,13 @@
-ghost use Rattle.std.specs.Prelude.{◌≡◌, ◌≢◌, ◌+◌, ◌<◌, ◌≤◌, ◌∷◌, [], ℕ, Option, IfOk};
-ghost use Rattle.case_run.specs.Cases.{TestCase};
-ghost use Rattle.judge_server.specs.Jobs.{IsJobText};
+ghost use Rattle.std.specs.Prelude.{◌≡◌, ◌≢◌, ◌+◌, ◌<◌, ◌≤◌, ◌∷◌, [], ℕ, IfOk};
+ghost use Rattle.judge_server.specs.Jobs.{Gives, IsJobText};
 ghost use Rattle.judge_server.specs.Conversation.{tick, down_after};
 ghost use Rattle.judge_server.specs.Entering.{Entered, with_reply, with_look, EntersAside, is_no_memory, Enters};
 
+use contest_page::ContestView;
 use farm_kinds::{Event, NoMemory, Reply, Text};
 use std::alloc::Global;
 
-/// What answers events, one after the other, looks at what the public sees, and gives jobs.
+/// What answers events, one after the other, looks at what the public sees, and gives jobs and the names of the contest.
 pub trait Replier {
     /// What events and looks change.
     type State;
@@ -18,8 +18,8 @@ pub trait Replier {
     ghost steps: { Self.State → Entered → Self.State → Type 0 };
     /// How many events may still be answered.
     ghost left: { Self.State → ℕ };
-    /// What may be given for the number of a submission and that of a test.
-    ghost gives: { Self → ℕ → ℕ → Option TestCase → Type 0 };
+    /// What may be given: cases, and the names of the contest.
+    ghost gives: { Self → Gives };
 
     /// Answers an event.
     fn step(&self, state: &mut Self::State, event: &Event) -> Reply
@@ -45,7 +45,11 @@ pub trait Replier {
         judging: u32,
         test: u32,
     ) -> Result<Option<Text>, NoMemory>
-        ensures { IfOk result (λ text. IsJobText (gives self.now submission test) judging test text) };
+        ensures { IfOk result (λ text. IsJobText ((gives self.now).case submission test) judging test text) };
+
+    /// The names of the contest.
+    fn contest(&self) -> &ContestView
+        ensures { result.now ≡ (gives self.now).contest };
 }
 
 /// Whether the reply says that memory ran out.

@@ -1,7 +1,7 @@
 ghost use Rattle.std.specs.Prelude.{◌≡◌, ◌==◌, ◌≤◌, length, IsUtf8};
 ghost use Rattle.std.specs.List.{position, position_or_len};
 ghost use Rattle.judge_server.specs.Table.{rows, place_in};
-ghost use Rattle.judge_server.specs.Routes.{before, behind, path_of, id_of, job_with, job_of, route_at, method_of, routed_by, public_by, routed_at, routed_of};
+ghost use Rattle.judge_server.specs.Routes.{before, behind, path_of, id_of, job_with, job_of, route_at, method_of, routed_by, got_by, routed_at, routed_of};
 
 use crate::paths::{Paths, Place};
 use command_text::read_number;
@@ -14,6 +14,10 @@ pub enum Routed {
     Route(Route),
     /// What the public sees.
     Public,
+    /// The page that people are shown.
+    Page,
+    /// The names of the contest.
+    Contest,
     /// No route has the path, or what stands there for an id is no number.
     NoRoute,
     /// The route of the path has another method.
@@ -101,8 +105,8 @@ fn route_at(place: Place, path: &[u8]) -> Option<Route>
         Place::Verify => id_of(path).map(Route::Verify),
         Place::Ask => id_of(path).map(Route::Ask),
         Place::Board => Some(Route::Board),
-        // What the public sees is not asked by a body.
-        Place::Public => None,
+        // What anybody may see is not asked by a body.
+        Place::Public | Place::Page | Place::Contest => None,
         Place::Audit => Some(Route::Audit),
         Place::Rejudgings => Some(Route::Rejudgings),
         Place::Rejudging => id_of(path).map(Route::Rejudging),
@@ -149,12 +153,12 @@ fn routed_by(method: &[u8], route: Option<Route>) -> Routed
     }
 }
 
-/// What the method makes of the place of what the public sees.
-fn public_by(method: &[u8]) -> Routed
-    ensures { result ≡ public_by method.now }
+/// What the method makes of the place of what anybody may see.
+fn got_by(method: &[u8], what: Routed) -> Routed
+    ensures { result ≡ got_by method.now what }
 {
     if method == b"GET".as_slice() {
-        return Routed::Public;
+        return what;
     }
     Routed::NoMethod
 }
@@ -165,7 +169,9 @@ fn routed_at(method: &[u8], place: Option<Place>, path: &[u8]) -> Routed
 {
     match place {
         None => Routed::NoRoute,
-        Some(Place::Public) => public_by(method),
+        Some(Place::Public) => got_by(method, Routed::Public),
+        Some(Place::Page) => got_by(method, Routed::Page),
+        Some(Place::Contest) => got_by(method, Routed::Contest),
         Some(place) => routed_by(method, route_at(place, path)),
     }
 }

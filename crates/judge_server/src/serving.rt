@@ -16,6 +16,7 @@ use crate::jobs::answer_job;
 use crate::paths::Paths;
 use crate::publishing::answer_public;
 use crate::replier::{Replier, enter};
+use crate::showing::{answer_contest, answer_page};
 use farm_io::{Clock, Peer, Sink, Source};
 use http_door::{Ending, Head, HttpReader, Next, Refusal, ResponseFault, write_response};
 use std::alloc::Global;
@@ -50,6 +51,8 @@ fn answer_asked<A: Replier, K: Sink>(
             alloc, replier, state, moment, *judging, *test, closing, sink,
         ),
         Asked::Public => answer_public(alloc, replier, state, moment, closing, sink),
+        Asked::Page => answer_page(alloc, replier, state, moment, closing, sink),
+        Asked::Contest => answer_contest(alloc, replier, closing, sink),
     }
 }
 

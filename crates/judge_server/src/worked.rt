@@ -7,6 +7,11 @@ ghost use Rattle.farm_kinds.specs.declared.events.Event.TheVariants as event;
 ghost use Rattle.farm_kinds.specs.declared.events.Reply.TheVariants as reply;
 ghost use Rattle.wire_json.specs.declared.routes.Route.TheVariants as route;
 ghost use Rattle.judge_server.specs.declared.routes.Routed.TheVariants as routed;
+ghost use Rattle.http_door.specs.declared.responses.Content.TheVariants as content;
+ghost use Rattle.http_door.specs.Responses.{content_response};
+ghost use Rattle.contest_page.specs.ViewValue.{ViewValue};
+ghost use Rattle.contest_page.specs.Page.{page_text};
+ghost use Rattle.judge_server.specs.Jobs.{no_view};
 ghost use Rattle.judge_server.specs.Routes.{route_of, routed_of};
 ghost use Rattle.judge_server.specs.Conversation.{nothing_given, response_of};
 ghost use Rattle.judge_server.specs.Entering.{with_reply, with_look, Replies};
@@ -39,6 +44,10 @@ pub fn worked_targets()
     ensures public { routed_of (codes "GET") (codes "/public") ≡ routed.Public }
     ensures public_query { routed_of (codes "GET") (codes "/public?team=1") ≡ routed.Public }
     ensures public_method { routed_of (codes "POST") (codes "/public") ≡ routed.NoMethod }
+    ensures page { routed_of (codes "GET") (codes "/?team=1") ≡ routed.Page }
+    ensures page_method { routed_of (codes "POST") (codes "/") ≡ routed.NoMethod }
+    ensures contest { routed_of (codes "GET") (codes "/contest") ≡ routed.Contest }
+    ensures contest_method { routed_of (codes "DELETE") (codes "/contest") ≡ routed.NoMethod }
     ensures no_route { routed_of (codes "POST") (codes "/boards") ≡ routed.NoRoute }
 {}
 
@@ -59,8 +68,13 @@ pub fn worked_events()
         entered_in record { request = record { method = codes "GET"; target = codes "/judgehosts/job/4/2"; close = false; body = [] }; moment = 7; replies = r; given = nothing_given; asked = false }
         ≡ with_reply (event.Owner 4) (reply.Owned 1) ∷ [] }
     ensures public { let r : Replies = record { ticked = reply.NoMemory; answer = reply.NoMemory; downed = reply.NoMemory } in
-        entered_in record { request = record { method = codes "GET"; target = codes "/public"; close = false; body = [] }; moment = 7; replies = r; given = record { case = None; look = reply.Board (Pending ∷ []) }; asked = false }
+        entered_in record { request = record { method = codes "GET"; target = codes "/public"; close = false; body = [] }; moment = 7; replies = r; given = record { case = None; look = reply.Board (Pending ∷ []); contest = no_view }; asked = false }
         ≡ with_look (reply.Board (Pending ∷ [])) ∷ [] }
+    ensures page { let r : Replies = record { ticked = reply.NoMemory; answer = reply.NoMemory; downed = reply.NoMemory } in
+        entered_in record { request = record { method = codes "GET"; target = codes "/"; close = false; body = [] }; moment = 7; replies = r; given = record { case = None; look = reply.Board (Pending ∷ []); contest = no_view }; asked = false }
+        ≡ with_look (reply.Board (Pending ∷ [])) ∷ [] }
+    ensures contest { let r : Replies = record { ticked = reply.NoMemory; answer = reply.NoMemory; downed = reply.NoMemory } in
+        entered_in record { request = record { method = codes "GET"; target = codes "/contest"; close = false; body = [] }; moment = 7; replies = r; given = nothing_given; asked = false } ≡ [] }
     ensures no_event { let r : Replies = record { ticked = reply.Nothing; answer = reply.Nothing; downed = reply.Nothing } in
         entered_in record { request = record { method = codes "PUT"; target = codes "/board"; close = false; body = [] }; moment = 7; replies = r; given = nothing_given; asked = false } ≡ [] }
     ensures differs { let body = codes "{\"hostname\":\"h2\",\"judging\":1,\"test\":1,\"result\":\"wrong-answer\"}" in
@@ -81,7 +95,7 @@ pub fn worked_responses()
     ensures no_lease { response_of false record { method = codes "GET"; target = codes "/board"; close = false; body = [] } reply.NoLease nothing_given
         ≡ codes "HTTP/1.1 409 Conflict\r\ncontent-length: 20\r\ncontent-type: application/json\r\n\r\n"
         ++ codes "{\"reply\":\"no-lease\"}" }
-    ensures no_route { response_of false record { method = codes "GET"; target = codes "/"; close = false; body = [] } reply.Nothing nothing_given
+    ensures no_route { response_of false record { method = codes "GET"; target = codes "/boards"; close = false; body = [] } reply.Nothing nothing_given
         ≡ codes "HTTP/1.1 404 Not Found\r\ncontent-length: 20\r\ncontent-type: application/json\r\n\r\n"
         ++ codes "{\"reply\":\"no-route\"}" }
     ensures no_method { response_of false record { method = codes "PUT"; target = codes "/board"; close = false; body = [] } reply.Nothing nothing_given
@@ -105,9 +119,16 @@ pub fn worked_responses()
     ensures job_of_no_judging { response_of false record { method = codes "GET"; target = codes "/judgehosts/job/9/1"; close = false; body = [] } (reply.NoJudging 9) nothing_given
         ≡ codes "HTTP/1.1 404 Not Found\r\ncontent-length: 34\r\ncontent-type: application/json\r\n\r\n"
         ++ codes "{\"judging\":9,\"reply\":\"no-judging\"}" }
-    ensures public { response_of false record { method = codes "GET"; target = codes "/public"; close = false; body = [] } reply.Nothing record { case = None; look = reply.Board (Final (Tests kind.Correct) ∷ Pending ∷ []) }
+    ensures public { response_of false record { method = codes "GET"; target = codes "/public"; close = false; body = [] } reply.Nothing record { case = None; look = reply.Board (Final (Tests kind.Correct) ∷ Pending ∷ []); contest = no_view }
         ≡ codes "HTTP/1.1 200 OK\r\ncontent-length: 101\r\ncontent-type: application/json\r\n\r\n"
         ++ codes "{\"reply\":\"public\",\"rows\":[{\"submission\":1,\"verdict\":\"correct\"},{\"submission\":2,\"verdict\":\"pending\"}]}" }
+    ensures page { let rows = reply.Board (Pending ∷ []) in
+        response_of true record { method = codes "GET"; target = codes "/"; close = false; body = [] } reply.Nothing record { case = None; look = rows; contest = no_view }
+        ≡ content_response content.Page true 200 (page_text no_view (Pending ∷ [])) }
+    ensures contest { let view : ViewValue = record { problems = codes "echo" ∷ []; entries = record { team = codes "otters"; problem = codes "echo" } ∷ [] } in
+        response_of false record { method = codes "GET"; target = codes "/contest"; close = false; body = [] } reply.Nothing record { case = None; look = reply.Nothing; contest = view }
+        ≡ codes "HTTP/1.1 200 OK\r\ncontent-length: 105\r\ncontent-type: application/json\r\n\r\n"
+        ++ codes "{\"problems\":[\"echo\"],\"reply\":\"contest\",\"submissions\":[{\"problem\":\"echo\",\"submission\":1,\"team\":\"otters\"}]}" }
     ensures already { response_of false record { method = codes "POST"; target = codes "/judgements/1/ask"; close = false; body = [] } (reply.Already 1) nothing_given
         ≡ codes "HTTP/1.1 409 Conflict\r\ncontent-length: 31\r\ncontent-type: application/json\r\n\r\n"
         ++ codes "{\"judging\":1,\"reply\":\"already\"}" }

@@ -1,4 +1,4 @@
-use Rattle.judge_server.proofs.OneAnswer.{put_fault, begun_event, put_reply}
+use Rattle.judge_server.proofs.OneAnswer.{put_fault, begun_event, put_reply, put_contest}
 use Rattle.judge_server.proofs.serving.answer_asked.Goals as goal
 
 pub returns-in-Refused-clause-puts : goal.returns-in-Refused-clause-puts
@@ -18,3 +18,10 @@ returns-in-Public-clause-puts g c = rw c.in-Public.is c.answer_public.ensures.pu
 pub returns-in-Err-clause-puts : goal.returns-in-Err-clause-puts
 returns-in-Err-clause-puts g c =
     rw c.in-Event.is (begun_event g.A.Replier.steps (g.A.Replier.gives c.args.replier.now) c.args.closing c.in-Event.ticks c.args.moment c.in-Event.event _ _ _ c.in-Err.ensures.enters)
+
+pub returns-in-Page-clause-puts : goal.returns-in-Page-clause-puts
+returns-in-Page-clause-puts g c = rw c.in-Page.is c.answer_page.ensures.puts
+
+pub returns-in-Contest-clause-puts : goal.returns-in-Contest-clause-puts
+returns-in-Contest-clause-puts g c =
+    rw c.in-Contest.is (put_contest g.A.Replier.steps (g.A.Replier.gives c.args.replier.now) c.args.closing c.args.moment c.args.state.now _ _ c.answer_contest.result c.answer_contest.ensures.writes)

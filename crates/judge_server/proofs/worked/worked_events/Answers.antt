@@ -32,3 +32,11 @@ returns-clause-job c = refl
 pub returns-clause-public : goal.returns-clause-public
 unfolding rows is_utf8 chars serde_json_on_literals matchit_on_literals
 returns-clause-public c = refl
+
+pub returns-clause-page : goal.returns-clause-page
+unfolding rows is_utf8 chars serde_json_on_literals matchit_on_literals
+returns-clause-page c = refl
+
+pub returns-clause-contest : goal.returns-clause-contest
+unfolding rows is_utf8 chars serde_json_on_literals matchit_on_literals
+returns-clause-contest c = refl

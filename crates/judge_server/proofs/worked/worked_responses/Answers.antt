@@ -4,7 +4,8 @@ use Rattle.std.specs.Str.{is_utf8, chars}
 use Rattle.matchit.proofs.OnLiterals.{matchit_on_literals}
 use Rattle.serde_json.proofs.OnLiterals.{serde_json_on_literals}
 use Rattle.judge_server.specs.Table.{rows}
-use Rattle.judge_server.specs.Conversation.{reply_response, fault_response, job_response, rows_response}
+use Rattle.judge_server.specs.Conversation.{reply_response, fault_response, job_response, rows_response, page_response, contest_response}
+use Rattle.contest_page.specs.Views.{view_text}
 use Rattle.judge_server.proofs.worked.worked_responses.Goals as goal
 
 pub returns-clause-nothing : goal.returns-clause-nothing
@@ -62,3 +63,11 @@ returns-clause-job_of_no_judging c = refl
 pub returns-clause-public : goal.returns-clause-public
 unfolding rows rows_response is_utf8 chars serde_json_on_literals matchit_on_literals digits
 returns-clause-public c = refl
+
+pub returns-clause-page : goal.returns-clause-page
+unfolding rows page_response matchit_on_literals
+returns-clause-page c = refl
+
+pub returns-clause-contest : goal.returns-clause-contest
+unfolding rows contest_response view_text is_utf8 chars serde_json_on_literals matchit_on_literals digits
+returns-clause-contest c = refl

@@ -34,3 +34,19 @@ returns-clause-public_query c = refl
 pub returns-clause-public_method : goal.returns-clause-public_method
 unfolding rows matchit_on_literals
 returns-clause-public_method c = refl
+
+pub returns-clause-page : goal.returns-clause-page
+unfolding rows matchit_on_literals
+returns-clause-page c = refl
+
+pub returns-clause-page_method : goal.returns-clause-page_method
+unfolding rows matchit_on_literals
+returns-clause-page_method c = refl
+
+pub returns-clause-contest : goal.returns-clause-contest
+unfolding rows matchit_on_literals
+returns-clause-contest c = refl
+
+pub returns-clause-contest_method : goal.returns-clause-contest_method
+unfolding rows matchit_on_literals
+returns-clause-contest_method c = refl
