@@ -12,7 +12,7 @@ use Rattle.judge_server.specs.Entering.{Entered, AreEntered}
 use Rattle.judge_server.specs.Serving.{Standing, IsServed}
 use Rattle.judge_server.specs.PassCalls.{entry_of, PassSteps, MakesCalls}
 
-makes_none : (p q : PassValue) → q ≡ p → MakesCalls p [] q
+pub makes_none : (p q : PassValue) → q ≡ p → MakesCalls p [] q
 makes_none p q same = record {
   mine = ap (λ (z : PassValue). z.mine) same ∙ sym (append-nil p.mine);
   seen = subst (λ (z : PassValue). IsPrefix p.seen z.seen) (sym same) (prefix_self p.seen);
@@ -40,7 +40,7 @@ turn_behind : (m new : PassValue) (xs : List Entered) → m.kept ≡ false → M
 turn_behind m new [] turn more = subst (λ (z : PassValue). z.kept ≡ false) (sym (more.none refl)) turn
 turn_behind m new (x ∷ xs) turn more = more.turn (λ is. cc is)
 
-makes_one : (old m new : PassValue) (x : Entered) (xs : List Entered) → PassSteps old x m → MakesCalls m xs new → MakesCalls old (x ∷ xs) new
+pub makes_one : (old m new : PassValue) (x : Entered) (xs : List Entered) → PassSteps old x m → MakesCalls m xs new → MakesCalls old (x ∷ xs) new
 makes_one old m new x xs made more =
     let call = made.0 in
     let g = call.grows in

@@ -7,3 +7,5 @@ pub mod Entering
 pub mod Exchanges
 pub mod Serving
 pub mod PassCalls
+pub mod Reads
+pub mod LaneCalls

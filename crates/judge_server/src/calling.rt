@@ -62,7 +62,7 @@ impl<'a, W: Wait, A: Admission, Q: Cases + Shows> Replier for BoardReplier<'a, W
 }
 
 /// Whether the other end may still say what nobody reads any more.
-fn is_unheard(how: ConnHow) -> bool {
+pub(crate) fn is_unheard(how: ConnHow) -> bool {
     matches!(how, ConnHow::BadRequest | ConnHow::InputLimit)
 }
 
