@@ -1,5 +1,5 @@
 -- What was served, once the last `board` was asked for, or was not.
-use Rattle.std.proofs.Common.{◌≡◌, ◌≢◌, ℕ, List, [], ◌++◌, Option, None, Some, refl, sym, ap, subst, arith, append-nil}
+use Rattle.std.proofs.Common.{◌≡◌, ◌≢◌, ℕ, List, [], ◌++◌, Option, None, Some, refl, sym, ap, subst, arith, append-nil, inr}
 use Rattle.std.proofs.lemmas.List.Elements.{All-nil}
 use Rattle.std.specs.Io.KnownBytes.{Appends}
 use Rattle.std.proofs.KnownBytes.{Appends-nil, Appends-trans}
@@ -17,7 +17,7 @@ use Rattle.contest_server.specs.declared.ends.ServeEnd.{ServeEnd}
 use Rattle.contest_server.specs.declared.ends.ServeEnd.TheVariants as end
 use Rattle.contest_server.specs.Visits.{Watch, IsVisit, conn_lines}
 use Rattle.contest_server.specs.Serving.{Came, with_all, desk, Opening, Tells, Wrote, Rests}
-use Rattle.contest_server.specs.Served.{IsAsked, ShowsBoard, HasServed}
+use Rattle.contest_server.specs.Served.{IsAsked, ShowsBoard, HasServed, Serves}
 use Rattle.contest_server.proofs.Beside.{nothing_beside}
 use Rattle.contest_server.proofs.Telling.{front_behind}
 use Rattle.contest_server.proofs.Whole.{history_without, history_with}
@@ -106,3 +106,11 @@ served_with {N} w start events door door' pass pass' pass'' held held' held'' fa
   stands = history_with w start events r.visits h.calls pass' pass'' s.answer o h.events_are h.effective r.stands.each r.stands.beside s.calls;
   wrote = behind_lines result held held' held'' (conn_lines 1 r.visits) (reply_text s.answer) (whole_done e held held' (conn_lines 1 r.visits) is r.wrote) s.wrote;
 }
+
+-- what was served is what the contest's serving says of its end
+pub serves : {N : Type 0} (w : Watch N) (start : BoardState) (events : List Event) (door door' : DoorState N) (held held' : Option (List ℕ)) (most : ℕ) (e : ServeEnd) → HasServed w start events door door' held held' most e
+    → Serves w start events door door' held held' most e
+serves w start events door door' held held' most end.Done h = h
+serves w start events door door' held held' most end.DoorFault h = h
+serves w start events door door' held held' most end.WriteFault h = h
+serves w start events door door' held held' most end.NoMemory h = inr h

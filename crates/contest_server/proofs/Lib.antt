@@ -7,3 +7,4 @@ pub mod Whole
 pub mod Finishing
 mod Sending
 mod Settling
+mod Names

@@ -7,6 +7,7 @@ use Rattle.judge_server.specs.declared.ends.ConnHow.{ConnHow}
 use Rattle.judge_server.specs.declared.ends.ConnHow.TheVariants as how
 use Rattle.farm_kinds.specs.declared.outcomes.Task.{Task}
 use Rattle.case_run.specs.Cases.{TestCase}
+use Rattle.contest_page.specs.ViewValue.{ViewValue}
 use Rattle.judge_server.specs.Jobs.{gives_by}
 use Rattle.judge_server.specs.Exchanges.{Around, giving}
 use Rattle.judge_server.specs.Serving.{untaken, IsServed, HasCauseServed, AnswersAll}
@@ -28,21 +29,21 @@ pub record Watch (N : Type 0) : Type 1 where
   -- how often reading and writing have failed on it
   pub reads : Counting N
   pub writes : Counting N
-  -- the numbers that the clock may show, whether the server ever asks to close, and the cases that it may give
+  -- the numbers that the clock may show, whether the server ever asks to close, and the cases and names that it may give
   pub around : Around
 
 abbrev pub watch : {N : Type 0} → Telling N → Telling N → Counting N → Counting N → Around → Watch N
 watch left held reads writes around =
     record { left = left; held = held; reads = reads; writes = writes; around = around }
 
--- the same, where these cases are given
-abbrev pub with_cases : {N : Type 0} → (Task → Option TestCase) → Watch N → Watch N
-with_cases case_at w = record {
+-- the same, where these cases are given, and these names
+abbrev pub with_cases : {N : Type 0} → (Task → Option TestCase) → ViewValue → Watch N → Watch N
+with_cases case_at view w = record {
   left = w.left;
   held = w.held;
   reads = w.reads;
   writes = w.writes;
-  around = giving (gives_by case_at) w.around;
+  around = giving (gives_by case_at view) w.around;
 }
 
 -- a connection as it came, and the pass that was split off for it

@@ -12,6 +12,7 @@ use crate::lines::TextFault;
 use crate::returning::{tell_ended, tell_next};
 use crate::service::{Service, Watches};
 use case_run::Cases;
+use contest_page::Shows;
 use farm_board::{Admission, Pass};
 use farm_io::{Accepted, Clock, Door, Sink};
 use std::collections::VecDeque;
@@ -41,7 +42,7 @@ fn accept_next<
     D: Door,
     A: Admission + Send + Sync,
     C: Clock + Sync,
-    Q: Cases + Sync,
+    Q: Cases + Shows + Sync,
 >(
     service: &Service<'s, R, A, C, Q>,
     scope: &Scope<'s, E>,
@@ -83,7 +84,7 @@ where
 
 /// Takes in the connections that have ended, as far as their turn has come, and writes their lines. Where as many as may
 /// wait for that, the one that was accepted first is waited for.
-fn make_room<'s, R: Threads + Wait, D: Door, K: Sink, A: Admission, C: Clock, Q: Cases>(
+fn make_room<'s, R: Threads + Wait, D: Door, K: Sink, A: Admission, C: Clock, Q: Cases + Shows>(
     service: &Service<'s, R, A, C, Q>,
     door: &mut D,
     out: &mut K,
@@ -134,7 +135,7 @@ fn serve_ready<
     K: Sink,
     A: Admission + Send + Sync,
     C: Clock + Sync,
-    Q: Cases + Sync,
+    Q: Cases + Shows + Sync,
 >(
     service: &Service<'s, R, A, C, Q>,
     scope: &Scope<'s, E>,
@@ -181,7 +182,7 @@ pub(crate) fn serve_next<
     K: Sink,
     A: Admission + Send + Sync,
     C: Clock + Sync,
-    Q: Cases + Sync,
+    Q: Cases + Shows + Sync,
 >(
     service: &Service<'s, R, A, C, Q>,
     scope: &Scope<'s, E>,

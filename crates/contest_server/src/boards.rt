@@ -15,6 +15,7 @@ use crate::service::{Service, Watches};
 use crate::serving::{end_of, serve_lanes};
 use case_run::Cases;
 use command_text::push_reply;
+use contest_page::Shows;
 use farm_board::{Admission, Pass};
 use farm_io::{Clock, Door, Sink};
 use farm_kinds::{Event, Reply};
@@ -30,7 +31,7 @@ fn serve_in_scope<
     K: Sink,
     A: Admission + Send + Sync,
     C: Clock + Sync,
-    Q: Cases + Sync,
+    Q: Cases + Shows + Sync,
 >(
     service: &Service<'s, R, A, C, Q>,
     door: &mut D,
@@ -54,7 +55,7 @@ where
         thread::scope_env(),
         service.rt,
         |scope| -> (&mut D, &mut K, Pass<A>, ServeEnd)
-            requires orderly { IsOrderly (with_cases (Q.case_at service.now.cases.now)
+            requires orderly { IsOrderly (with_cases (Q.case_at service.now.cases.now) (Q.shown service.now.cases.now)
                 (watch D.Conn.left D.Conn.held D.Conn.Source.faults D.Conn.Sink.faults
                 (around_of (C.shows service.now.clock.now) D.Conn.Peer.asks)))
                 service.now.board.now.id
@@ -62,7 +63,7 @@ where
             requires some { 0 < service.now.most }
             requires seats { pass.spare ≡ service.now.most }
             ensures { (result.0.ghost_name ≡ door.entry.ghost_name) × (result.1.ghost_name ≡ out.entry.ghost_name)
-                × ServesLanes (with_cases (Q.case_at service.entry.now.cases.now)
+                × ServesLanes (with_cases (Q.case_at service.entry.now.cases.now) (Q.shown service.entry.now.cases.now)
                 (watch D.Conn.left D.Conn.held D.Conn.Source.faults D.Conn.Sink.faults
                 (around_of (C.shows service.entry.now.clock.now) D.Conn.Peer.asks)))
                 service.entry.now.board.now.id
@@ -120,7 +121,7 @@ pub(crate) fn serve_board<
     K: Sink,
     A: Admission + Send + Sync,
     C: Clock + Sync,
-    Q: Cases + Sync,
+    Q: Cases + Shows + Sync,
 >(
     service: &Service<'s, R, A, C, Q>,
     door: &mut D,

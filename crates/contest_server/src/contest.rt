@@ -4,7 +4,7 @@ ghost use Rattle.farm_io.specs.Streams.{Rose};
 ghost use Rattle.farm_model.specs.State.{start};
 ghost use Rattle.farm_board.specs.Histories.{opening_board};
 ghost use Rattle.parallel_judge.specs.Hosts.{HasEntered};
-ghost use Rattle.contest_server.specs.Contest.{entering_events, open_limit, seats};
+ghost use Rattle.contest_server.specs.Contest.{entering_events, open_limit, seats, view_of};
 ghost use Rattle.judge_server.specs.Exchanges.{around_of};
 ghost use Rattle.contest_folder.specs.JudgingCases.{case_at};
 ghost use Rattle.contest_server.specs.Visits.{watch, with_cases};
@@ -15,6 +15,7 @@ use crate::bell::Bell;
 use crate::boards::serve_board;
 use crate::ends::ServeEnd;
 use crate::service::Service;
+use crate::shown::Shown;
 use contest_folder::Roster;
 use farm_board::{Admission, Anyone, Board, Pass};
 use farm_core::Farm;
@@ -42,6 +43,8 @@ const UNTOLD: u16 = 8192;
 /// that it has not made. So the 2^62 calls of a board last for any number of connections. Where too few are left for one
 /// more, the serving ends as where no memory is left.
 ///
+/// Anybody is shown the names of the contest, and a page with what the public sees.
+///
 /// Where the door fails, the connections that were accepted are served and their lines written, but no board. Where a
 /// text can't be written, they are served and given back.
 pub fn serve_contest<R: Threads + Wait + Sync, D: Door, K: Sink, C: Clock + Sync>(
@@ -59,7 +62,7 @@ where
     requires lanes { (1 ≤ lanes) × (lanes ≤ 16) }
     requires door { (D.state door.old).returned ≤ (D.state door.old).accepted }
     requires listens { DoesListen (D.state door.old) }
-    ensures serves { Serves (with_cases (case_at roster.now)
+    ensures serves { Serves (with_cases (case_at roster.now) (view_of roster.now)
         (watch D.Conn.left D.Conn.held D.Conn.Source.faults D.Conn.Sink.faults (around_of (C.shows clock.now) D.Conn.Peer.asks)))
         (opening_board (start roster.now.settings) (seats lanes) false)
         (entering_events roster.now) (D.state door.old) (D.state door.new) (K.held out.old) (K.held out.new) connections result }
@@ -68,6 +71,9 @@ where
         → (result ≡ ServeEnd.Done) ⊎ (result ≡ ServeEnd.NoMemory) }
 {
     let Ok(paths) = Paths::new(alloc) else {
+        return ServeEnd::NoMemory;
+    };
+    let Ok(shown) = Shown::of(alloc, roster) else {
         return ServeEnd::NoMemory;
     };
     let Ok((board, pass)) = open_board::<R, Brand>(rt, alloc, roster, lanes) else {
@@ -80,7 +86,7 @@ where
         paths: &paths,
         board: &board,
         clock,
-        cases: roster,
+        cases: &shown,
         bell: &bell,
         workers: lanes,
         most: UNTOLD + lanes,

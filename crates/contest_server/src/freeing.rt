@@ -6,6 +6,7 @@ use crate::bell::{Bell, PLACES, Places};
 use crate::lanes::{Worker, settle_at};
 use crate::service::{Service, Watches};
 use case_run::Cases;
+use contest_page::Shows;
 use farm_board::Admission;
 use farm_io::{Clock, Door, Peer, Sink, Source};
 use std::collections::VecDeque;
@@ -13,7 +14,14 @@ use std::sync::Wait;
 use std::thread::Threads;
 
 /// Joins the workers that are done.
-fn settle_done<'s, R: Threads, N: Source + Sink + Peer + Drop, A: Admission, C: Clock, Q: Cases>(
+fn settle_done<
+    's,
+    R: Threads,
+    N: Source + Sink + Peer + Drop,
+    A: Admission,
+    C: Clock,
+    Q: Cases + Shows,
+>(
     service: &Service<'s, R, A, C, Q>,
     places: &mut Places,
     lanes: &mut VecDeque<Worker<N, A, C, Q>>,
@@ -66,7 +74,7 @@ fn ask_in_order<W: Wait, D: Door>(
 
 /// Joins the workers that are done. Where as many as there may be are at work, one of them is waited for, and the connections are asked
 /// to close, the first one at first.
-pub(crate) fn free_place<'s, R: Threads + Wait, D: Door, A: Admission, C: Clock, Q: Cases>(
+pub(crate) fn free_place<'s, R: Threads + Wait, D: Door, A: Admission, C: Clock, Q: Cases + Shows>(
     service: &Service<'s, R, A, C, Q>,
     door: &mut D,
     places: &mut Places,

@@ -8,6 +8,7 @@ ghost use Rattle.contest_server.specs.Visits.{watch, with_cases, visit, IsAnswer
 use crate::bell::Bell;
 use crate::service::{Service, Watches};
 use case_run::Cases;
+use contest_page::Shows;
 use farm_board::{Admission, Anyone, Board, Pass};
 use farm_io::{Clock, Peer, Sink, Source};
 use judge_server::{ConnEnd, Paths, serve_conn};
@@ -44,15 +45,15 @@ impl<N, P, C, Q> Drop for Promised<N, P, C, Q> {
     }
 }
 
-impl<N: Source + Sink + Peer, A: Admission, C: Clock, Q: Cases> Promise<Served<N, Pass<A>>>
+impl<N: Source + Sink + Peer, A: Admission, C: Clock, Q: Cases + Shows> Promise<Served<N, Pass<A>>>
     for Promised<N, Pass<A>, C, Q> {
-    ghost kept_by = { λ p r. IsAnswered (with_cases (Q.case_at p.cases.value)
+    ghost kept_by = { λ p r. IsAnswered (with_cases (Q.case_at p.cases.value) (Q.shown p.cases.value)
         (watch N.left N.held N.Source.faults N.Sink.faults (around_of (C.shows p.clock.value) N.Peer.asks)))
         (visit p.came.value r.conn p.begun.value r.pass r.end.requests r.end.how) };
 }
 
 /// Serves a connection on a pass of its own, in this place.
-fn serve_one<W: Wait, A: Admission, C: Clock, Q: Cases, N: Source + Sink + Peer>(
+fn serve_one<W: Wait, A: Admission, C: Clock, Q: Cases + Shows, N: Source + Sink + Peer>(
     rt: &W,
     alloc: Global,
     paths: &Paths,
@@ -68,7 +69,7 @@ fn serve_one<W: Wait, A: Admission, C: Clock, Q: Cases, N: Source + Sink + Peer>
     requires calls { 2 ^ 42 ≤ pass.left }
     requires source { (n : N) → N.Source.beside n ≡ side (N.held n) (N.Sink.faults n) }
     requires sink { (n : N) → N.Sink.beside n ≡ side (N.left n) (N.Source.faults n) }
-    ensures answered { IsAnswered (with_cases (Q.case_at cases.now)
+    ensures answered { IsAnswered (with_cases (Q.case_at cases.now) (Q.shown cases.now)
         (watch N.left N.held N.Source.faults N.Sink.faults (around_of (C.shows clock.now) N.Peer.asks)))
         (visit conn result.conn pass result.pass result.end.requests result.end.how) }
 {
@@ -95,7 +96,7 @@ pub(crate) fn begin<
     W: Wait + Sync,
     A: Admission + Send + Sync,
     C: Clock + Sync,
-    Q: Cases + Sync,
+    Q: Cases + Shows + Sync,
     N: Source + Sink + Peer + Send + Drop + 's,
 >(
     service: &Service<'s, W, A, C, Q>,
@@ -137,7 +138,7 @@ pub(crate) fn begin<
             requires calls { 2 ^ 42 ≤ pass.left }
             requires source { (n : N) → N.Source.beside n ≡ side (N.held n) (N.Sink.faults n) }
             requires sink { (n : N) → N.Sink.beside n ≡ side (N.left n) (N.Source.faults n) }
-            ensures answered { IsAnswered (with_cases (Q.case_at cases.entry.now)
+            ensures answered { IsAnswered (with_cases (Q.case_at cases.entry.now) (Q.shown cases.entry.now)
                 (watch N.left N.held N.Source.faults N.Sink.faults (around_of (C.shows clock.entry.now) N.Peer.asks)))
                 (visit conn result.conn pass result.pass result.end.requests result.end.how) }
         {
@@ -161,10 +162,14 @@ pub(crate) fn begin<
 }
 
 /// Waits until the connection was served.
-pub(crate) fn end<'s, R: Threads, N: Source + Sink + Peer + Drop, A: Admission, C: Clock, Q: Cases>(
-    service: &Service<'s, R, A, C, Q>,
-    lane: Worker<N, A, C, Q>,
-) -> Served<N, Pass<A>>
+pub(crate) fn end<
+    's,
+    R: Threads,
+    N: Source + Sink + Peer + Drop,
+    A: Admission,
+    C: Clock,
+    Q: Cases + Shows,
+>(service: &Service<'s, R, A, C, Q>, lane: Worker<N, A, C, Q>) -> Served<N, Pass<A>>
     requires lane { IsLane (⟦<Service<'s, R, A, C, Q> as Watches<N>>⟧.watched service.now)
         service.now.clock.now service.now.cases.now lane }
     ensures answered { IsAnswered (⟦<Service<'s, R, A, C, Q> as Watches<N>>⟧.watched service.now)
@@ -192,7 +197,7 @@ pub(crate) fn settle<
     N: Source + Sink + Peer + Drop,
     A: Admission,
     C: Clock,
-    Q: Cases,
+    Q: Cases + Shows,
 >(service: &Service<'s, R, A, C, Q>, lane: &mut Worker<N, A, C, Q>)
     requires lane { IsLane (⟦<Service<'s, R, A, C, Q> as Watches<N>>⟧.watched service.now)
         service.now.clock.now service.now.cases.now lane.old }
@@ -212,7 +217,7 @@ pub(crate) fn settle_at<
     N: Source + Sink + Peer + Drop,
     A: Admission,
     C: Clock,
-    Q: Cases,
+    Q: Cases + Shows,
 >(service: &Service<'s, R, A, C, Q>, lanes: &mut VecDeque<Worker<N, A, C, Q>>, index: usize)
     requires lanes { AreLanes (⟦<Service<'s, R, A, C, Q> as Watches<N>>⟧.watched service.now)
         service.now.clock.now service.now.cases.now lanes.old.items }
@@ -227,7 +232,7 @@ pub(crate) fn settle_at<
 }
 
 /// Whether the connection was served, and no thread is left.
-pub(crate) fn is_settled<N: Source + Sink + Peer, A: Admission, C: Clock, Q: Cases>(
+pub(crate) fn is_settled<N: Source + Sink + Peer, A: Admission, C: Clock, Q: Cases + Shows>(
     lane: &Worker<N, A, C, Q>,
 ) -> bool {
     lane.worker.is_none()

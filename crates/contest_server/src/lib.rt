@@ -8,7 +8,7 @@
 //! `board`; `serving.rt` serves connections one behind the other; `accepting.rt` makes room for one and lets it in,
 //! `freeing.rt` waits for a free worker, and `returning.rt` takes in the passes of those whose turn has come, gives them
 //! back and writes their lines; `lanes.rt` begins, joins and ends a worker, `bell.rt` tells which workers are done,
-//! `lines.rt` has the line, and `ends.rt` how the serving ends. `specs/Visits.antt` is what is said of one connection and
+//! `lines.rt` has the line, `shown.rt` the names that anybody is shown, and `ends.rt` how the serving ends. `specs/Visits.antt` is what is said of one connection and
 //! its line, `Beside.antt` what the opening pass knows while passes of connections are out, `Serving.antt` where the
 //! serving stands, call by call, and `Served.antt` what is known in the end: the visits, the one history behind them and
 //! the last `board`, and what was written.
@@ -25,6 +25,7 @@ mod lines;
 mod returning;
 mod service;
 mod serving;
+mod shown;
 
 pub use contest::serve_contest;
 pub use ends::ServeEnd;

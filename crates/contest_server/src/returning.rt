@@ -8,6 +8,7 @@ use crate::lanes::{Served, Worker, end, is_settled};
 use crate::lines::{TextFault, write_line};
 use crate::service::{Service, Watches};
 use case_run::Cases;
+use contest_page::Shows;
 use farm_board::{Admission, Pass};
 use farm_io::{Clock, Door, Peer, Sink, Source};
 use judge_server::ConnEnd;
@@ -17,7 +18,7 @@ use std::thread::Threads;
 
 /// Waits for the connection that was accepted first among those that are being served, takes its pass in, and gives it
 /// back.
-fn take_in<'s, R: Threads + Wait, D: Door, A: Admission, C: Clock, Q: Cases>(
+fn take_in<'s, R: Threads + Wait, D: Door, A: Admission, C: Clock, Q: Cases + Shows>(
     service: &Service<'s, R, A, C, Q>,
     door: &mut D,
     pass: &mut Pass<A>,
@@ -51,7 +52,15 @@ where
 }
 
 /// The same, and writes its line, where so many connections came.
-pub(crate) fn tell_next<'s, R: Threads + Wait, D: Door, K: Sink, A: Admission, C: Clock, Q: Cases>(
+pub(crate) fn tell_next<
+    's,
+    R: Threads + Wait,
+    D: Door,
+    K: Sink,
+    A: Admission,
+    C: Clock,
+    Q: Cases + Shows,
+>(
     service: &Service<'s, R, A, C, Q>,
     door: &mut D,
     out: &mut K,
@@ -81,7 +90,7 @@ where
 }
 
 /// Whether the connection that came first was served.
-fn is_first_settled<N: Source + Sink + Peer, A: Admission, C: Clock, Q: Cases>(
+fn is_first_settled<N: Source + Sink + Peer, A: Admission, C: Clock, Q: Cases + Shows>(
     lanes: &VecDeque<Worker<N, A, C, Q>>,
 ) -> bool {
     match lanes.front() {
@@ -92,7 +101,15 @@ fn is_first_settled<N: Source + Sink + Peer, A: Admission, C: Clock, Q: Cases>(
 
 /// Takes in the connections that have ended and that no other one came before which is still being served, and writes
 /// their lines, where so many connections came.
-pub(crate) fn tell_ended<'s, R: Threads + Wait, D: Door, K: Sink, A: Admission, C: Clock, Q: Cases>(
+pub(crate) fn tell_ended<
+    's,
+    R: Threads + Wait,
+    D: Door,
+    K: Sink,
+    A: Admission,
+    C: Clock,
+    Q: Cases + Shows,
+>(
     service: &Service<'s, R, A, C, Q>,
     door: &mut D,
     out: &mut K,
@@ -126,7 +143,15 @@ where
 }
 
 /// Takes in all connections that are being served, and writes their lines, where so many connections came.
-pub(crate) fn tell_all<'s, R: Threads + Wait, D: Door, K: Sink, A: Admission, C: Clock, Q: Cases>(
+pub(crate) fn tell_all<
+    's,
+    R: Threads + Wait,
+    D: Door,
+    K: Sink,
+    A: Admission,
+    C: Clock,
+    Q: Cases + Shows,
+>(
     service: &Service<'s, R, A, C, Q>,
     door: &mut D,
     out: &mut K,
@@ -157,7 +182,7 @@ where
 }
 
 /// Takes in all connections that are being served, where no line is written any more.
-pub(crate) fn take_all<'s, R: Threads + Wait, D: Door, A: Admission, C: Clock, Q: Cases>(
+pub(crate) fn take_all<'s, R: Threads + Wait, D: Door, A: Admission, C: Clock, Q: Cases + Shows>(
     service: &Service<'s, R, A, C, Q>,
     door: &mut D,
     pass: &mut Pass<A>,

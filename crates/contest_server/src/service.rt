@@ -3,6 +3,7 @@ ghost use Rattle.contest_server.specs.Visits.{Watch, watch, with_cases};
 
 use crate::bell::Bell;
 use case_run::Cases;
+use contest_page::Shows;
 use farm_board::{Admission, Anyone, Board};
 use farm_io::{Clock, Peer, Sink, Source};
 use judge_server::Paths;
@@ -29,8 +30,8 @@ pub(crate) trait Watches<N: Source + Sink + Peer> {
     ghost watched: { Self → Watch N };
 }
 
-impl<'s, R, A: Admission, C: Clock, Q: Cases, N: Source + Sink + Peer> Watches<N>
+impl<'s, R, A: Admission, C: Clock, Q: Cases + Shows, N: Source + Sink + Peer> Watches<N>
     for Service<'s, R, A, C, Q> {
-    ghost watched = { λ service. with_cases (Q.case_at service.cases.now)
+    ghost watched = { λ service. with_cases (Q.case_at service.cases.now) (Q.shown service.cases.now)
         (watch N.left N.held N.Source.faults N.Sink.faults (around_of (C.shows service.clock.now) N.Peer.asks)) };
 }

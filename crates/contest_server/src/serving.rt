@@ -11,6 +11,7 @@ use crate::lines::TextFault;
 use crate::returning::{take_all, tell_all};
 use crate::service::{Service, Watches};
 use case_run::Cases;
+use contest_page::Shows;
 use farm_board::{Admission, Pass};
 use farm_io::{Clock, Door, Sink};
 use std::collections::VecDeque;
@@ -19,7 +20,7 @@ use std::thread::{Scope, Threads};
 
 /// Takes in the connections that are being served, and writes their lines; then the serving ends so, unless a line was
 /// not written whole.
-fn end_with<'s, R: Threads + Wait, D: Door, K: Sink, A: Admission, C: Clock, Q: Cases>(
+fn end_with<'s, R: Threads + Wait, D: Door, K: Sink, A: Admission, C: Clock, Q: Cases + Shows>(
     service: &Service<'s, R, A, C, Q>,
     door: &mut D,
     out: &mut K,
@@ -69,7 +70,7 @@ fn serve_all<
     K: Sink,
     A: Admission + Send + Sync,
     C: Clock + Sync,
-    Q: Cases + Sync,
+    Q: Cases + Shows + Sync,
 >(
     service: &Service<'s, R, A, C, Q>,
     scope: &Scope<'s, E>,
@@ -146,7 +147,7 @@ pub(crate) fn serve_lanes<
     K: Sink,
     A: Admission + Send + Sync,
     C: Clock + Sync,
-    Q: Cases + Sync,
+    Q: Cases + Shows + Sync,
 >(
     service: &Service<'s, R, A, C, Q>,
     scope: &Scope<'s, E>,

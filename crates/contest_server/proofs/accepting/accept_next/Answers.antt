@@ -12,7 +12,7 @@ use Rattle.contest_server.proofs.accepting.accept_next.Goals as goal
 
 pub returns-in-Conn-clause-accepts : goal.returns-in-Conn-clause-accepts
 returns-in-Conn-clause-accepts g c =
-    let w = with_cases (g.Q.Cases.case_at c.args.service.now.cases.now) (watch g.D.Conn.Source.left g.D.Conn.Sink.held g.D.Conn.Source.faults g.D.Conn.Sink.faults (around_of (g.C.Clock.shows c.args.service.now.clock.now) g.D.Conn.Peer.asks)) in
+    let w = with_cases (g.Q.Cases.case_at c.args.service.now.cases.now) (g.Q.Shows.shown c.args.service.now.cases.now) (watch g.D.Conn.Source.left g.D.Conn.Sink.held g.D.Conn.Source.faults g.D.Conn.Sink.faults (around_of (g.C.Clock.shows c.args.service.now.clock.now) g.D.Conn.Peer.asks)) in
     let board = c.args.service.now.board.now.id in
     let lanes = c.args.lanes.now.items in
     let s : Start g.row.D-Conn.Denot = record { came = c.in-Conn.conn; begun = c.split-own.result } in
@@ -27,6 +27,6 @@ returns-in-Conn-clause-accepts g c =
 
 pub returns-in-Conn-clause-lanes : goal.returns-in-Conn-clause-lanes
 returns-in-Conn-clause-lanes g c =
-    let w = with_cases (g.Q.Cases.case_at c.args.service.now.cases.now) (watch g.D.Conn.Source.left g.D.Conn.Sink.held g.D.Conn.Source.faults g.D.Conn.Sink.faults (around_of (g.C.Clock.shows c.args.service.now.clock.now) g.D.Conn.Peer.asks)) in
+    let w = with_cases (g.Q.Cases.case_at c.args.service.now.cases.now) (g.Q.Shows.shown c.args.service.now.cases.now) (watch g.D.Conn.Source.left g.D.Conn.Sink.held g.D.Conn.Source.faults g.D.Conn.Sink.faults (around_of (g.C.Clock.shows c.args.service.now.clock.now) g.D.Conn.Peer.asks)) in
     subst (λ lanes. All (IsLane w c.args.service.now.clock.now c.args.service.now.cases.now) lanes) (sym c.push_back_reserved.ensures.items)
     (all_more (IsLane w c.args.service.now.clock.now c.args.service.now.cases.now) c.args.lanes.now.items c.begin-lane.result c.requires.lanes c.begin-lane.ensures.lane)

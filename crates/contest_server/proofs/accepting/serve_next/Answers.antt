@@ -9,14 +9,14 @@ use Rattle.contest_server.proofs.accepting.serve_next.Goals as goal
 
 pub serve_ready-requires-clause-orderly : goal.serve_ready-requires-clause-orderly
 serve_ready-requires-clause-orderly g c κs within =
-    let w = with_cases (g.Q.Cases.case_at c.args.service.now.cases.now) (watch g.D.Conn.Source.left g.D.Conn.Sink.held g.D.Conn.Source.faults g.D.Conn.Sink.faults (around_of (g.C.Clock.shows c.args.service.now.clock.now) g.D.Conn.Peer.asks)) in
+    let w = with_cases (g.Q.Cases.case_at c.args.service.now.cases.now) (g.Q.Shows.shown c.args.service.now.cases.now) (watch g.D.Conn.Source.left g.D.Conn.Sink.held g.D.Conn.Source.faults g.D.Conn.Sink.faults (around_of (g.C.Clock.shows c.args.service.now.clock.now) g.D.Conn.Peer.asks)) in
     let door = c.free_place.ensures.kept ∙ c.await_next.ensures.kept in
     subst (λ (z : DoorState g.row.D-Conn.Denot × List (Start g.row.D-Conn.Denot)). IsOrderly w c.args.service.now.board.now.id (desk z.0 c.args.pass.now z.1))
     (λ i. (sym door i, sym c.free_place.ensures.starts i)) c.requires.orderly
 
 pub returns-clause-serves : goal.returns-clause-serves
 returns-clause-serves g c =
-    let w = with_cases (g.Q.Cases.case_at c.args.service.now.cases.now) (watch g.D.Conn.Source.left g.D.Conn.Sink.held g.D.Conn.Source.faults g.D.Conn.Sink.faults (around_of (g.C.Clock.shows c.args.service.now.clock.now) g.D.Conn.Peer.asks)) in
+    let w = with_cases (g.Q.Cases.case_at c.args.service.now.cases.now) (g.Q.Shows.shown c.args.service.now.cases.now) (watch g.D.Conn.Source.left g.D.Conn.Sink.held g.D.Conn.Source.faults g.D.Conn.Sink.faults (around_of (g.C.Clock.shows c.args.service.now.clock.now) g.D.Conn.Peer.asks)) in
     let door = c.free_place.ensures.kept ∙ c.await_next.ensures.kept in
     subst (λ (z : DoorState g.row.D-Conn.Denot × List (Start g.row.D-Conn.Denot)). ServesNext w c.args.service.now.board.now.id (desk z.0 c.args.pass.now z.1)
     (desk (g.D.Door.state c.serve_ready.new.door) c.serve_ready.new.pass (starts_of c.serve_ready.new.lanes.items)) (g.K.Sink.held c.args.out.now) (g.K.Sink.held c.serve_ready.new.out) c.args.count c.serve_ready.result)

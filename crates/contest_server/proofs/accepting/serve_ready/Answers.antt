@@ -9,7 +9,7 @@ use Rattle.contest_server.proofs.accepting.serve_ready.Goals as goal
 
 pub returns-then-is_err-clause-serves : goal.returns-then-is_err-clause-serves
 returns-then-is_err-clause-serves g c =
-    let w = with_cases (g.Q.Cases.case_at c.args.service.now.cases.now) (watch g.D.Conn.Source.left g.D.Conn.Sink.held g.D.Conn.Source.faults g.D.Conn.Sink.faults (around_of (g.C.Clock.shows c.args.service.now.clock.now) g.D.Conn.Peer.asks)) in
+    let w = with_cases (g.Q.Cases.case_at c.args.service.now.cases.now) (g.Q.Shows.shown c.args.service.now.cases.now) (watch g.D.Conn.Source.left g.D.Conn.Sink.held g.D.Conn.Source.faults g.D.Conn.Sink.faults (around_of (g.C.Clock.shows c.args.service.now.clock.now) g.D.Conn.Peer.asks)) in
     let board = c.args.service.now.board.now.id in
     let old = desk (g.D.Door.state c.args.door.now) c.args.pass.now (starts_of c.args.lanes.now.items) in
     let door = g.D.Door.state c.make_room.new.door in
@@ -20,7 +20,7 @@ returns-then-is_err-clause-serves g c =
 
 pub returns-then-not-has_calls-clause-serves : goal.returns-then-not-has_calls-clause-serves
 returns-then-not-has_calls-clause-serves g c =
-    let w = with_cases (g.Q.Cases.case_at c.args.service.now.cases.now) (watch g.D.Conn.Source.left g.D.Conn.Sink.held g.D.Conn.Source.faults g.D.Conn.Sink.faults (around_of (g.C.Clock.shows c.args.service.now.clock.now) g.D.Conn.Peer.asks)) in
+    let w = with_cases (g.Q.Cases.case_at c.args.service.now.cases.now) (g.Q.Shows.shown c.args.service.now.cases.now) (watch g.D.Conn.Source.left g.D.Conn.Sink.held g.D.Conn.Source.faults g.D.Conn.Sink.faults (around_of (g.C.Clock.shows c.args.service.now.clock.now) g.D.Conn.Peer.asks)) in
     let board = c.args.service.now.board.now.id in
     let old = desk (g.D.Door.state c.args.door.now) c.args.pass.now (starts_of c.args.lanes.now.items) in
     let door = g.D.Door.state c.make_room.new.door in

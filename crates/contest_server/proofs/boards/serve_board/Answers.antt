@@ -5,7 +5,7 @@ use Rattle.contest_server.proofs.boards.serve_board.Goals as goal
 
 pub returns-clause-served : goal.returns-clause-served
 returns-clause-served g c start events o h =
-    let w = with_cases (g.Q.Cases.case_at c.args.service.now.cases.now) (watch g.D.Conn.Source.left g.D.Conn.Sink.held g.D.Conn.Source.faults g.D.Conn.Sink.faults (around_of (g.C.Clock.shows c.args.service.now.clock.now) g.D.Conn.Peer.asks)) in
+    let w = with_cases (g.Q.Cases.case_at c.args.service.now.cases.now) (g.Q.Shows.shown c.args.service.now.cases.now) (watch g.D.Conn.Source.left g.D.Conn.Sink.held g.D.Conn.Source.faults g.D.Conn.Sink.faults (around_of (g.C.Clock.shows c.args.service.now.clock.now) g.D.Conn.Peer.asks)) in
     let door = g.D.Door.state c.args.door.now in
     let held = g.K.Sink.held c.args.out.now in
     served_without w start events door (g.D.Door.state c.serve_in_scope-pass.new.door) c.args.pass c.serve_in_scope-pass.result.0 held (g.K.Sink.held c.serve_in_scope-pass.new.out) c.args.connections c.serve_in_scope-pass.result.1
@@ -13,7 +13,7 @@ returns-clause-served g c start events o h =
 
 pub returns-then-is_done-clause-served : goal.returns-then-is_done-clause-served
 returns-then-is_done-clause-served g c start events o h =
-    let w = with_cases (g.Q.Cases.case_at c.args.service.now.cases.now) (watch g.D.Conn.Source.left g.D.Conn.Sink.held g.D.Conn.Source.faults g.D.Conn.Sink.faults (around_of (g.C.Clock.shows c.args.service.now.clock.now) g.D.Conn.Peer.asks)) in
+    let w = with_cases (g.Q.Cases.case_at c.args.service.now.cases.now) (g.Q.Shows.shown c.args.service.now.cases.now) (watch g.D.Conn.Source.left g.D.Conn.Sink.held g.D.Conn.Source.faults g.D.Conn.Sink.faults (around_of (g.C.Clock.shows c.args.service.now.clock.now) g.D.Conn.Peer.asks)) in
     let door = g.D.Door.state c.args.door.now in
     let held = g.K.Sink.held c.args.out.now in
     served_with w start events door (g.D.Door.state c.serve_in_scope-pass.new.door) c.args.pass c.serve_in_scope-pass.result.0 c.show_board.new.pass held (g.K.Sink.held c.serve_in_scope-pass.new.out) (g.K.Sink.held c.show_board.new.out)

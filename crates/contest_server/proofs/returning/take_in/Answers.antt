@@ -10,7 +10,7 @@ use Rattle.contest_server.proofs.returning.take_in.Goals as goal
 
 pub join-requires-clause-board : goal.join-requires-clause-board
 join-requires-clause-board g c =
-    let w = with_cases (g.Q.Cases.case_at c.args.service.now.cases.now) (watch g.D.Conn.Source.left g.D.Conn.Sink.held g.D.Conn.Source.faults g.D.Conn.Sink.faults (around_of (g.C.Clock.shows c.args.service.now.clock.now) g.D.Conn.Peer.asks)) in
+    let w = with_cases (g.Q.Cases.case_at c.args.service.now.cases.now) (g.Q.Shows.shown c.args.service.now.cases.now) (watch g.D.Conn.Source.left g.D.Conn.Sink.held g.D.Conn.Source.faults g.D.Conn.Sink.faults (around_of (g.C.Clock.shows c.args.service.now.clock.now) g.D.Conn.Peer.asks)) in
     let board = c.args.service.now.board.now.id in
     let s = start_of c.in-Some.lane in
     let starts = starts_of c.pop_front.new.self.items in
@@ -19,7 +19,7 @@ join-requires-clause-board g c =
 
 pub returns-clause-takes : goal.returns-clause-takes
 returns-clause-takes g c =
-    let w = with_cases (g.Q.Cases.case_at c.args.service.now.cases.now) (watch g.D.Conn.Source.left g.D.Conn.Sink.held g.D.Conn.Source.faults g.D.Conn.Sink.faults (around_of (g.C.Clock.shows c.args.service.now.clock.now) g.D.Conn.Peer.asks)) in
+    let w = with_cases (g.Q.Cases.case_at c.args.service.now.cases.now) (g.Q.Shows.shown c.args.service.now.cases.now) (watch g.D.Conn.Source.left g.D.Conn.Sink.held g.D.Conn.Source.faults g.D.Conn.Sink.faults (around_of (g.C.Clock.shows c.args.service.now.clock.now) g.D.Conn.Peer.asks)) in
     let board = c.args.service.now.board.now.id in
     let s = start_of c.in-Some.lane in
     let starts = starts_of c.pop_front.new.self.items in
@@ -32,6 +32,6 @@ returns-clause-takes g c =
 
 pub returns-clause-lanes : goal.returns-clause-lanes
 returns-clause-lanes g c =
-    let w = with_cases (g.Q.Cases.case_at c.args.service.now.cases.now) (watch g.D.Conn.Source.left g.D.Conn.Sink.held g.D.Conn.Source.faults g.D.Conn.Sink.faults (around_of (g.C.Clock.shows c.args.service.now.clock.now) g.D.Conn.Peer.asks)) in
+    let w = with_cases (g.Q.Cases.case_at c.args.service.now.cases.now) (g.Q.Shows.shown c.args.service.now.cases.now) (watch g.D.Conn.Source.left g.D.Conn.Sink.held g.D.Conn.Source.faults g.D.Conn.Sink.faults (around_of (g.C.Clock.shows c.args.service.now.clock.now) g.D.Conn.Peer.asks)) in
     All-tail (IsLane w c.args.service.now.clock.now c.args.service.now.cases.now) c.in-Some.lane c.pop_front.new.self.items
     (subst (λ lanes. All (IsLane w c.args.service.now.clock.now c.args.service.now.cases.now) lanes) c.in-Some.ensures.items c.requires.lanes)

@@ -33,7 +33,7 @@ end_with-requires-in-Ok-Failed-clause-count g c =
 
 pub returns-in-Ok-End-clause-serves : goal.returns-in-Ok-End-clause-serves
 returns-in-Ok-End-clause-serves g c =
-    let w = with_cases (g.Q.Cases.case_at c.args.service.now.cases.now) (watch g.D.Conn.Source.left g.D.Conn.Sink.held g.D.Conn.Source.faults g.D.Conn.Sink.faults (around_of (g.C.Clock.shows c.args.service.now.clock.now) g.D.Conn.Peer.asks)) in
+    let w = with_cases (g.Q.Cases.case_at c.args.service.now.cases.now) (g.Q.Shows.shown c.args.service.now.cases.now) (watch g.D.Conn.Source.left g.D.Conn.Sink.held g.D.Conn.Source.faults g.D.Conn.Sink.faults (around_of (g.C.Clock.shows c.args.service.now.clock.now) g.D.Conn.Peer.asks)) in
     let came : ServesNext w c.args.service.now.board.now.id
     (desk (g.D.Door.state c.loop-i.door) c.loop-i.pass (starts_of c.loop-i.lanes.items)) (desk (g.D.Door.state c.serve_next.new.door) c.serve_next.new.pass (starts_of c.serve_next.new.lanes.items))
     (g.K.Sink.held c.loop-i.out) (g.K.Sink.held c.serve_next.new.out) c.loop-i.i (Ok coming.End) =
@@ -45,7 +45,7 @@ returns-in-Ok-End-clause-serves g c =
 
 pub returns-in-Ok-Failed-clause-serves : goal.returns-in-Ok-Failed-clause-serves
 returns-in-Ok-Failed-clause-serves g c =
-    let w = with_cases (g.Q.Cases.case_at c.args.service.now.cases.now) (watch g.D.Conn.Source.left g.D.Conn.Sink.held g.D.Conn.Source.faults g.D.Conn.Sink.faults (around_of (g.C.Clock.shows c.args.service.now.clock.now) g.D.Conn.Peer.asks)) in
+    let w = with_cases (g.Q.Cases.case_at c.args.service.now.cases.now) (g.Q.Shows.shown c.args.service.now.cases.now) (watch g.D.Conn.Source.left g.D.Conn.Sink.held g.D.Conn.Source.faults g.D.Conn.Sink.faults (around_of (g.C.Clock.shows c.args.service.now.clock.now) g.D.Conn.Peer.asks)) in
     let came : ServesNext w c.args.service.now.board.now.id
     (desk (g.D.Door.state c.loop-i.door) c.loop-i.pass (starts_of c.loop-i.lanes.items)) (desk (g.D.Door.state c.serve_next.new.door) c.serve_next.new.pass (starts_of c.serve_next.new.lanes.items))
     (g.K.Sink.held c.loop-i.out) (g.K.Sink.held c.serve_next.new.out) c.loop-i.i (Ok coming.Failed) =
@@ -57,7 +57,7 @@ returns-in-Ok-Failed-clause-serves g c =
 
 pub returns-in-Err-clause-serves : goal.returns-in-Err-clause-serves
 returns-in-Err-clause-serves g c =
-    let w = with_cases (g.Q.Cases.case_at c.args.service.now.cases.now) (watch g.D.Conn.Source.left g.D.Conn.Sink.held g.D.Conn.Source.faults g.D.Conn.Sink.faults (around_of (g.C.Clock.shows c.args.service.now.clock.now) g.D.Conn.Peer.asks)) in
+    let w = with_cases (g.Q.Cases.case_at c.args.service.now.cases.now) (g.Q.Shows.shown c.args.service.now.cases.now) (watch g.D.Conn.Source.left g.D.Conn.Sink.held g.D.Conn.Source.faults g.D.Conn.Sink.faults (around_of (g.C.Clock.shows c.args.service.now.clock.now) g.D.Conn.Peer.asks)) in
     let old = desk (g.D.Door.state c.args.door.now) c.args.pass.now (starts_of c.args.lanes.now.items) in
     let new = desk (g.D.Door.state c.serve_next.new.door) c.serve_next.new.pass (starts_of c.serve_next.new.lanes.items) in
     subst (λ e. ServesAll w c.args.service.now.board.now.id old new (g.K.Sink.held c.args.out.now) (g.K.Sink.held c.serve_next.new.out) c.args.connections e) (sym c.end_of.ensures)
@@ -65,7 +65,7 @@ returns-in-Err-clause-serves g c =
 
 pub returns-clause-serves : goal.returns-clause-serves
 returns-clause-serves g c =
-    let w = with_cases (g.Q.Cases.case_at c.args.service.now.cases.now) (watch g.D.Conn.Source.left g.D.Conn.Sink.held g.D.Conn.Source.faults g.D.Conn.Sink.faults (around_of (g.C.Clock.shows c.args.service.now.clock.now) g.D.Conn.Peer.asks)) in
+    let w = with_cases (g.Q.Cases.case_at c.args.service.now.cases.now) (g.Q.Shows.shown c.args.service.now.cases.now) (watch g.D.Conn.Source.left g.D.Conn.Sink.held g.D.Conn.Source.faults g.D.Conn.Sink.faults (around_of (g.C.Clock.shows c.args.service.now.clock.now) g.D.Conn.Peer.asks)) in
     let within = c.loop-i.auto.i-end in
     let over = c.loop-i-test.false in
     let b = before_all w c.args.service.now.board.now.id _ _ _ _ c.loop-i.i c.args.connections (omega (arith, within, over)) c.loop-i.invariant.under_way in

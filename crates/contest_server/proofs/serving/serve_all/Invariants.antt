@@ -7,10 +7,10 @@ use Rattle.contest_server.proofs.serving.serve_all.Given as goal
 
 abbrev pub invariant-loop-i : goal.invariant-loop-i
 invariant-loop-i g l = record {
-  under_way : IsUnderWay (with_cases (g.Q.Cases.case_at l.service.cases.now) (watch g.D.Conn.Source.left g.D.Conn.Sink.held g.D.Conn.Source.faults g.D.Conn.Sink.faults (around_of (g.C.Clock.shows l.service.clock.now) g.D.Conn.Peer.asks))) l.service.board.now.id
+  under_way : IsUnderWay (with_cases (g.Q.Cases.case_at l.service.cases.now) (g.Q.Shows.shown l.service.cases.now) (watch g.D.Conn.Source.left g.D.Conn.Sink.held g.D.Conn.Source.faults g.D.Conn.Sink.faults (around_of (g.C.Clock.shows l.service.clock.now) g.D.Conn.Peer.asks))) l.service.board.now.id
       (desk (g.D.Door.state l.initial.door) l.initial.pass (starts_of l.initial.lanes.items)) (desk (g.D.Door.state l.door) l.pass (starts_of l.lanes.items))
       (g.K.Sink.held l.initial.out) (g.K.Sink.held l.out) l.i;
-  lanes : AreLanes (with_cases (g.Q.Cases.case_at l.service.cases.now) (watch g.D.Conn.Source.left g.D.Conn.Sink.held g.D.Conn.Source.faults g.D.Conn.Sink.faults (around_of (g.C.Clock.shows l.service.clock.now) g.D.Conn.Peer.asks))) l.service.clock.now l.service.cases.now l.lanes.items;
+  lanes : AreLanes (with_cases (g.Q.Cases.case_at l.service.cases.now) (g.Q.Shows.shown l.service.cases.now) (watch g.D.Conn.Source.left g.D.Conn.Sink.held g.D.Conn.Source.faults g.D.Conn.Sink.faults (around_of (g.C.Clock.shows l.service.clock.now) g.D.Conn.Peer.asks))) l.service.clock.now l.service.cases.now l.lanes.items;
   later : g.D.Door.faults l.initial.door ≤ g.D.Door.faults l.door;
   put : g.K.Sink.faults l.initial.out ≤ g.K.Sink.faults l.out;
 }
