@@ -12,23 +12,23 @@ use Rattle.contest_server.specs.declared.accepting.Coming.{Coming}
 use Rattle.contest_server.specs.declared.accepting.Coming.TheVariants as coming
 use Rattle.contest_server.specs.Visits.{Watch, Start, Visit, conn_lines}
 use Rattle.contest_server.specs.Texts.{WritesFront}
-use Rattle.contest_server.specs.Serving.{Desk, StaysOrderly, Opening, Tells, TellsFront, TellsAll, TellsSome, TellsFirst, TakesAll, AcceptsNext, MakesRoom, with_coming, ServesNext, IsUnderWay, Wrote, IfWhole, end_of, end_after, EndsWith, Rests, ServesAll, ServesLanes}
+use Rattle.contest_server.specs.Serving.{DeskValue, StaysOrderly, Opening, Tells, TellsFront, TellsAll, TellsSome, TellsFirst, TakesAll, AcceptsNext, MakesRoom, with_coming, ServesNext, IsUnderWay, Wrote, IfWhole, end_of, end_after, EndsWith, Rests, ServesAll, ServesLanes}
 use Rattle.contest_server.proofs.Telling.{whole_front, front_of_more, lines_both}
 
-stays_through : {N : Type 0} (w : Watch N) (board : BoardId) (a b c : Desk N) → StaysOrderly w board a b → StaysOrderly w board b c → StaysOrderly w board a c
+stays_through : {N : Type 0} (w : Watch N) (board : BoardId) (a b c : DeskValue N) → StaysOrderly w board a b → StaysOrderly w board b c → StaysOrderly w board a c
 stays_through {N} w board a b c s t = record { orderly = t.orderly; seats = t.seats ∙ s.seats }
 
-front_told : {N : Type 0} (w : Watch N) (o : Opening N) (d : Desk N) (held : Option (List ℕ)) (n : ℕ) → Tells w o d held n → TellsFront w o d held n
+front_told : {N : Type 0} (w : Watch N) (o : Opening N) (d : DeskValue N) (held : Option (List ℕ)) (n : ℕ) → Tells w o d held n → TellsFront w o d held n
 front_told {N} w o d held n t = record { visits = t.visits; stands = t.stands; count = t.count; wrote = whole_front o.held held (conn_lines 1 t.visits) t.wrote }
 
 -- The next one
 
 -- there was room, once those were told that have ended
-pub room_at_once : {N : Type 0} (w : Watch N) (board : BoardId) (old new : Desk N) (held held' : Option (List ℕ)) (n : ℕ) (result : Result (Unit {0}) TextFault) → TellsSome w board old new held held' n result → MakesRoom w board old new held held' n result
+pub room_at_once : {N : Type 0} (w : Watch N) (board : BoardId) (old new : DeskValue N) (held held' : Option (List ℕ)) (n : ℕ) (result : Result (Unit {0}) TextFault) → TellsSome w board old new held held' n result → MakesRoom w board old new held held' n result
 room_at_once {N} w board old new held held' n result t = record { stays = t.stays; fewer = t.fewer; told = t.told }
 
 -- there was room once the first one was told too
-pub room_behind : {N : Type 0} (w : Watch N) (board : BoardId) (old mid new : Desk N) (held held' held'' : Option (List ℕ)) (n : ℕ) (u : Unit {0}) (result : Result (Unit {0}) TextFault)
+pub room_behind : {N : Type 0} (w : Watch N) (board : BoardId) (old mid new : DeskValue N) (held held' held'' : Option (List ℕ)) (n : ℕ) (u : Unit {0}) (result : Result (Unit {0}) TextFault)
     → TellsSome w board old mid held held' n (Ok u) → TellsFirst w board mid new held' held'' n result → MakesRoom w board old new held held'' n result
 room_behind {N} w board old mid new held held' held'' n u result t f =
     let fewer_before = t.fewer in
@@ -44,7 +44,7 @@ coming_up coming.Conn n m le = omega (arith, le)
 coming_up coming.End n m le = le
 coming_up coming.Failed n m le = le
 
-pub serves_next : {N : Type 0} (w : Watch N) (board : BoardId) (old mid new : Desk N) (held held' : Option (List ℕ)) (n : ℕ) (u : Unit {0}) (c : Coming) → MakesRoom w board old mid held held' n (Ok u) → AcceptsNext w board mid new c → ServesNext w board old new held held' n (Ok c)
+pub serves_next : {N : Type 0} (w : Watch N) (board : BoardId) (old mid new : DeskValue N) (held held' : Option (List ℕ)) (n : ℕ) (u : Unit {0}) (c : Coming) → MakesRoom w board old mid held held' n (Ok u) → AcceptsNext w board mid new c → ServesNext w board old new held held' n (Ok c)
 serves_next {N} w board old mid new held held' n u c m a =
     let up = coming_up c (length mid.starts) (length old.starts) m.fewer in
     let more = a.more in
@@ -55,17 +55,17 @@ serves_next {N} w board old mid new held held' n u c m a =
       told = λ o t. a.told o held' n (m.told o t);
     }
 
-pub no_memory_next : {N : Type 0} (w : Watch N) (board : BoardId) (old new : Desk N) (held held' : Option (List ℕ)) (n : ℕ) (u : Unit {0}) → MakesRoom w board old new held held' n (Ok u) → ServesNext w board old new held held' n (Err fault.NoMemory)
+pub no_memory_next : {N : Type 0} (w : Watch N) (board : BoardId) (old new : DeskValue N) (held held' : Option (List ℕ)) (n : ℕ) (u : Unit {0}) → MakesRoom w board old new held held' n (Ok u) → ServesNext w board old new held held' n (Err fault.NoMemory)
 no_memory_next {N} w board old new held held' n u m =
     let fewer = m.fewer in
     record { stays = m.stays; more = omega (arith, fewer); ended = tt; told = λ o t. front_told w o new held' n (m.told o t) }
 
-pub no_room_next : {N : Type 0} (w : Watch N) (board : BoardId) (old new : Desk N) (held held' : Option (List ℕ)) (n : ℕ) (why : TextFault) → MakesRoom w board old new held held' n (Err why) → ServesNext w board old new held held' n (Err why)
+pub no_room_next : {N : Type 0} (w : Watch N) (board : BoardId) (old new : DeskValue N) (held held' : Option (List ℕ)) (n : ℕ) (why : TextFault) → MakesRoom w board old new held held' n (Err why) → ServesNext w board old new held held' n (Err why)
 no_room_next {N} w board old new held held' n why m =
     let fewer = m.fewer in
     record { stays = m.stays; more = omega (arith, fewer); ended = tt; told = m.told }
 
-pub goes_on : {N : Type 0} (w : Watch N) (board : BoardId) (first now new : Desk N) (held held' held'' : Option (List ℕ)) (n : ℕ) → IsUnderWay w board first now held held' n → ServesNext w board now new held' held'' n (Ok coming.Conn) → IsUnderWay w board first new held held'' (n + 1)
+pub goes_on : {N : Type 0} (w : Watch N) (board : BoardId) (first now new : DeskValue N) (held held' held'' : Option (List ℕ)) (n : ℕ) → IsUnderWay w board first now held held' n → ServesNext w board now new held' held'' n (Ok coming.Conn) → IsUnderWay w board first new held held'' (n + 1)
 goes_on {N} w board first now new held held' held'' n u s =
     let few = u.few in
     let more = s.more in
@@ -77,7 +77,7 @@ goes_on {N} w board first now new held held' held'' n u s =
 
 -- The end
 
-whole_wrote : {N : Type 0} (w : Watch N) (o : Opening N) (d : Desk N) (held : Option (List ℕ)) (e : ServeEnd) (text : List ℕ) → Appends o.held held text → Wrote e o.held held text
+whole_wrote : {N : Type 0} (w : Watch N) (o : Opening N) (d : DeskValue N) (held : Option (List ℕ)) (e : ServeEnd) (text : List ℕ) → Appends o.held held text → Wrote e o.held held text
 whole_wrote w o d held end.Done text h = h
 whole_wrote w o d held end.DoorFault text h = h
 whole_wrote w o d held end.WriteFault text h = whole_front o.held held text h
@@ -90,13 +90,13 @@ whole_end end.WriteFault starts none = tt
 whole_end end.NoMemory starts none = tt
 
 -- what is known where the lines of all that came were to be written
-pub record Before {N : Type 0} (w : Watch N) (board : BoardId) (first now : Desk N) (held held' : Option (List ℕ)) (n most : ℕ) (e : ServeEnd) : Type 0 where
+pub record Before {N : Type 0} (w : Watch N) (board : BoardId) (first now : DeskValue N) (held held' : Option (List ℕ)) (n most : ℕ) (e : ServeEnd) : Type 0 where
   pub stays : StaysOrderly w board first now
   pub within : n ≤ most
   pub told : (o : Opening N) → Tells w o first held 0 → Tells w o now held' n
   pub done : e ≡ end.Done → (n ≡ most) ⊎ IsEmpty now.door.coming
 
-ends_told : {N : Type 0} (w : Watch N) (board : BoardId) (first now new : Desk N) (held held' held'' : Option (List ℕ)) (n most : ℕ) (e : ServeEnd) (u : Unit {0}) → Before w board first now held held' n most e → TellsAll w board now new held' held'' n (Ok u)
+ends_told : {N : Type 0} (w : Watch N) (board : BoardId) (first now new : DeskValue N) (held held' held'' : Option (List ℕ)) (n most : ℕ) (e : ServeEnd) (u : Unit {0}) → Before w board first now held held' n most e → TellsAll w board now new held' held'' n (Ok u)
     → ServesAll w board first new held held'' most e
 ends_told {N} w board first now new held held' held'' n most e u b t =
     let within = b.within in
@@ -127,7 +127,7 @@ front_wrote : (why : TextFault) (old new : Option (List ℕ)) (text : List ℕ) 
 front_wrote fault.WriteFault old new text h = h
 front_wrote fault.NoMemory old new text h = h
 
-front_rests : {N : Type 0} (w : Watch N) (o : Opening N) (d : Desk N) (held : Option (List ℕ)) (n most : ℕ) (why : TextFault) → n ≤ most → TellsFront w o d held n → Rests w o d held most (end_of why)
+front_rests : {N : Type 0} (w : Watch N) (o : Opening N) (d : DeskValue N) (held : Option (List ℕ)) (n most : ℕ) (why : TextFault) → n ≤ most → TellsFront w o d held n → Rests w o d held most (end_of why)
 front_rests {N} w o d held n most why within t = let count = t.count in record {
   visits = t.visits;
   stands = t.stands;
@@ -136,7 +136,7 @@ front_rests {N} w o d held n most why within t = let count = t.count in record {
   done = λ is. absurd (not_done why is);
 }
 
-ends_front : {N : Type 0} (w : Watch N) (board : BoardId) (first now new : Desk N) (held held' held'' : Option (List ℕ)) (n most : ℕ) (e : ServeEnd) (why : TextFault) → Before w board first now held held' n most e → TellsAll w board now new held' held'' n (Err why)
+ends_front : {N : Type 0} (w : Watch N) (board : BoardId) (first now new : DeskValue N) (held held' held'' : Option (List ℕ)) (n most : ℕ) (e : ServeEnd) (why : TextFault) → Before w board first now held held' n most e → TellsAll w board now new held' held'' n (Err why)
     → ServesAll w board first new held held'' most (end_of why)
 ends_front {N} w board first now new held held' held'' n most e why b t = record {
   stays = stays_through w board first now new b.stays t.stays;
@@ -144,18 +144,18 @@ ends_front {N} w board first now new held held' held'' n most e why b t = record
   rests = λ o h. front_rests w o new held'' n most why b.within (t.told o (b.told o h));
 }
 
-ends_by : {N : Type 0} (w : Watch N) (board : BoardId) (first now new : Desk N) (held held' held'' : Option (List ℕ)) (n most : ℕ) (e : ServeEnd) (told : Result (Unit {0}) TextFault) → Before w board first now held held' n most e → TellsAll w board now new held' held'' n told
+ends_by : {N : Type 0} (w : Watch N) (board : BoardId) (first now new : DeskValue N) (held held' held'' : Option (List ℕ)) (n most : ℕ) (e : ServeEnd) (told : Result (Unit {0}) TextFault) → Before w board first now held held' n most e → TellsAll w board now new held' held'' n told
     → ServesAll w board first new held held'' most (end_after e told)
 ends_by {N} w board first now new held held' held'' n most e (Ok u) b t = ends_told w board first now new held held' held'' n most e u b t
 ends_by {N} w board first now new held held' held'' n most e (Err why) b t = ends_front w board first now new held held' held'' n most e why b t
 
-pub ends : {N : Type 0} (w : Watch N) (board : BoardId) (first now new : Desk N) (held held' held'' : Option (List ℕ)) (faults faults' n most : ℕ) (e result : ServeEnd) → Before w board first now held held' n most e
+pub ends : {N : Type 0} (w : Watch N) (board : BoardId) (first now new : DeskValue N) (held held' held'' : Option (List ℕ)) (faults faults' n most : ℕ) (e result : ServeEnd) → Before w board first now held held' n most e
     → EndsWith w board now new held' held'' faults faults' n e result → ServesAll w board first new held held'' most result
 ends {N} w board first now new held held' held'' faults faults' n most e result b x =
     subst (λ (z : ServeEnd). ServesAll w board first new held held'' most z) (sym x.is) (ends_by w board first now new held held' held'' n most e x.told b x.tells)
 
 -- all that were asked for came
-pub before_all : {N : Type 0} (w : Watch N) (board : BoardId) (first now : Desk N) (held held' : Option (List ℕ)) (n most : ℕ) → n ≡ most → IsUnderWay w board first now held held' n → Before w board first now held held' most most end.Done
+pub before_all : {N : Type 0} (w : Watch N) (board : BoardId) (first now : DeskValue N) (held held' : Option (List ℕ)) (n most : ℕ) → n ≡ most → IsUnderWay w board first now held held' n → Before w board first now held held' most most end.Done
 before_all {N} w board first now held held' n most all u = record {
   stays = u.stays;
   within = omega arith;
@@ -164,7 +164,7 @@ before_all {N} w board first now held held' n most all u = record {
 }
 
 -- none is left to come
-pub before_end : {N : Type 0} (w : Watch N) (board : BoardId) (first now new : Desk N) (held held' held'' : Option (List ℕ)) (n most : ℕ) → n < most → IsUnderWay w board first now held held' n → ServesNext w board now new held' held'' n (Ok coming.End)
+pub before_end : {N : Type 0} (w : Watch N) (board : BoardId) (first now new : DeskValue N) (held held' held'' : Option (List ℕ)) (n most : ℕ) → n < most → IsUnderWay w board first now held held' n → ServesNext w board now new held' held'' n (Ok coming.End)
     → Before w board first new held held'' n most end.Done
 before_end {N} w board first now new held held' held'' n most within u s = record {
   stays = stays_through w board first now new u.stays s.stays;
@@ -174,7 +174,7 @@ before_end {N} w board first now new held held' held'' n most within u s = recor
 }
 
 -- the door failed
-pub before_fault : {N : Type 0} (w : Watch N) (board : BoardId) (first now new : Desk N) (held held' held'' : Option (List ℕ)) (n most : ℕ) → n < most → IsUnderWay w board first now held held' n → ServesNext w board now new held' held'' n (Ok coming.Failed)
+pub before_fault : {N : Type 0} (w : Watch N) (board : BoardId) (first now new : DeskValue N) (held held' held'' : Option (List ℕ)) (n most : ℕ) → n < most → IsUnderWay w board first now held held' n → ServesNext w board now new held' held'' n (Ok coming.Failed)
     → Before w board first new held held'' n most end.DoorFault
 before_fault {N} w board first now new held held' held'' n most within u s = record {
   stays = stays_through w board first now new u.stays s.stays;
@@ -184,7 +184,7 @@ before_fault {N} w board first now new held held' held'' n most within u s = rec
 }
 
 -- a line was not written whole
-pub ends_broken : {N : Type 0} (w : Watch N) (board : BoardId) (first now new : Desk N) (held held' held'' : Option (List ℕ)) (n most : ℕ) (why : TextFault) → n < most → IsUnderWay w board first now held held' n → ServesNext w board now new held' held'' n (Err why)
+pub ends_broken : {N : Type 0} (w : Watch N) (board : BoardId) (first now new : DeskValue N) (held held' held'' : Option (List ℕ)) (n most : ℕ) (why : TextFault) → n < most → IsUnderWay w board first now held held' n → ServesNext w board now new held' held'' n (Err why)
     → ServesAll w board first new held held'' most (end_of why)
 ends_broken {N} w board first now new held held' held'' n most why within u s = record {
   stays = stays_through w board first now new u.stays s.stays;
@@ -216,7 +216,7 @@ whole_done end.DoorFault starts whole is = absurd (cc is)
 whole_done end.WriteFault starts whole is = absurd (cc is)
 whole_done end.NoMemory starts whole is = absurd (cc is)
 
-pub serves_lanes : {N : Type 0} (w : Watch N) (board : BoardId) (old now new : Desk N) (held held' : Option (List ℕ)) (most : ℕ) (e : ServeEnd) → ServesAll w board old now held held' most e → TakesAll w board now new → ServesLanes w board old new held held' most e
+pub serves_lanes : {N : Type 0} (w : Watch N) (board : BoardId) (old now new : DeskValue N) (held held' : Option (List ℕ)) (most : ℕ) (e : ServeEnd) → ServesAll w board old now held held' most e → TakesAll w board now new → ServesLanes w board old new held held' most e
 serves_lanes {N} w board old now new held held' most e s t =
     let empty : length new.starts ≡ 0 = ap (λ (xs : List (Start N)). length xs) t.none in
     record {

@@ -16,7 +16,7 @@ use Rattle.parallel_judge.proofs.Opening.{own_calls}
 use Rattle.contest_server.specs.declared.ends.ServeEnd.{ServeEnd}
 use Rattle.contest_server.specs.declared.ends.ServeEnd.TheVariants as end
 use Rattle.contest_server.specs.Visits.{Watch, IsVisit, conn_lines}
-use Rattle.contest_server.specs.Serving.{Came, with_all, desk, Opening, Tells, Wrote, Rests}
+use Rattle.contest_server.specs.Serving.{Came, with_all, desk_value, Opening, Tells, Wrote, Rests}
 use Rattle.contest_server.specs.Served.{IsAsked, ShowsBoard, HasServed, Serves}
 use Rattle.contest_server.proofs.Beside.{nothing_beside}
 use Rattle.contest_server.proofs.Telling.{front_behind}
@@ -37,7 +37,7 @@ abbrev pub opening_of : {N : Type 0} → DoorState N → Option (List ℕ) → (
 opening_of door held start events pass h = record { door = door; held = held; start = start; calls = h.calls }
 
 pub tells_none : {N : Type 0} (w : Watch N) (door : DoorState N) (held : Option (List ℕ)) (start : BoardState) (events : List Event) (pass : PassValue) → IsOpening start → (h : HasEntered start events pass)
-    → Tells w (opening_of door held start events pass h) (desk door pass []) held 0
+    → Tells w (opening_of door held start events pass h) (desk_value door pass []) held 0
 tells_none {N} w door held start events pass o h = record {
   visits = [];
   stands = record {
@@ -77,7 +77,7 @@ whole_done e old new text is h = subst (λ (z : ServeEnd). Wrote z old new text)
 
 -- the last `board` was not asked for
 pub served_without : {N : Type 0} (w : Watch N) (start : BoardState) (events : List Event) (door door' : DoorState N) (pass pass' : PassValue) (held held' : Option (List ℕ)) (most : ℕ) (e : ServeEnd) → e ≢ end.Done → IsOpening start
-    → (h : HasEntered start events pass) → Rests w (opening_of door held start events pass h) (desk door' pass' []) held' most e → HasServed w start events door door' held held' most e
+    → (h : HasEntered start events pass) → Rests w (opening_of door held start events pass h) (desk_value door' pass' []) held' most e → HasServed w start events door door' held held' most e
 served_without {N} w start events door door' pass pass' held held' most e other o h r = let few = r.few in record {
   visits = r.visits;
   each = r.stands.each;
@@ -93,7 +93,7 @@ served_without {N} w start events door door' pass pass' held held' most e other 
 
 -- the last `board` was asked for
 pub served_with : {N : Type 0} (w : Watch N) (start : BoardState) (events : List Event) (door door' : DoorState N) (pass pass' pass'' : PassValue) (held held' held'' : Option (List ℕ)) (faults faults' most : ℕ) (e result : ServeEnd) → e ≡ end.Done → IsOpening start
-    → (h : HasEntered start events pass) → Rests w (opening_of door held start events pass h) (desk door' pass' []) held' most e → ShowsBoard pass' pass'' held' held'' faults faults' result → HasServed w start events door door' held held'' most result
+    → (h : HasEntered start events pass) → Rests w (opening_of door held start events pass h) (desk_value door' pass' []) held' most e → ShowsBoard pass' pass'' held' held'' faults faults' result → HasServed w start events door door' held held'' most result
 served_with {N} w start events door door' pass pass' pass'' held held' held'' faults faults' most e result is o h r s = let few = r.few in record {
   visits = r.visits;
   each = r.stands.each;

@@ -9,7 +9,7 @@ use Rattle.farm_board.specs.Passes.{BoardId, PassValue, SplitsOff, TakesIn}
 use Rattle.judge_server.specs.declared.ends.ConnEnd.{ConnEnd}
 use Rattle.contest_server.specs.declared.accepting.Coming.TheVariants as coming
 use Rattle.contest_server.specs.Visits.{Watch, Start, Visit, IsAnswered, IsVisit}
-use Rattle.contest_server.specs.Serving.{Came, with_all, all_came, GivesBack, desk, share, IsReady, IsOrderly, TakesFirst, AcceptsNext}
+use Rattle.contest_server.specs.Serving.{Came, with_all, all_came, GivesBack, desk_value, share, IsReady, IsOrderly, TakesFirst, AcceptsNext}
 use Rattle.contest_server.proofs.Beside.{all_more, splits_beside, joins_beside}
 
 -- The door
@@ -65,8 +65,8 @@ gives_back {N} first old new visits s starts v same g t =
 
 -- A connection was accepted
 
-pub accepts : {N : Type 0} (w : Watch N) (board : BoardId) (door door' : DoorState N) (pass pass' : PassValue) (starts : List (Start N)) (s : Start N) → IsOrderly w board (desk door pass starts) → share + length starts + 2 < pass.left
-    → IsFresh (w.held s.came) (w.reads s.came) (w.writes s.came) → LetsIn door door' s.came → SplitsOff pass pass' s.begun share → AcceptsNext w board (desk door pass starts) (desk door' pass' (starts ++ s ∷ [])) coming.Conn
+pub accepts : {N : Type 0} (w : Watch N) (board : BoardId) (door door' : DoorState N) (pass pass' : PassValue) (starts : List (Start N)) (s : Start N) → IsOrderly w board (desk_value door pass starts) → share + length starts + 2 < pass.left
+    → IsFresh (w.held s.came) (w.reads s.came) (w.writes s.came) → LetsIn door door' s.came → SplitsOff pass pass' s.begun share → AcceptsNext w board (desk_value door pass starts) (desk_value door' pass' (starts ++ s ∷ [])) coming.Conn
 accepts {N} w board door door' pass pass' starts s orderly enough fresh l split =
     let len = length-append starts (s ∷ []) in
     let room = orderly.door in
@@ -103,9 +103,9 @@ accepts {N} w board door door' pass pass' starts s orderly enough fresh l split 
 
 -- A connection was taken in
 
-pub takes : {N : Type 0} (w : Watch N) (board : BoardId) (door door' : DoorState N) (pass pass' : PassValue) (s : Start N) (starts : List (Start N)) (v : Visit N) (e : ConnEnd) → IsOrderly w board (desk door pass (s ∷ starts))
+pub takes : {N : Type 0} (w : Watch N) (board : BoardId) (door door' : DoorState N) (pass pass' : PassValue) (s : Start N) (starts : List (Start N)) (v : Visit N) (e : ConnEnd) → IsOrderly w board (desk_value door pass (s ∷ starts))
     → v.came ≡ s.came → v.begun ≡ s.begun → v.requests ≡ e.requests → v.how ≡ e.how → IsAnswered w v → TakesIn pass v.ended pass' → TakesBack door door' v.back
-    → TakesFirst w board (desk door pass (s ∷ starts)) (desk door' pass' starts) e
+    → TakesFirst w board (desk_value door pass (s ∷ starts)) (desk_value door' pass' starts) e
 takes {N} w board door door' pass pass' s starts v e orderly same_conn same_pass requests how answered t b =
     let ready : IsReady w board s = All-head (IsReady w board) s starts orderly.ready in
     let made = answered.served.entered in

@@ -11,7 +11,7 @@ use Rattle.judge_server.specs.declared.ends.ConnHow.{ConnHow}
 use Rattle.contest_server.specs.declared.lines.TextFault.{TextFault}
 use Rattle.contest_server.specs.Visits.{Watch, Visit, conn_line, conn_lines}
 use Rattle.contest_server.specs.Texts.{WritesFront, PutsText}
-use Rattle.contest_server.specs.Serving.{Desk, Opening, Tells, Told, TakesFirst, TellsFirst}
+use Rattle.contest_server.specs.Serving.{DeskValue, Opening, Tells, Told, TakesFirst, TellsFirst}
 
 -- Faults
 
@@ -53,7 +53,7 @@ lines_more {N} vs v k requests how number same_requests same_how =
 
 -- one more line
 
-one_more : {N : Type 0} (w : Watch N) (o : Opening N) (board : BoardId) (old new : Desk N) (held held' : Option (List ℕ)) (e : ConnEnd) (n k : ℕ) (result : Result (Unit {0}) TextFault)
+one_more : {N : Type 0} (w : Watch N) (o : Opening N) (board : BoardId) (old new : DeskValue N) (held held' : Option (List ℕ)) (e : ConnEnd) (n k : ℕ) (result : Result (Unit {0}) TextFault)
     → TakesFirst w board old new e → k + length new.starts ≡ n → PutsText held held' (conn_line k e.requests e.how) result → Tells w o old held n → Told w o new held' n result
 one_more {N} w o board old new held held' e n k (Ok u) t number puts h =
     let had = t.taken o h.visits h.stands in
@@ -80,7 +80,7 @@ one_more {N} w o board old new held held' e n k (Err why) t number puts h =
       wrote = subst (λ (xs : List ℕ). WritesFront o.held held' xs) (sym text) (front_behind o.held held held' (conn_lines 1 h.visits) (conn_line k e.requests e.how) h.wrote puts);
     }
 
-pub tells_first : {N : Type 0} (w : Watch N) (board : BoardId) (old new : Desk N) (held held' : Option (List ℕ)) (e : ConnEnd) (n k : ℕ) (result : Result (Unit {0}) TextFault)
+pub tells_first : {N : Type 0} (w : Watch N) (board : BoardId) (old new : DeskValue N) (held held' : Option (List ℕ)) (e : ConnEnd) (n k : ℕ) (result : Result (Unit {0}) TextFault)
     → TakesFirst w board old new e → k + length new.starts ≡ n → PutsText held held' (conn_line k e.requests e.how) result → TellsFirst w board old new held held' n result
 tells_first {N} w board old new held held' e n k result t number puts = record {
   stays = t.stays;

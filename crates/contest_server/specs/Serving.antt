@@ -45,13 +45,13 @@ pub record GivesBack {N : Type 0} (old new : DoorState N) (visits : List (Visit 
 -- The desk
 
 -- the door, the opening pass, and the connections that are being served
-pub record Desk (N : Type 0) : Type 0 where
+pub record DeskValue (N : Type 0) : Type 0 where
   pub door : DoorState N
   pub pass : PassValue
   pub starts : List (Start N)
 
-abbrev pub desk : {N : Type 0} → DoorState N → PassValue → List (Start N) → Desk N
-desk door pass starts = record { door = door; pass = pass; starts = starts }
+abbrev pub desk_value : {N : Type 0} → DoorState N → PassValue → List (Start N) → DeskValue N
+desk_value door pass starts = record { door = door; pass = pass; starts = starts }
 
 -- how many calls the pass of a connection may make; those that it has not made go back when it is taken in
 abbrev pub share : ℕ
@@ -66,7 +66,7 @@ pub record IsReady {N : Type 0} (w : Watch N) (board : BoardId) (s : Start N) : 
 
 -- the passes are of this board, the connections that are being served were accepted and not given back, the door listens,
 -- and the opening pass can take them all in and make a call behind that
-pub record IsOrderly {N : Type 0} (w : Watch N) (board : BoardId) (d : Desk N) : Type 0 where
+pub record IsOrderly {N : Type 0} (w : Watch N) (board : BoardId) (d : DeskValue N) : Type 0 where
   pub board_is : d.pass.board ≡ board
   pub door : d.door.returned + length d.starts ≤ d.door.accepted
   pub listens : DoesListen d.door
@@ -74,7 +74,7 @@ pub record IsOrderly {N : Type 0} (w : Watch N) (board : BoardId) (d : Desk N) :
   pub left : length d.starts < d.pass.left
 
 -- the desk is still in order, and a connection that is being served has a seat
-pub record StaysOrderly {N : Type 0} (w : Watch N) (board : BoardId) (old new : Desk N) : Type 0 where
+pub record StaysOrderly {N : Type 0} (w : Watch N) (board : BoardId) (old new : DeskValue N) : Type 0 where
   pub orderly : IsOrderly w board new
   pub seats : new.pass.spare + length new.starts ≡ old.pass.spare + length old.starts
 
@@ -88,21 +88,21 @@ pub record Opening (N : Type 0) : Type 0 where
   pub calls : List Call
 
 -- these connections were served
-pub record Stands {N : Type 0} (w : Watch N) (o : Opening N) (visits : List (Visit N)) (d : Desk N) : Type 0 where
+pub record Stands {N : Type 0} (w : Watch N) (o : Opening N) (visits : List (Visit N)) (d : DeskValue N) : Type 0 where
   pub opening : IsOpening o.start
   pub door : GivesBack o.door d.door visits d.starts
   pub beside : IsBeside o.start o.calls visits d.starts d.pass
   pub each : All (IsVisit w) visits
 
 -- of so many connections that came those that are not being served any more were served, and their lines written
-pub record Tells {N : Type 0} (w : Watch N) (o : Opening N) (d : Desk N) (held : Option (List ℕ)) (n : ℕ) : Type 0 where
+pub record Tells {N : Type 0} (w : Watch N) (o : Opening N) (d : DeskValue N) (held : Option (List ℕ)) (n : ℕ) : Type 0 where
   pub visits : List (Visit N)
   pub stands : Stands w o visits d
   pub count : length visits + length d.starts ≡ n
   pub wrote : Appends o.held held (conn_lines 1 visits)
 
 -- the same, but only a front of their lines was written
-pub record TellsFront {N : Type 0} (w : Watch N) (o : Opening N) (d : Desk N) (held : Option (List ℕ)) (n : ℕ)
+pub record TellsFront {N : Type 0} (w : Watch N) (o : Opening N) (d : DeskValue N) (held : Option (List ℕ)) (n : ℕ)
     : Type 0 where
   pub visits : List (Visit N)
   pub stands : Stands w o visits d
@@ -112,7 +112,7 @@ pub record TellsFront {N : Type 0} (w : Watch N) (o : Opening N) (d : Desk N) (h
 -- One connection
 
 -- one more was served, and ended so
-pub record HasTaken {N : Type 0} (w : Watch N) (o : Opening N) (visits : List (Visit N)) (d : Desk N) (e : ConnEnd)
+pub record HasTaken {N : Type 0} (w : Watch N) (o : Opening N) (visits : List (Visit N)) (d : DeskValue N) (e : ConnEnd)
     : Type 0 where
   pub last : Visit N
   pub requests : last.requests ≡ e.requests
@@ -120,20 +120,20 @@ pub record HasTaken {N : Type 0} (w : Watch N) (o : Opening N) (visits : List (V
   pub stands : Stands w o (visits ++ last ∷ []) d
 
 -- the connection that was accepted first was taken in
-pub record TakesFirst {N : Type 0} (w : Watch N) (board : BoardId) (old new : Desk N) (e : ConnEnd) : Type 0 where
+pub record TakesFirst {N : Type 0} (w : Watch N) (board : BoardId) (old new : DeskValue N) (e : ConnEnd) : Type 0 where
   pub stays : StaysOrderly w board old new
   pub fewer : length new.starts + 1 ≡ length old.starts
   pub coming : new.door.coming ≡ old.door.coming
   pub taken : (o : Opening N) (visits : List (Visit N)) → Stands w o visits old → HasTaken w o visits new e
 
 -- what is told of so many connections that came, and whether the last line was written whole
-abbrev pub Told : {N : Type 0} → Watch N → Opening N → Desk N → Option (List ℕ) → ℕ → Result (Unit {0}) TextFault
+abbrev pub Told : {N : Type 0} → Watch N → Opening N → DeskValue N → Option (List ℕ) → ℕ → Result (Unit {0}) TextFault
     → Type 0
 Told w o d held n (Ok u) = Tells w o d held n
 Told w o d held n (Err why) = TellsFront w o d held n
 
 -- the same, and its line was written, where so many connections came
-pub record TellsFirst {N : Type 0} (w : Watch N) (board : BoardId) (old new : Desk N) (held held' : Option (List ℕ))
+pub record TellsFirst {N : Type 0} (w : Watch N) (board : BoardId) (old new : DeskValue N) (held held' : Option (List ℕ))
     (n : ℕ) (result : Result (Unit {0}) TextFault) : Type 0 where
   pub stays : StaysOrderly w board old new
   pub fewer : length new.starts + 1 ≡ length old.starts
@@ -143,7 +143,7 @@ pub record TellsFirst {N : Type 0} (w : Watch N) (board : BoardId) (old new : De
 -- All that are being served
 
 -- they were taken in
-pub record TakesAll {N : Type 0} (w : Watch N) (board : BoardId) (old new : Desk N) : Type 0 where
+pub record TakesAll {N : Type 0} (w : Watch N) (board : BoardId) (old new : DeskValue N) : Type 0 where
   pub stays : StaysOrderly w board old new
   pub none : new.starts ≡ []
   pub coming : new.door.coming ≡ old.door.coming
@@ -155,7 +155,7 @@ IfTold (Ok u) starts = starts ≡ []
 IfTold (Err why) starts = Unit {0}
 
 -- they were taken in and told, up to a line that was not written whole
-pub record TellsAll {N : Type 0} (w : Watch N) (board : BoardId) (old new : Desk N) (held held' : Option (List ℕ))
+pub record TellsAll {N : Type 0} (w : Watch N) (board : BoardId) (old new : DeskValue N) (held held' : Option (List ℕ))
     (n : ℕ) (result : Result (Unit {0}) TextFault) : Type 0 where
   pub stays : StaysOrderly w board old new
   pub none : IfTold result new.starts
@@ -163,7 +163,7 @@ pub record TellsAll {N : Type 0} (w : Watch N) (board : BoardId) (old new : Desk
   pub told : (o : Opening N) → Tells w o old held n → Told w o new held' n result
 
 -- some of them were, the first ones first, up to a line that was not written whole
-pub record TellsSome {N : Type 0} (w : Watch N) (board : BoardId) (old new : Desk N) (held held' : Option (List ℕ))
+pub record TellsSome {N : Type 0} (w : Watch N) (board : BoardId) (old new : DeskValue N) (held held' : Option (List ℕ))
     (n : ℕ) (result : Result (Unit {0}) TextFault) : Type 0 where
   pub stays : StaysOrderly w board old new
   pub fewer : length new.starts ≤ length old.starts
@@ -174,7 +174,7 @@ pub record TellsSome {N : Type 0} (w : Watch N) (board : BoardId) (old new : Des
 
 -- there is room for one more: those that have ended were taken in and told as far as their turn had come, and where there
 -- was no room yet, the connection that was accepted first was waited for
-pub record MakesRoom {N : Type 0} (w : Watch N) (board : BoardId) (old new : Desk N) (held held' : Option (List ℕ))
+pub record MakesRoom {N : Type 0} (w : Watch N) (board : BoardId) (old new : DeskValue N) (held held' : Option (List ℕ))
     (n : ℕ) (result : Result (Unit {0}) TextFault) : Type 0 where
   pub stays : StaysOrderly w board old new
   pub fewer : length new.starts ≤ length old.starts
@@ -192,7 +192,7 @@ IfEnded left coming.End = IsEmpty left
 IfEnded left coming.Failed = Unit {0}
 
 -- the door was asked for a connection, which is being served where it came
-pub record AcceptsNext {N : Type 0} (w : Watch N) (board : BoardId) (old new : Desk N) (result : Coming) : Type 0 where
+pub record AcceptsNext {N : Type 0} (w : Watch N) (board : BoardId) (old new : DeskValue N) (result : Coming) : Type 0 where
   pub stays : StaysOrderly w board old new
   pub more : length new.starts ≤ with_coming (length old.starts) result
   pub ended : IfEnded new.door.coming result
@@ -203,7 +203,7 @@ abbrev pub with_next : ℕ → Result Coming TextFault → ℕ
 with_next n (Ok c) = with_coming n c
 with_next n (Err why) = n
 
-abbrev pub ToldNext : {N : Type 0} → Watch N → Opening N → Desk N → Option (List ℕ) → ℕ → Result Coming TextFault
+abbrev pub ToldNext : {N : Type 0} → Watch N → Opening N → DeskValue N → Option (List ℕ) → ℕ → Result Coming TextFault
     → Type 0
 ToldNext w o d held n (Ok c) = Tells w o d held (with_coming n c)
 ToldNext w o d held n (Err why) = TellsFront w o d held n
@@ -213,7 +213,7 @@ IfNextEnded left (Ok c) = IfEnded left c
 IfNextEnded left (Err why) = Unit {0}
 
 -- the same, once there was room for one more
-pub record ServesNext {N : Type 0} (w : Watch N) (board : BoardId) (old new : Desk N) (held held' : Option (List ℕ))
+pub record ServesNext {N : Type 0} (w : Watch N) (board : BoardId) (old new : DeskValue N) (held held' : Option (List ℕ))
     (n : ℕ) (result : Result Coming TextFault) : Type 0 where
   pub stays : StaysOrderly w board old new
   pub more : length new.starts ≤ with_next (length old.starts) result
@@ -229,7 +229,7 @@ pub record HasCauseNext (door door' out out' : ℕ) (result : Result Coming Text
   pub out_failed : result ≡ Err fault.WriteFault → Rose out out'
 
 -- so many connections came since the first desk
-pub record IsUnderWay {N : Type 0} (w : Watch N) (board : BoardId) (first now : Desk N) (held held' : Option (List ℕ))
+pub record IsUnderWay {N : Type 0} (w : Watch N) (board : BoardId) (first now : DeskValue N) (held held' : Option (List ℕ))
     (n : ℕ) : Type 0 where
   pub stays : StaysOrderly w board first now
   pub few : length now.starts ≤ length first.starts + n
@@ -254,7 +254,7 @@ end_after e (Ok u) = e
 end_after e (Err why) = end_of why
 
 -- the lines of all that were being served were written, and so it ended; or one was not written whole
-pub record EndsWith {N : Type 0} (w : Watch N) (board : BoardId) (old new : Desk N) (held held' : Option (List ℕ))
+pub record EndsWith {N : Type 0} (w : Watch N) (board : BoardId) (old new : DeskValue N) (held held' : Option (List ℕ))
     (faults faults' n : ℕ) (e result : ServeEnd) : Type 0 where
   pub told : Result (Unit {0}) TextFault
   pub is : result ≡ end_after e told
@@ -269,7 +269,7 @@ IfWhole end.WriteFault starts = Unit {0}
 IfWhole end.NoMemory starts = Unit {0}
 
 -- so many connections came at the most; where all was done, as many as that, or none is left to come
-pub record Rests {N : Type 0} (w : Watch N) (o : Opening N) (d : Desk N) (held : Option (List ℕ)) (most : ℕ)
+pub record Rests {N : Type 0} (w : Watch N) (o : Opening N) (d : DeskValue N) (held : Option (List ℕ)) (most : ℕ)
     (e : ServeEnd) : Type 0 where
   pub visits : List (Visit N)
   pub stands : Stands w o visits d
@@ -278,14 +278,14 @@ pub record Rests {N : Type 0} (w : Watch N) (o : Opening N) (d : Desk N) (held :
   pub done : e ≡ end.Done → (length visits ≡ most) ⊎ IsEmpty d.door.coming
 
 -- as many connections were served as came, up to a line that was not written whole
-pub record ServesAll {N : Type 0} (w : Watch N) (board : BoardId) (old new : Desk N) (held held' : Option (List ℕ))
+pub record ServesAll {N : Type 0} (w : Watch N) (board : BoardId) (old new : DeskValue N) (held held' : Option (List ℕ))
     (most : ℕ) (e : ServeEnd) : Type 0 where
   pub stays : StaysOrderly w board old new
   pub whole : IfWhole e new.starts
   pub rests : (o : Opening N) → Tells w o old held 0 → Rests w o new held' most e
 
 -- the same, and no connection is being served any more
-pub record ServesLanes {N : Type 0} (w : Watch N) (board : BoardId) (old new : Desk N) (held held' : Option (List ℕ))
+pub record ServesLanes {N : Type 0} (w : Watch N) (board : BoardId) (old new : DeskValue N) (held held' : Option (List ℕ))
     (most : ℕ) (e : ServeEnd) : Type 0 where
   pub orderly : IsOrderly w board new
   pub rests : (o : Opening N) → Tells w o old held 0 → Rests w o new held' most e

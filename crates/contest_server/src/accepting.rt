@@ -3,11 +3,11 @@ ghost use Rattle.std.specs.VecDeque.{deque_len, deque_capacity};
 ghost use Rattle.farm_io.specs.Streams.{Rose};
 ghost use Rattle.contest_server.specs.Texts.{HasCauseTold};
 ghost use Rattle.contest_server.specs.Lanes.{starts_of, AreLanes};
-ghost use Rattle.contest_server.specs.Serving.{desk, share, IsOrderly, AcceptsNext, MakesRoom, ServesNext, HasCauseNext};
+ghost use Rattle.contest_server.specs.Serving.{desk_value, share, IsOrderly, AcceptsNext, MakesRoom, ServesNext, HasCauseNext};
 
-use crate::bell::Places;
 use crate::freeing::free_place;
-use crate::lanes::{Worker, begin};
+use crate::desk::Desk;
+use crate::lanes::begin;
 use crate::lines::TextFault;
 use crate::returning::{tell_ended, tell_next};
 use crate::service::{Service, Watches};
@@ -15,7 +15,6 @@ use case_run::Cases;
 use contest_page::Shows;
 use farm_board::{Admission, Pass};
 use farm_io::{Accepted, Clock, Door, Sink};
-use std::collections::VecDeque;
 use std::sync::Wait;
 use std::thread::{Scope, Threads};
 
@@ -40,41 +39,42 @@ fn accept_next<
     E,
     R: Threads + Wait + Sync,
     D: Door,
+    K: Sink,
     A: Admission + Send + Sync,
     C: Clock + Sync,
     Q: Cases + Shows + Sync,
 >(
     service: &Service<'s, R, A, C, Q>,
     scope: &Scope<'s, E>,
-    door: &mut D,
-    pass: &mut Pass<A>,
-    places: &mut Places,
-    lanes: &mut VecDeque<Worker<D::Conn, A, C, Q>>,
+    desk: &mut Desk<'_, '_, '_, D, K, A, C, Q>,
     count: u64,
 ) -> Coming
 where
     D::Conn: Drop + 's,
     requires orderly { IsOrderly (⟦<Service<'s, R, A, C, Q> as Watches<D::Conn>>⟧.watched service.now) service.now.board.now.id
-        (desk (D.state door.old) pass.old (starts_of lanes.old.items)) }
+        (desk_value (D.state desk.old.door.now) desk.old.pass.now (starts_of desk.old.lanes.items)) }
     requires lanes { AreLanes (⟦<Service<'s, R, A, C, Q> as Watches<D::Conn>>⟧.watched service.now)
-        service.now.clock.now service.now.cases.now lanes.old.items }
-    requires room { deque_len lanes.old < deque_capacity lanes.old }
-    requires spare { 0 < pass.old.spare }
-    requires left { share + deque_len lanes.old + 2 < pass.old.left }
+        service.now.clock.now service.now.cases.now desk.old.lanes.items }
+    requires room { deque_len desk.old.lanes < deque_capacity desk.old.lanes }
+    requires spare { 0 < desk.old.pass.now.spare }
+    requires left { share + deque_len desk.old.lanes + 2 < desk.old.pass.now.left }
     ensures accepts { AcceptsNext (⟦<Service<'s, R, A, C, Q> as Watches<D::Conn>>⟧.watched service.now) service.now.board.now.id
-        (desk (D.state door.old) pass.old (starts_of lanes.old.items))
-        (desk (D.state door.new) pass.new (starts_of lanes.new.items)) result }
+        (desk_value (D.state desk.old.door.now) desk.old.pass.now (starts_of desk.old.lanes.items))
+        (desk_value (D.state desk.new.door.now) desk.new.pass.now (starts_of desk.new.lanes.items)) result }
     ensures lanes { AreLanes (⟦<Service<'s, R, A, C, Q> as Watches<D::Conn>>⟧.watched service.now)
-        service.now.clock.now service.now.cases.now lanes.new.items }
-    ensures later { D.faults door.old ≤ D.faults door.new }
-    ensures failed { result ≡ Coming.Failed → Rose (D.faults door.old) (D.faults door.new) }
+        service.now.clock.now service.now.cases.now desk.new.lanes.items }
+    ensures later { D.faults desk.old.door.now ≤ D.faults desk.new.door.now }
+    ensures failed { result ≡ Coming.Failed → Rose (D.faults desk.old.door.now) (D.faults desk.new.door.now) }
+    ensures out { desk.new.out.now ≡ desk.old.out.now }
+    ensures same { (desk.new.door.ghost_name ≡ desk.old.door.ghost_name) × (desk.new.out.ghost_name ≡ desk.old.out.ghost_name)
+        × (desk.new.pass.ghost_name ≡ desk.old.pass.ghost_name) }
 {
-    match door.accept() {
+    match desk.door.accept() {
         Accepted::Conn(conn) => {
-            let own = service.board.split(service.rt, pass, SHARE);
-            let place = places.take(count);
+            let own = service.board.split(service.rt, desk.pass, SHARE);
+            let place = desk.places.take(count);
             let lane = begin(service, scope, place, own, conn);
-            lanes.push_back_reserved(lane);
+            desk.lanes.push_back_reserved(lane);
             Coming::Conn
         }
         Accepted::End => Coming::End,
@@ -86,37 +86,36 @@ where
 /// wait for that, the one that was accepted first is waited for.
 fn make_room<'s, R: Threads + Wait, D: Door, K: Sink, A: Admission, C: Clock, Q: Cases + Shows>(
     service: &Service<'s, R, A, C, Q>,
-    door: &mut D,
-    out: &mut K,
-    pass: &mut Pass<A>,
-    lanes: &mut VecDeque<Worker<D::Conn, A, C, Q>>,
+    desk: &mut Desk<'_, '_, '_, D, K, A, C, Q>,
     count: u64,
 ) -> Result<(), TextFault>
 where
     D::Conn: Drop,
     requires orderly { IsOrderly (⟦<Service<'s, R, A, C, Q> as Watches<D::Conn>>⟧.watched service.now) service.now.board.now.id
-        (desk (D.state door.old) pass.old (starts_of lanes.old.items)) }
+        (desk_value (D.state desk.old.door.now) desk.old.pass.now (starts_of desk.old.lanes.items)) }
     requires lanes { AreLanes (⟦<Service<'s, R, A, C, Q> as Watches<D::Conn>>⟧.watched service.now)
-        service.now.clock.now service.now.cases.now lanes.old.items }
+        service.now.clock.now service.now.cases.now desk.old.lanes.items }
     requires some { 0 < service.now.most }
-    requires few { deque_len lanes.old ≤ service.now.most }
-    requires count { deque_len lanes.old ≤ count }
+    requires few { deque_len desk.old.lanes ≤ service.now.most }
+    requires count { deque_len desk.old.lanes ≤ count }
     ensures makes { MakesRoom (⟦<Service<'s, R, A, C, Q> as Watches<D::Conn>>⟧.watched service.now) service.now.board.now.id
-        (desk (D.state door.old) pass.old (starts_of lanes.old.items))
-        (desk (D.state door.new) pass.new (starts_of lanes.new.items))
-        (K.held out.old) (K.held out.new) count result }
-    ensures room { IfOk result (λ _. deque_len lanes.new < service.now.most) }
-    ensures cause { HasCauseTold (K.faults out.old) (K.faults out.new) result }
+        (desk_value (D.state desk.old.door.now) desk.old.pass.now (starts_of desk.old.lanes.items))
+        (desk_value (D.state desk.new.door.now) desk.new.pass.now (starts_of desk.new.lanes.items))
+        (K.held desk.old.out.now) (K.held desk.new.out.now) count result }
+    ensures room { IfOk result (λ _. deque_len desk.new.lanes < service.now.most) }
+    ensures cause { HasCauseTold (K.faults desk.old.out.now) (K.faults desk.new.out.now) result }
     ensures lanes { AreLanes (⟦<Service<'s, R, A, C, Q> as Watches<D::Conn>>⟧.watched service.now)
-        service.now.clock.now service.now.cases.now lanes.new.items }
-    ensures later { D.faults door.old ≤ D.faults door.new }
+        service.now.clock.now service.now.cases.now desk.new.lanes.items }
+    ensures later { D.faults desk.old.door.now ≤ D.faults desk.new.door.now }
+    ensures same { (desk.new.door.ghost_name ≡ desk.old.door.ghost_name) × (desk.new.out.ghost_name ≡ desk.old.out.ghost_name)
+        × (desk.new.pass.ghost_name ≡ desk.old.pass.ghost_name) }
 {
-    tell_ended(service, door, out, pass, lanes, count)?;
-    if lanes.len() < usize::from(service.most) {
+    tell_ended(service, desk, count)?;
+    if desk.lanes.len() < usize::from(service.most) {
         return Ok(());
     }
-    door.ask_to_close(count.saturating_sub(lanes.len() as u64));
-    tell_next(service, door, out, pass, lanes, count)
+    desk.door.ask_to_close(count.saturating_sub(desk.lanes.len() as u64));
+    tell_next(service, desk, count)
 }
 
 /// Whether the calls that are left suffice for one more connection, beside those by which all are taken in.
@@ -139,38 +138,36 @@ fn serve_ready<
 >(
     service: &Service<'s, R, A, C, Q>,
     scope: &Scope<'s, E>,
-    door: &mut D,
-    out: &mut K,
-    pass: &mut Pass<A>,
-    places: &mut Places,
-    lanes: &mut VecDeque<Worker<D::Conn, A, C, Q>>,
+    desk: &mut Desk<'_, '_, '_, D, K, A, C, Q>,
     count: u64,
 ) -> Result<Coming, TextFault>
 where
     D::Conn: Drop + 's,
     requires orderly { IsOrderly (⟦<Service<'s, R, A, C, Q> as Watches<D::Conn>>⟧.watched service.now) service.now.board.now.id
-        (desk (D.state door.old) pass.old (starts_of lanes.old.items)) }
+        (desk_value (D.state desk.old.door.now) desk.old.pass.now (starts_of desk.old.lanes.items)) }
     requires lanes { AreLanes (⟦<Service<'s, R, A, C, Q> as Watches<D::Conn>>⟧.watched service.now)
-        service.now.clock.now service.now.cases.now lanes.old.items }
+        service.now.clock.now service.now.cases.now desk.old.lanes.items }
     requires some { 0 < service.now.most }
-    requires seats { pass.old.spare + deque_len lanes.old ≡ service.now.most }
-    requires count { deque_len lanes.old ≤ count }
+    requires seats { desk.old.pass.now.spare + deque_len desk.old.lanes ≡ service.now.most }
+    requires count { deque_len desk.old.lanes ≤ count }
     ensures serves { ServesNext (⟦<Service<'s, R, A, C, Q> as Watches<D::Conn>>⟧.watched service.now) service.now.board.now.id
-        (desk (D.state door.old) pass.old (starts_of lanes.old.items))
-        (desk (D.state door.new) pass.new (starts_of lanes.new.items))
-        (K.held out.old) (K.held out.new) count result }
-    ensures cause { HasCauseNext (D.faults door.old) (D.faults door.new) (K.faults out.old) (K.faults out.new) result }
+        (desk_value (D.state desk.old.door.now) desk.old.pass.now (starts_of desk.old.lanes.items))
+        (desk_value (D.state desk.new.door.now) desk.new.pass.now (starts_of desk.new.lanes.items))
+        (K.held desk.old.out.now) (K.held desk.new.out.now) count result }
+    ensures cause { HasCauseNext (D.faults desk.old.door.now) (D.faults desk.new.door.now) (K.faults desk.old.out.now) (K.faults desk.new.out.now) result }
     ensures lanes { AreLanes (⟦<Service<'s, R, A, C, Q> as Watches<D::Conn>>⟧.watched service.now)
-        service.now.clock.now service.now.cases.now lanes.new.items }
+        service.now.clock.now service.now.cases.now desk.new.lanes.items }
+    ensures same { (desk.new.door.ghost_name ≡ desk.old.door.ghost_name) × (desk.new.out.ghost_name ≡ desk.old.out.ghost_name)
+        × (desk.new.pass.ghost_name ≡ desk.old.pass.ghost_name) }
 {
-    make_room(service, door, out, pass, lanes, count)?;
-    if lanes.try_reserve(1).is_err() {
+    make_room(service, desk, count)?;
+    if desk.lanes.try_reserve(1).is_err() {
         return Err(TextFault::NoMemory);
     }
-    if !has_calls(pass, lanes.len()) {
+    if !has_calls(desk.pass, desk.lanes.len()) {
         return Err(TextFault::NoMemory);
     }
-    Ok(accept_next(service, scope, door, pass, places, lanes, count))
+    Ok(accept_next(service, scope, desk, count))
 }
 
 /// Waits until a connection can be accepted and a worker is free, and serves it, where so many came.
@@ -186,31 +183,29 @@ pub(crate) fn serve_next<
 >(
     service: &Service<'s, R, A, C, Q>,
     scope: &Scope<'s, E>,
-    door: &mut D,
-    out: &mut K,
-    pass: &mut Pass<A>,
-    places: &mut Places,
-    lanes: &mut VecDeque<Worker<D::Conn, A, C, Q>>,
+    desk: &mut Desk<'_, '_, '_, D, K, A, C, Q>,
     count: u64,
 ) -> Result<Coming, TextFault>
 where
     D::Conn: Drop + 's,
     requires orderly { IsOrderly (⟦<Service<'s, R, A, C, Q> as Watches<D::Conn>>⟧.watched service.now) service.now.board.now.id
-        (desk (D.state door.old) pass.old (starts_of lanes.old.items)) }
+        (desk_value (D.state desk.old.door.now) desk.old.pass.now (starts_of desk.old.lanes.items)) }
     requires lanes { AreLanes (⟦<Service<'s, R, A, C, Q> as Watches<D::Conn>>⟧.watched service.now)
-        service.now.clock.now service.now.cases.now lanes.old.items }
+        service.now.clock.now service.now.cases.now desk.old.lanes.items }
     requires some { 0 < service.now.most }
-    requires seats { pass.old.spare + deque_len lanes.old ≡ service.now.most }
-    requires count { deque_len lanes.old ≤ count }
+    requires seats { desk.old.pass.now.spare + deque_len desk.old.lanes ≡ service.now.most }
+    requires count { deque_len desk.old.lanes ≤ count }
     ensures serves { ServesNext (⟦<Service<'s, R, A, C, Q> as Watches<D::Conn>>⟧.watched service.now) service.now.board.now.id
-        (desk (D.state door.old) pass.old (starts_of lanes.old.items))
-        (desk (D.state door.new) pass.new (starts_of lanes.new.items))
-        (K.held out.old) (K.held out.new) count result }
-    ensures cause { HasCauseNext (D.faults door.old) (D.faults door.new) (K.faults out.old) (K.faults out.new) result }
+        (desk_value (D.state desk.old.door.now) desk.old.pass.now (starts_of desk.old.lanes.items))
+        (desk_value (D.state desk.new.door.now) desk.new.pass.now (starts_of desk.new.lanes.items))
+        (K.held desk.old.out.now) (K.held desk.new.out.now) count result }
+    ensures cause { HasCauseNext (D.faults desk.old.door.now) (D.faults desk.new.door.now) (K.faults desk.old.out.now) (K.faults desk.new.out.now) result }
     ensures lanes { AreLanes (⟦<Service<'s, R, A, C, Q> as Watches<D::Conn>>⟧.watched service.now)
-        service.now.clock.now service.now.cases.now lanes.new.items }
+        service.now.clock.now service.now.cases.now desk.new.lanes.items }
+    ensures same { (desk.new.door.ghost_name ≡ desk.old.door.ghost_name) × (desk.new.out.ghost_name ≡ desk.old.out.ghost_name)
+        × (desk.new.pass.ghost_name ≡ desk.old.pass.ghost_name) }
 {
-    door.await_next();
-    free_place(service, door, places, lanes, count);
-    serve_ready(service, scope, door, out, pass, places, lanes, count)
+    desk.door.await_next();
+    free_place(service, desk, count);
+    serve_ready(service, scope, desk, count)
 }

@@ -6,7 +6,7 @@ ghost use Rattle.farm_board.specs.Histories.{IsOpening};
 ghost use Rattle.parallel_judge.specs.Hosts.{HasEntered};
 ghost use Rattle.judge_server.specs.Exchanges.{around_of};
 ghost use Rattle.contest_server.specs.Visits.{watch, with_cases};
-ghost use Rattle.contest_server.specs.Serving.{desk, IsOrderly, ServesLanes, HasCauseEnd};
+ghost use Rattle.contest_server.specs.Serving.{desk_value, IsOrderly, ServesLanes, HasCauseEnd};
 ghost use Rattle.contest_server.specs.Served.{HasServed, ShowsBoard};
 
 use crate::ends::ServeEnd;
@@ -42,12 +42,12 @@ fn serve_in_scope<
 where
     D::Conn: Drop,
     requires orderly { IsOrderly (⟦<Service<'s, R, A, C, Q> as Watches<D::Conn>>⟧.watched service.now) service.now.board.now.id
-        (desk (D.state door.old) pass []) }
+        (desk_value (D.state door.old) pass []) }
     requires some { 0 < service.now.most }
     requires seats { pass.spare ≡ service.now.most }
     ensures serves { ServesLanes (⟦<Service<'s, R, A, C, Q> as Watches<D::Conn>>⟧.watched service.now) service.now.board.now.id
-        (desk (D.state door.old) pass [])
-        (desk (D.state door.new) result.0 [])
+        (desk_value (D.state door.old) pass [])
+        (desk_value (D.state door.new) result.0 [])
         (K.held out.old) (K.held out.new) connections result.1 }
     ensures cause { HasCauseEnd (D.faults door.old) (D.faults door.new) (K.faults out.old) (K.faults out.new) result.1 }
 {
@@ -59,7 +59,7 @@ where
                 (watch D.Conn.left D.Conn.held D.Conn.Source.faults D.Conn.Sink.faults
                 (around_of (C.shows service.now.clock.now) D.Conn.Peer.asks)))
                 service.now.board.now.id
-                (desk (D.state door.now) pass []) }
+                (desk_value (D.state door.now) pass []) }
             requires some { 0 < service.now.most }
             requires seats { pass.spare ≡ service.now.most }
             ensures { (result.0.ghost_name ≡ door.entry.ghost_name) × (result.1.ghost_name ≡ out.entry.ghost_name)
@@ -67,7 +67,7 @@ where
                 (watch D.Conn.left D.Conn.held D.Conn.Source.faults D.Conn.Sink.faults
                 (around_of (C.shows service.entry.now.clock.now) D.Conn.Peer.asks)))
                 service.entry.now.board.now.id
-                (desk (D.state door.entry.now) pass []) (desk (D.state result.0.now) result.2 [])
+                (desk_value (D.state door.entry.now) pass []) (desk_value (D.state result.0.now) result.2 [])
                 (K.held out.entry.now) (K.held result.1.now) connections result.3
                 × HasCauseEnd (D.faults door.entry.now) (D.faults result.0.now) (K.faults out.entry.now) (K.faults result.1.now) result.3 }
         {
@@ -132,7 +132,7 @@ pub(crate) fn serve_board<
 where
     D::Conn: Drop,
     requires orderly { IsOrderly (⟦<Service<'s, R, A, C, Q> as Watches<D::Conn>>⟧.watched service.now) service.now.board.now.id
-        (desk (D.state door.old) pass []) }
+        (desk_value (D.state door.old) pass []) }
     requires some { 0 < service.now.most }
     requires seats { pass.spare ≡ service.now.most }
     ensures served { (start : BoardState) (events : List EventValue) → IsOpening start → HasEntered start events pass

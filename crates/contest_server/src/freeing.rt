@@ -3,6 +3,7 @@ ghost use Rattle.std.specs.VecDeque.{deque_len};
 ghost use Rattle.contest_server.specs.Lanes.{starts_of, AreLanes};
 
 use crate::bell::{Bell, PLACES, Places};
+use crate::desk::Desk;
 use crate::lanes::{Worker, settle_at};
 use crate::service::{Service, Watches};
 use case_run::Cases;
@@ -72,36 +73,33 @@ fn ask_in_order<W: Wait, D: Door>(
     bell.await_any(rt)
 }
 
-/// Joins the workers that are done. Where as many as there may be are at work, one of them is waited for, and the connections are asked
-/// to close, the first one at first.
-pub(crate) fn free_place<'s, R: Threads + Wait, D: Door, A: Admission, C: Clock, Q: Cases + Shows>(
+/// Joins the workers that are done. Where as many as there may be are at work, one of them is waited for, and the
+/// connections are asked to close, the first one at first.
+pub(crate) fn free_place<'s, R: Threads + Wait, D: Door, K: Sink, A: Admission, C: Clock, Q: Cases + Shows>(
     service: &Service<'s, R, A, C, Q>,
-    door: &mut D,
-    places: &mut Places,
-    lanes: &mut VecDeque<Worker<D::Conn, A, C, Q>>,
+    desk: &mut Desk<'_, '_, '_, D, K, A, C, Q>,
     count: u64,
 )
 where
     D::Conn: Drop,
     requires lanes { AreLanes (⟦<Service<'s, R, A, C, Q> as Watches<D::Conn>>⟧.watched service.now)
-        service.now.clock.now service.now.cases.now lanes.old.items }
-    ensures kept { D.state door.new ≡ D.state door.old }
-    ensures later { D.faults door.old ≤ D.faults door.new }
-    ensures starts { starts_of lanes.new.items ≡ starts_of lanes.old.items }
+        service.now.clock.now service.now.cases.now desk.old.lanes.items }
+    ensures kept { D.state desk.new.door.now ≡ D.state desk.old.door.now }
+    ensures later { D.faults desk.old.door.now ≤ D.faults desk.new.door.now }
+    ensures starts { starts_of desk.new.lanes.items ≡ starts_of desk.old.lanes.items }
     ensures lanes { AreLanes (⟦<Service<'s, R, A, C, Q> as Watches<D::Conn>>⟧.watched service.now)
-        service.now.clock.now service.now.cases.now lanes.new.items }
-    ensures len { deque_len lanes.new ≡ deque_len lanes.old }
+        service.now.clock.now service.now.cases.now desk.new.lanes.items }
+    ensures out { desk.new.out.now ≡ desk.old.out.now }
+    ensures pass { desk.new.pass.now ≡ desk.old.pass.now }
+    ensures len { deque_len desk.new.lanes ≡ deque_len desk.old.lanes }
+    ensures same { (desk.new.door.ghost_name ≡ desk.old.door.ghost_name) × (desk.new.out.ghost_name ≡ desk.old.out.ghost_name)
+        × (desk.new.pass.ghost_name ≡ desk.old.pass.ghost_name) }
 {
-    settle_done(
-        service,
-        places,
-        lanes,
-        count,
-        service.bell.heard(service.rt),
-    );
-    if places.count() < usize::from(service.workers) {
+    let heard = service.bell.heard(service.rt);
+    settle_done(service, &mut desk.places, &mut desk.lanes, count, heard);
+    if desk.places.count() < usize::from(service.workers) {
         return;
     }
-    let done = ask_in_order(service.rt, service.bell, door, places);
-    settle_done(service, places, lanes, count, done);
+    let done = ask_in_order(service.rt, service.bell, desk.door, &desk.places);
+    settle_done(service, &mut desk.places, &mut desk.lanes, count, done);
 }

@@ -2,8 +2,9 @@ ghost use Rattle.std.specs.Prelude.{◌≡◌, ◌<◌, ◌≤◌};
 ghost use Rattle.std.specs.VecDeque.{deque_len};
 ghost use Rattle.contest_server.specs.Texts.{HasCauseTold};
 ghost use Rattle.contest_server.specs.Lanes.{starts_of, AreLanes};
-ghost use Rattle.contest_server.specs.Serving.{desk, IsOrderly, TakesFirst, TellsFirst, TakesAll, TellsAll, TellsSome};
+ghost use Rattle.contest_server.specs.Serving.{desk_value, IsOrderly, TakesFirst, TellsFirst, TakesAll, TellsAll, TellsSome};
 
+use crate::desk::Desk;
 use crate::lanes::{Served, Worker, end, is_settled};
 use crate::lines::{TextFault, write_line};
 use crate::service::{Service, Watches};
@@ -18,27 +19,28 @@ use std::thread::Threads;
 
 /// Waits for the connection that was accepted first among those that are being served, takes its pass in, and gives it
 /// back.
-fn take_in<'s, R: Threads + Wait, D: Door, A: Admission, C: Clock, Q: Cases + Shows>(
+fn take_in<'s, R: Threads + Wait, D: Door, K: Sink, A: Admission, C: Clock, Q: Cases + Shows>(
     service: &Service<'s, R, A, C, Q>,
-    door: &mut D,
-    pass: &mut Pass<A>,
-    lanes: &mut VecDeque<Worker<D::Conn, A, C, Q>>,
+    desk: &mut Desk<'_, '_, '_, D, K, A, C, Q>,
 ) -> ConnEnd
 where
     D::Conn: Drop,
     requires orderly { IsOrderly (⟦<Service<'s, R, A, C, Q> as Watches<D::Conn>>⟧.watched service.now) service.now.board.now.id
-        (desk (D.state door.old) pass.old (starts_of lanes.old.items)) }
+        (desk_value (D.state desk.old.door.now) desk.old.pass.now (starts_of desk.old.lanes.items)) }
     requires lanes { AreLanes (⟦<Service<'s, R, A, C, Q> as Watches<D::Conn>>⟧.watched service.now)
-        service.now.clock.now service.now.cases.now lanes.old.items }
-    requires some { 0 < deque_len lanes.old }
+        service.now.clock.now service.now.cases.now desk.old.lanes.items }
+    requires some { 0 < deque_len desk.old.lanes }
     ensures takes { TakesFirst (⟦<Service<'s, R, A, C, Q> as Watches<D::Conn>>⟧.watched service.now) service.now.board.now.id
-        (desk (D.state door.old) pass.old (starts_of lanes.old.items))
-        (desk (D.state door.new) pass.new (starts_of lanes.new.items)) result }
+        (desk_value (D.state desk.old.door.now) desk.old.pass.now (starts_of desk.old.lanes.items))
+        (desk_value (D.state desk.new.door.now) desk.new.pass.now (starts_of desk.new.lanes.items)) result }
     ensures lanes { AreLanes (⟦<Service<'s, R, A, C, Q> as Watches<D::Conn>>⟧.watched service.now)
-        service.now.clock.now service.now.cases.now lanes.new.items }
-    ensures later { D.faults door.old ≤ D.faults door.new }
+        service.now.clock.now service.now.cases.now desk.new.lanes.items }
+    ensures later { D.faults desk.old.door.now ≤ D.faults desk.new.door.now }
+    ensures out { desk.new.out.now ≡ desk.old.out.now }
+    ensures same { (desk.new.door.ghost_name ≡ desk.old.door.ghost_name) × (desk.new.out.ghost_name ≡ desk.old.out.ghost_name)
+        × (desk.new.pass.ghost_name ≡ desk.old.pass.ghost_name) }
 {
-    let Some(lane) = lanes.pop_front() else {
+    let Some(lane) = desk.lanes.pop_front() else {
         unreachable!()
     };
     let Served {
@@ -46,8 +48,8 @@ where
         pass: from,
         end,
     } = end(service, lane);
-    service.board.join(service.rt, pass, from);
-    door.give_back(conn);
+    service.board.join(service.rt, desk.pass, from);
+    desk.door.give_back(conn);
     end
 }
 
@@ -62,31 +64,30 @@ pub(crate) fn tell_next<
     Q: Cases + Shows,
 >(
     service: &Service<'s, R, A, C, Q>,
-    door: &mut D,
-    out: &mut K,
-    pass: &mut Pass<A>,
-    lanes: &mut VecDeque<Worker<D::Conn, A, C, Q>>,
+    desk: &mut Desk<'_, '_, '_, D, K, A, C, Q>,
     count: u64,
 ) -> Result<(), TextFault>
 where
     D::Conn: Drop,
     requires orderly { IsOrderly (⟦<Service<'s, R, A, C, Q> as Watches<D::Conn>>⟧.watched service.now) service.now.board.now.id
-        (desk (D.state door.old) pass.old (starts_of lanes.old.items)) }
+        (desk_value (D.state desk.old.door.now) desk.old.pass.now (starts_of desk.old.lanes.items)) }
     requires lanes { AreLanes (⟦<Service<'s, R, A, C, Q> as Watches<D::Conn>>⟧.watched service.now)
-        service.now.clock.now service.now.cases.now lanes.old.items }
-    requires some { 0 < deque_len lanes.old }
-    requires count { deque_len lanes.old ≤ count }
+        service.now.clock.now service.now.cases.now desk.old.lanes.items }
+    requires some { 0 < deque_len desk.old.lanes }
+    requires count { deque_len desk.old.lanes ≤ count }
     ensures tells { TellsFirst (⟦<Service<'s, R, A, C, Q> as Watches<D::Conn>>⟧.watched service.now) service.now.board.now.id
-        (desk (D.state door.old) pass.old (starts_of lanes.old.items))
-        (desk (D.state door.new) pass.new (starts_of lanes.new.items))
-        (K.held out.old) (K.held out.new) count result }
-    ensures cause { HasCauseTold (K.faults out.old) (K.faults out.new) result }
+        (desk_value (D.state desk.old.door.now) desk.old.pass.now (starts_of desk.old.lanes.items))
+        (desk_value (D.state desk.new.door.now) desk.new.pass.now (starts_of desk.new.lanes.items))
+        (K.held desk.old.out.now) (K.held desk.new.out.now) count result }
+    ensures cause { HasCauseTold (K.faults desk.old.out.now) (K.faults desk.new.out.now) result }
     ensures lanes { AreLanes (⟦<Service<'s, R, A, C, Q> as Watches<D::Conn>>⟧.watched service.now)
-        service.now.clock.now service.now.cases.now lanes.new.items }
-    ensures later { D.faults door.old ≤ D.faults door.new }
+        service.now.clock.now service.now.cases.now desk.new.lanes.items }
+    ensures later { D.faults desk.old.door.now ≤ D.faults desk.new.door.now }
+    ensures same { (desk.new.door.ghost_name ≡ desk.old.door.ghost_name) × (desk.new.out.ghost_name ≡ desk.old.out.ghost_name)
+        × (desk.new.pass.ghost_name ≡ desk.old.pass.ghost_name) }
 {
-    let end = take_in(service, door, pass, lanes);
-    write_line(service.alloc, out, count - lanes.len() as u64, end)
+    let end = take_in(service, desk);
+    write_line(service.alloc, desk.out, count - desk.lanes.len() as u64, end)
 }
 
 /// Whether the connection that came first was served.
@@ -111,33 +112,32 @@ pub(crate) fn tell_ended<
     Q: Cases + Shows,
 >(
     service: &Service<'s, R, A, C, Q>,
-    door: &mut D,
-    out: &mut K,
-    pass: &mut Pass<A>,
-    lanes: &mut VecDeque<Worker<D::Conn, A, C, Q>>,
+    desk: &mut Desk<'_, '_, '_, D, K, A, C, Q>,
     count: u64,
 ) -> Result<(), TextFault>
 where
     D::Conn: Drop,
     requires orderly { IsOrderly (⟦<Service<'s, R, A, C, Q> as Watches<D::Conn>>⟧.watched service.now) service.now.board.now.id
-        (desk (D.state door.old) pass.old (starts_of lanes.old.items)) }
+        (desk_value (D.state desk.old.door.now) desk.old.pass.now (starts_of desk.old.lanes.items)) }
     requires lanes { AreLanes (⟦<Service<'s, R, A, C, Q> as Watches<D::Conn>>⟧.watched service.now)
-        service.now.clock.now service.now.cases.now lanes.old.items }
-    requires count { deque_len lanes.old ≤ count }
+        service.now.clock.now service.now.cases.now desk.old.lanes.items }
+    requires count { deque_len desk.old.lanes ≤ count }
     ensures tells { TellsSome (⟦<Service<'s, R, A, C, Q> as Watches<D::Conn>>⟧.watched service.now) service.now.board.now.id
-        (desk (D.state door.old) pass.old (starts_of lanes.old.items))
-        (desk (D.state door.new) pass.new (starts_of lanes.new.items))
-        (K.held out.old) (K.held out.new) count result }
-    ensures cause { HasCauseTold (K.faults out.old) (K.faults out.new) result }
+        (desk_value (D.state desk.old.door.now) desk.old.pass.now (starts_of desk.old.lanes.items))
+        (desk_value (D.state desk.new.door.now) desk.new.pass.now (starts_of desk.new.lanes.items))
+        (K.held desk.old.out.now) (K.held desk.new.out.now) count result }
+    ensures cause { HasCauseTold (K.faults desk.old.out.now) (K.faults desk.new.out.now) result }
     ensures lanes { AreLanes (⟦<Service<'s, R, A, C, Q> as Watches<D::Conn>>⟧.watched service.now)
-        service.now.clock.now service.now.cases.now lanes.new.items }
-    ensures later { D.faults door.old ≤ D.faults door.new }
+        service.now.clock.now service.now.cases.now desk.new.lanes.items }
+    ensures later { D.faults desk.old.door.now ≤ D.faults desk.new.door.now }
+    ensures same { (desk.new.door.ghost_name ≡ desk.old.door.ghost_name) × (desk.new.out.ghost_name ≡ desk.old.out.ghost_name)
+        × (desk.new.pass.ghost_name ≡ desk.old.pass.ghost_name) }
 {
-    for _ in 0..lanes.len() {
-        if !is_first_settled(lanes) {
+    for _ in 0..desk.lanes.len() {
+        if !is_first_settled(&desk.lanes) {
             return Ok(());
         }
-        tell_next(service, door, out, pass, lanes, count)?;
+        tell_next(service, desk, count)?;
     }
     Ok(())
 }
@@ -153,53 +153,53 @@ pub(crate) fn tell_all<
     Q: Cases + Shows,
 >(
     service: &Service<'s, R, A, C, Q>,
-    door: &mut D,
-    out: &mut K,
-    pass: &mut Pass<A>,
-    lanes: &mut VecDeque<Worker<D::Conn, A, C, Q>>,
+    desk: &mut Desk<'_, '_, '_, D, K, A, C, Q>,
     count: u64,
 ) -> Result<(), TextFault>
 where
     D::Conn: Drop,
     requires orderly { IsOrderly (⟦<Service<'s, R, A, C, Q> as Watches<D::Conn>>⟧.watched service.now) service.now.board.now.id
-        (desk (D.state door.old) pass.old (starts_of lanes.old.items)) }
+        (desk_value (D.state desk.old.door.now) desk.old.pass.now (starts_of desk.old.lanes.items)) }
     requires lanes { AreLanes (⟦<Service<'s, R, A, C, Q> as Watches<D::Conn>>⟧.watched service.now)
-        service.now.clock.now service.now.cases.now lanes.old.items }
-    requires count { deque_len lanes.old ≤ count }
+        service.now.clock.now service.now.cases.now desk.old.lanes.items }
+    requires count { deque_len desk.old.lanes ≤ count }
     ensures tells { TellsAll (⟦<Service<'s, R, A, C, Q> as Watches<D::Conn>>⟧.watched service.now) service.now.board.now.id
-        (desk (D.state door.old) pass.old (starts_of lanes.old.items))
-        (desk (D.state door.new) pass.new (starts_of lanes.new.items))
-        (K.held out.old) (K.held out.new) count result }
-    ensures cause { HasCauseTold (K.faults out.old) (K.faults out.new) result }
+        (desk_value (D.state desk.old.door.now) desk.old.pass.now (starts_of desk.old.lanes.items))
+        (desk_value (D.state desk.new.door.now) desk.new.pass.now (starts_of desk.new.lanes.items))
+        (K.held desk.old.out.now) (K.held desk.new.out.now) count result }
+    ensures cause { HasCauseTold (K.faults desk.old.out.now) (K.faults desk.new.out.now) result }
     ensures lanes { AreLanes (⟦<Service<'s, R, A, C, Q> as Watches<D::Conn>>⟧.watched service.now)
-        service.now.clock.now service.now.cases.now lanes.new.items }
-    ensures later { D.faults door.old ≤ D.faults door.new }
+        service.now.clock.now service.now.cases.now desk.new.lanes.items }
+    ensures later { D.faults desk.old.door.now ≤ D.faults desk.new.door.now }
+    ensures same { (desk.new.door.ghost_name ≡ desk.old.door.ghost_name) × (desk.new.out.ghost_name ≡ desk.old.out.ghost_name)
+        × (desk.new.pass.ghost_name ≡ desk.old.pass.ghost_name) }
 {
-    for _ in 0..lanes.len() {
-        tell_next(service, door, out, pass, lanes, count)?;
+    for _ in 0..desk.lanes.len() {
+        tell_next(service, desk, count)?;
     }
     Ok(())
 }
 
 /// Takes in all connections that are being served, where no line is written any more.
-pub(crate) fn take_all<'s, R: Threads + Wait, D: Door, A: Admission, C: Clock, Q: Cases + Shows>(
+pub(crate) fn take_all<'s, R: Threads + Wait, D: Door, K: Sink, A: Admission, C: Clock, Q: Cases + Shows>(
     service: &Service<'s, R, A, C, Q>,
-    door: &mut D,
-    pass: &mut Pass<A>,
-    lanes: &mut VecDeque<Worker<D::Conn, A, C, Q>>,
+    desk: &mut Desk<'_, '_, '_, D, K, A, C, Q>,
 )
 where
     D::Conn: Drop,
     requires orderly { IsOrderly (⟦<Service<'s, R, A, C, Q> as Watches<D::Conn>>⟧.watched service.now) service.now.board.now.id
-        (desk (D.state door.old) pass.old (starts_of lanes.old.items)) }
+        (desk_value (D.state desk.old.door.now) desk.old.pass.now (starts_of desk.old.lanes.items)) }
     requires lanes { AreLanes (⟦<Service<'s, R, A, C, Q> as Watches<D::Conn>>⟧.watched service.now)
-        service.now.clock.now service.now.cases.now lanes.old.items }
+        service.now.clock.now service.now.cases.now desk.old.lanes.items }
     ensures takes { TakesAll (⟦<Service<'s, R, A, C, Q> as Watches<D::Conn>>⟧.watched service.now) service.now.board.now.id
-        (desk (D.state door.old) pass.old (starts_of lanes.old.items))
-        (desk (D.state door.new) pass.new (starts_of lanes.new.items)) }
-    ensures later { D.faults door.old ≤ D.faults door.new }
+        (desk_value (D.state desk.old.door.now) desk.old.pass.now (starts_of desk.old.lanes.items))
+        (desk_value (D.state desk.new.door.now) desk.new.pass.now (starts_of desk.new.lanes.items)) }
+    ensures later { D.faults desk.old.door.now ≤ D.faults desk.new.door.now }
+    ensures out { desk.new.out.now ≡ desk.old.out.now }
+    ensures same { (desk.new.door.ghost_name ≡ desk.old.door.ghost_name) × (desk.new.out.ghost_name ≡ desk.old.out.ghost_name)
+        × (desk.new.pass.ghost_name ≡ desk.old.pass.ghost_name) }
 {
-    for _ in 0..lanes.len() {
-        take_in(service, door, pass, lanes);
+    for _ in 0..desk.lanes.len() {
+        take_in(service, desk);
     }
 }

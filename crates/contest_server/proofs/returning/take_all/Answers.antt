@@ -3,7 +3,7 @@ use Rattle.std.proofs.Common.{[], refl, sym, subst, arith, append-nil}
 use Rattle.judge_server.specs.Exchanges.{around_of}
 use Rattle.contest_server.specs.Visits.{watch, with_cases}
 use Rattle.contest_server.specs.Lanes.{starts_of}
-use Rattle.contest_server.specs.Serving.{desk, Stands}
+use Rattle.contest_server.specs.Serving.{desk_value, Stands}
 use Rattle.contest_server.proofs.returning.take_all.Goals as goal
 
 pub loop-init : goal.loop-init
@@ -13,9 +13,11 @@ loop-init g c =
       stays = record { orderly = c.requires.orderly; seats = refl };
       count = omega arith;
       coming = refl;
-      taken = λ o visits h. ([], refl, subst (λ vs. Stands w o vs (desk (g.D.Door.state c.args.door.now) c.args.pass.now (starts_of c.args.lanes.now.items))) (sym (append-nil visits)) h);
+      taken = λ o visits h. ([], refl, subst (λ vs. Stands w o vs (desk_value (g.D.Door.state c.args.desk.now.door.now) c.args.desk.now.pass.now (starts_of c.args.desk.now.lanes.items))) (sym (append-nil visits)) h);
       lanes = c.requires.lanes;
       later = omega arith;
+      same = (refl, refl, refl);
+      out = refl;
     }
 
 pub loop-preserved : goal.loop-preserved

@@ -2,18 +2,20 @@ use Rattle.std.proofs.Common.{◌≡◌, ◌+◌, ◌≤◌, ◌++◌, List, len
 use Rattle.judge_server.specs.Exchanges.{around_of}
 use Rattle.contest_server.specs.Visits.{watch, with_cases, Visit}
 use Rattle.contest_server.specs.Lanes.{starts_of, AreLanes}
-use Rattle.contest_server.specs.Serving.{desk, StaysOrderly, Opening, Stands}
+use Rattle.contest_server.specs.Serving.{desk_value, StaysOrderly, Opening, Stands}
 use Rattle.contest_server.proofs.returning.take_all.Given as goal
 
 abbrev pub invariant-loop : goal.invariant-loop
 invariant-loop g l = record {
-  stays : StaysOrderly (with_cases (g.Q.Cases.case_at l.service.cases.now) (g.Q.Shows.shown l.service.cases.now) (watch g.D.Conn.Source.left g.D.Conn.Sink.held g.D.Conn.Source.faults g.D.Conn.Sink.faults (around_of (g.C.Clock.shows l.service.clock.now) g.D.Conn.Peer.asks))) l.service.board.now.id (desk (g.D.Door.state l.initial.door) l.initial.pass (starts_of l.initial.lanes.items))
-      (desk (g.D.Door.state l.door) l.pass (starts_of l.lanes.items));
-  count : length (starts_of l.lanes.items) + l.counter ≡ length (starts_of l.initial.lanes.items);
-  coming : (g.D.Door.state l.door).coming ≡ (g.D.Door.state l.initial.door).coming;
+  stays : StaysOrderly (with_cases (g.Q.Cases.case_at l.service.cases.now) (g.Q.Shows.shown l.service.cases.now) (watch g.D.Conn.Source.left g.D.Conn.Sink.held g.D.Conn.Source.faults g.D.Conn.Sink.faults (around_of (g.C.Clock.shows l.service.clock.now) g.D.Conn.Peer.asks))) l.service.board.now.id (desk_value (g.D.Door.state l.initial.desk.door.now) l.initial.desk.pass.now (starts_of l.initial.desk.lanes.items))
+      (desk_value (g.D.Door.state l.desk.door.now) l.desk.pass.now (starts_of l.desk.lanes.items));
+  count : length (starts_of l.desk.lanes.items) + l.counter ≡ length (starts_of l.initial.desk.lanes.items);
+  coming : (g.D.Door.state l.desk.door.now).coming ≡ (g.D.Door.state l.initial.desk.door.now).coming;
   taken : (o : Opening g.row.D-Conn.Denot) (visits : List (Visit g.row.D-Conn.Denot))
-      → Stands (with_cases (g.Q.Cases.case_at l.service.cases.now) (g.Q.Shows.shown l.service.cases.now) (watch g.D.Conn.Source.left g.D.Conn.Sink.held g.D.Conn.Source.faults g.D.Conn.Sink.faults (around_of (g.C.Clock.shows l.service.clock.now) g.D.Conn.Peer.asks))) o visits (desk (g.D.Door.state l.initial.door) l.initial.pass (starts_of l.initial.lanes.items))
-      → (more : List (Visit g.row.D-Conn.Denot)) × (length more ≡ l.counter) × Stands (with_cases (g.Q.Cases.case_at l.service.cases.now) (g.Q.Shows.shown l.service.cases.now) (watch g.D.Conn.Source.left g.D.Conn.Sink.held g.D.Conn.Source.faults g.D.Conn.Sink.faults (around_of (g.C.Clock.shows l.service.clock.now) g.D.Conn.Peer.asks))) o (visits ++ more) (desk (g.D.Door.state l.door) l.pass (starts_of l.lanes.items));
-  lanes : AreLanes (with_cases (g.Q.Cases.case_at l.service.cases.now) (g.Q.Shows.shown l.service.cases.now) (watch g.D.Conn.Source.left g.D.Conn.Sink.held g.D.Conn.Source.faults g.D.Conn.Sink.faults (around_of (g.C.Clock.shows l.service.clock.now) g.D.Conn.Peer.asks))) l.service.clock.now l.service.cases.now l.lanes.items;
-  later : g.D.Door.faults l.initial.door ≤ g.D.Door.faults l.door;
+      → Stands (with_cases (g.Q.Cases.case_at l.service.cases.now) (g.Q.Shows.shown l.service.cases.now) (watch g.D.Conn.Source.left g.D.Conn.Sink.held g.D.Conn.Source.faults g.D.Conn.Sink.faults (around_of (g.C.Clock.shows l.service.clock.now) g.D.Conn.Peer.asks))) o visits (desk_value (g.D.Door.state l.initial.desk.door.now) l.initial.desk.pass.now (starts_of l.initial.desk.lanes.items))
+      → (more : List (Visit g.row.D-Conn.Denot)) × (length more ≡ l.counter) × Stands (with_cases (g.Q.Cases.case_at l.service.cases.now) (g.Q.Shows.shown l.service.cases.now) (watch g.D.Conn.Source.left g.D.Conn.Sink.held g.D.Conn.Source.faults g.D.Conn.Sink.faults (around_of (g.C.Clock.shows l.service.clock.now) g.D.Conn.Peer.asks))) o (visits ++ more) (desk_value (g.D.Door.state l.desk.door.now) l.desk.pass.now (starts_of l.desk.lanes.items));
+  lanes : AreLanes (with_cases (g.Q.Cases.case_at l.service.cases.now) (g.Q.Shows.shown l.service.cases.now) (watch g.D.Conn.Source.left g.D.Conn.Sink.held g.D.Conn.Source.faults g.D.Conn.Sink.faults (around_of (g.C.Clock.shows l.service.clock.now) g.D.Conn.Peer.asks))) l.service.clock.now l.service.cases.now l.desk.lanes.items;
+  later : g.D.Door.faults l.initial.desk.door.now ≤ g.D.Door.faults l.desk.door.now;
+  same : (l.desk.door.ghost_name ≡ l.initial.desk.door.ghost_name) × (l.desk.out.ghost_name ≡ l.initial.desk.out.ghost_name) × (l.desk.pass.ghost_name ≡ l.initial.desk.pass.ghost_name);
+  out : l.desk.out.now ≡ l.initial.desk.out.now;
 }

@@ -4,7 +4,7 @@ use Rattle.std.proofs.lemmas.List.Elements.{All-head, All-tail}
 use Rattle.judge_server.specs.Exchanges.{around_of}
 use Rattle.contest_server.specs.Visits.{watch, with_cases}
 use Rattle.contest_server.specs.Lanes.{start_of, starts_of, visit_of, IsLane}
-use Rattle.contest_server.specs.Serving.{desk, IsReady, IsOrderly, TakesFirst}
+use Rattle.contest_server.specs.Serving.{desk_value, IsReady, IsOrderly, TakesFirst}
 use Rattle.contest_server.proofs.Stands.{takes}
 use Rattle.contest_server.proofs.returning.take_in.Goals as goal
 
@@ -23,12 +23,12 @@ returns-clause-takes g c =
     let board = c.args.service.now.board.now.id in
     let s = start_of c.in-Some.lane in
     let starts = starts_of c.pop_front.new.self.items in
-    let whole : starts_of c.args.lanes.now.items ≡ s ∷ starts = ap starts_of c.in-Some.ensures.items in
-    let door = g.D.Door.state c.args.door.now in
+    let whole : starts_of c.args.desk.now.lanes.items ≡ s ∷ starts = ap starts_of c.in-Some.ensures.items in
+    let door = g.D.Door.state c.args.desk.now.door.now in
     let door' = g.D.Door.state c.give_back.new.self in
-    let orderly = subst (λ xs. IsOrderly w board (desk door c.args.pass.now xs)) whole c.requires.orderly in
-    subst (λ xs. TakesFirst w board (desk door c.args.pass.now xs) (desk door' c.join.new.into starts) c.end-conn.result.end) (sym whole)
-    (takes w board door door' c.args.pass.now c.join.new.into s starts (visit_of s c.end-conn.result) c.end-conn.result.end orderly refl refl refl refl c.end-conn.ensures.answered c.join.ensures.join c.give_back.ensures.back)
+    let orderly = subst (λ xs. IsOrderly w board (desk_value door c.args.desk.now.pass.now xs)) whole c.requires.orderly in
+    subst (λ xs. TakesFirst w board (desk_value door c.args.desk.now.pass.now xs) (desk_value door' c.join.new.into starts) c.end-conn.result.end) (sym whole)
+    (takes w board door door' c.args.desk.now.pass.now c.join.new.into s starts (visit_of s c.end-conn.result) c.end-conn.result.end orderly refl refl refl refl c.end-conn.ensures.answered c.join.ensures.join c.give_back.ensures.back)
 
 pub returns-clause-lanes : goal.returns-clause-lanes
 returns-clause-lanes g c =

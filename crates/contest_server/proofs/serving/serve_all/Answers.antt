@@ -5,41 +5,41 @@ use Rattle.contest_server.specs.declared.accepting.Coming.TheVariants as coming
 use Rattle.judge_server.specs.Exchanges.{around_of}
 use Rattle.contest_server.specs.Visits.{watch, with_cases}
 use Rattle.contest_server.specs.Lanes.{start_of, starts_of}
-use Rattle.contest_server.specs.Serving.{desk, with_coming, ServesNext, ServesAll}
+use Rattle.contest_server.specs.Serving.{desk_value, with_coming, ServesNext, ServesAll}
 use Rattle.contest_server.proofs.Ending.{ends, before_all, before_end, before_fault, ends_broken}
 use Rattle.contest_server.proofs.serving.serve_all.Goals as goal
 
 pub end_with-requires-clause-count : goal.end_with-requires-clause-count
 end_with-requires-clause-count g c =
     let few = c.loop-i.invariant.under_way.few in
-    let more = subst (λ x. length (starts_of c.serve_next.new.lanes.items) ≤ with_coming (length (starts_of c.loop-i.lanes.items)) x) c.in-Ok-End.field-0-is c.in-Ok-End.ensures.serves.more in
+    let more = subst (λ x. length (starts_of c.serve_next.new.desk.lanes.items) ≤ with_coming (length (starts_of c.loop-i.desk.lanes.items)) x) c.in-Ok-End.field-0-is c.in-Ok-End.ensures.serves.more in
     let none = c.requires.none in
-    let first = length-map c.args.lanes.now.items start_of in
-    let last = length-map c.serve_next.new.lanes.items start_of in
-    let first_ok = c.args.lanes.now.ok.0 in
-    let last_ok = c.serve_next.new.lanes.ok.0 in
+    let first = length-map c.args.desk.now.lanes.items start_of in
+    let last = length-map c.serve_next.new.desk.lanes.items start_of in
+    let first_ok = c.args.desk.now.lanes.ok.0 in
+    let last_ok = c.serve_next.new.desk.lanes.ok.0 in
     omega (arith, few, more, none, first, last, first_ok, last_ok)
 
 pub end_with-requires-in-Ok-Failed-clause-count : goal.end_with-requires-in-Ok-Failed-clause-count
 end_with-requires-in-Ok-Failed-clause-count g c =
     let few = c.loop-i.invariant.under_way.few in
-    let more = subst (λ x. length (starts_of c.serve_next.new.lanes.items) ≤ with_coming (length (starts_of c.loop-i.lanes.items)) x) c.in-Ok-Failed.field-0-is c.in-Ok-Failed.ensures.serves.more in
+    let more = subst (λ x. length (starts_of c.serve_next.new.desk.lanes.items) ≤ with_coming (length (starts_of c.loop-i.desk.lanes.items)) x) c.in-Ok-Failed.field-0-is c.in-Ok-Failed.ensures.serves.more in
     let none = c.requires.none in
-    let first = length-map c.args.lanes.now.items start_of in
-    let last = length-map c.serve_next.new.lanes.items start_of in
-    let first_ok = c.args.lanes.now.ok.0 in
-    let last_ok = c.serve_next.new.lanes.ok.0 in
+    let first = length-map c.args.desk.now.lanes.items start_of in
+    let last = length-map c.serve_next.new.desk.lanes.items start_of in
+    let first_ok = c.args.desk.now.lanes.ok.0 in
+    let last_ok = c.serve_next.new.desk.lanes.ok.0 in
     omega (arith, few, more, none, first, last, first_ok, last_ok)
 
 pub returns-in-Ok-End-clause-serves : goal.returns-in-Ok-End-clause-serves
 returns-in-Ok-End-clause-serves g c =
     let w = with_cases (g.Q.Cases.case_at c.args.service.now.cases.now) (g.Q.Shows.shown c.args.service.now.cases.now) (watch g.D.Conn.Source.left g.D.Conn.Sink.held g.D.Conn.Source.faults g.D.Conn.Sink.faults (around_of (g.C.Clock.shows c.args.service.now.clock.now) g.D.Conn.Peer.asks)) in
     let came : ServesNext w c.args.service.now.board.now.id
-    (desk (g.D.Door.state c.loop-i.door) c.loop-i.pass (starts_of c.loop-i.lanes.items)) (desk (g.D.Door.state c.serve_next.new.door) c.serve_next.new.pass (starts_of c.serve_next.new.lanes.items))
-    (g.K.Sink.held c.loop-i.out) (g.K.Sink.held c.serve_next.new.out) c.loop-i.i (Ok coming.End) =
+    (desk_value (g.D.Door.state c.loop-i.desk.door.now) c.loop-i.desk.pass.now (starts_of c.loop-i.desk.lanes.items)) (desk_value (g.D.Door.state c.serve_next.new.desk.door.now) c.serve_next.new.desk.pass.now (starts_of c.serve_next.new.desk.lanes.items))
+    (g.K.Sink.held c.loop-i.desk.out.now) (g.K.Sink.held c.serve_next.new.desk.out.now) c.loop-i.i (Ok coming.End) =
     subst (λ x. ServesNext w c.args.service.now.board.now.id
-    (desk (g.D.Door.state c.loop-i.door) c.loop-i.pass (starts_of c.loop-i.lanes.items)) (desk (g.D.Door.state c.serve_next.new.door) c.serve_next.new.pass (starts_of c.serve_next.new.lanes.items))
-    (g.K.Sink.held c.loop-i.out) (g.K.Sink.held c.serve_next.new.out) c.loop-i.i (Ok x)) c.in-Ok-End.field-0-is c.in-Ok-End.ensures.serves in
+    (desk_value (g.D.Door.state c.loop-i.desk.door.now) c.loop-i.desk.pass.now (starts_of c.loop-i.desk.lanes.items)) (desk_value (g.D.Door.state c.serve_next.new.desk.door.now) c.serve_next.new.desk.pass.now (starts_of c.serve_next.new.desk.lanes.items))
+    (g.K.Sink.held c.loop-i.desk.out.now) (g.K.Sink.held c.serve_next.new.desk.out.now) c.loop-i.i (Ok x)) c.in-Ok-End.field-0-is c.in-Ok-End.ensures.serves in
     let b = before_end w c.args.service.now.board.now.id _ _ _ _ _ _ c.loop-i.i c.args.connections c.loop-i-test.true c.loop-i.invariant.under_way came in
     ends w c.args.service.now.board.now.id _ _ _ _ _ _ _ _ c.loop-i.i c.args.connections end.Done c.end_with.result b c.end_with.ensures.ends
 
@@ -47,20 +47,20 @@ pub returns-in-Ok-Failed-clause-serves : goal.returns-in-Ok-Failed-clause-serves
 returns-in-Ok-Failed-clause-serves g c =
     let w = with_cases (g.Q.Cases.case_at c.args.service.now.cases.now) (g.Q.Shows.shown c.args.service.now.cases.now) (watch g.D.Conn.Source.left g.D.Conn.Sink.held g.D.Conn.Source.faults g.D.Conn.Sink.faults (around_of (g.C.Clock.shows c.args.service.now.clock.now) g.D.Conn.Peer.asks)) in
     let came : ServesNext w c.args.service.now.board.now.id
-    (desk (g.D.Door.state c.loop-i.door) c.loop-i.pass (starts_of c.loop-i.lanes.items)) (desk (g.D.Door.state c.serve_next.new.door) c.serve_next.new.pass (starts_of c.serve_next.new.lanes.items))
-    (g.K.Sink.held c.loop-i.out) (g.K.Sink.held c.serve_next.new.out) c.loop-i.i (Ok coming.Failed) =
+    (desk_value (g.D.Door.state c.loop-i.desk.door.now) c.loop-i.desk.pass.now (starts_of c.loop-i.desk.lanes.items)) (desk_value (g.D.Door.state c.serve_next.new.desk.door.now) c.serve_next.new.desk.pass.now (starts_of c.serve_next.new.desk.lanes.items))
+    (g.K.Sink.held c.loop-i.desk.out.now) (g.K.Sink.held c.serve_next.new.desk.out.now) c.loop-i.i (Ok coming.Failed) =
     subst (λ x. ServesNext w c.args.service.now.board.now.id
-    (desk (g.D.Door.state c.loop-i.door) c.loop-i.pass (starts_of c.loop-i.lanes.items)) (desk (g.D.Door.state c.serve_next.new.door) c.serve_next.new.pass (starts_of c.serve_next.new.lanes.items))
-    (g.K.Sink.held c.loop-i.out) (g.K.Sink.held c.serve_next.new.out) c.loop-i.i (Ok x)) c.in-Ok-Failed.field-0-is c.in-Ok-Failed.ensures.serves in
+    (desk_value (g.D.Door.state c.loop-i.desk.door.now) c.loop-i.desk.pass.now (starts_of c.loop-i.desk.lanes.items)) (desk_value (g.D.Door.state c.serve_next.new.desk.door.now) c.serve_next.new.desk.pass.now (starts_of c.serve_next.new.desk.lanes.items))
+    (g.K.Sink.held c.loop-i.desk.out.now) (g.K.Sink.held c.serve_next.new.desk.out.now) c.loop-i.i (Ok x)) c.in-Ok-Failed.field-0-is c.in-Ok-Failed.ensures.serves in
     let b = before_fault w c.args.service.now.board.now.id _ _ _ _ _ _ c.loop-i.i c.args.connections c.loop-i-test.true c.loop-i.invariant.under_way came in
     ends w c.args.service.now.board.now.id _ _ _ _ _ _ _ _ c.loop-i.i c.args.connections end.DoorFault c.end_with-in-Ok-Failed.result b c.end_with-in-Ok-Failed.ensures.ends
 
 pub returns-in-Err-clause-serves : goal.returns-in-Err-clause-serves
 returns-in-Err-clause-serves g c =
     let w = with_cases (g.Q.Cases.case_at c.args.service.now.cases.now) (g.Q.Shows.shown c.args.service.now.cases.now) (watch g.D.Conn.Source.left g.D.Conn.Sink.held g.D.Conn.Source.faults g.D.Conn.Sink.faults (around_of (g.C.Clock.shows c.args.service.now.clock.now) g.D.Conn.Peer.asks)) in
-    let old = desk (g.D.Door.state c.args.door.now) c.args.pass.now (starts_of c.args.lanes.now.items) in
-    let new = desk (g.D.Door.state c.serve_next.new.door) c.serve_next.new.pass (starts_of c.serve_next.new.lanes.items) in
-    subst (λ e. ServesAll w c.args.service.now.board.now.id old new (g.K.Sink.held c.args.out.now) (g.K.Sink.held c.serve_next.new.out) c.args.connections e) (sym c.end_of.ensures)
+    let old = desk_value (g.D.Door.state c.args.desk.now.door.now) c.args.desk.now.pass.now (starts_of c.args.desk.now.lanes.items) in
+    let new = desk_value (g.D.Door.state c.serve_next.new.desk.door.now) c.serve_next.new.desk.pass.now (starts_of c.serve_next.new.desk.lanes.items) in
+    subst (λ e. ServesAll w c.args.service.now.board.now.id old new (g.K.Sink.held c.args.desk.now.out.now) (g.K.Sink.held c.serve_next.new.desk.out.now) c.args.connections e) (sym c.end_of.ensures)
     (ends_broken w c.args.service.now.board.now.id _ _ _ _ _ _ c.loop-i.i c.args.connections c.in-Err.fault c.loop-i-test.true c.loop-i.invariant.under_way c.in-Err.ensures.serves)
 
 pub returns-clause-serves : goal.returns-clause-serves
