@@ -160,6 +160,9 @@ TALK = [
     ("GET", "/public", None, 200, {"reply": "public", "rows": [{"submission": 1, "verdict": "wrong-answer"}, {"submission": 2, "verdict": "pending"}]}),
     ("GET", "/public?again", None, 200, {"reply": "public"}),
     ("POST", "/public", {}, 405, {"reply": "no-method"}),
+    ("GET", "/contest", None, 200, {"reply": "contest", "problems": ["echo"], "submissions": [
+        {"problem": "echo", "submission": 1, "team": "otters"}, {"problem": "echo", "submission": 2, "team": "newts"}]}),
+    ("POST", "/", {}, 405, {"reply": "no-method"}),
     ("GET", "/boards", None, 404, {"reply": "no-route"}),
     # a result that differs from one that was counted puts its host down
     ("POST", "/judgehosts/add-judging-run", H1 | {"judging": 1, "test": 1, "result": "timelimit"}, 409, {"reply": "differs"}),

@@ -23,7 +23,7 @@ fn head(alloc: Global, method: &str, target: &str) -> Result<Head, AllocError>
 }
 
 /// What a request asks: the line of its event, behind the word `tick` where time goes on first; `job` and the numbers of
-/// a judging and a test; `public`; or why it asks nothing.
+/// a judging and a test; `public`, `page` or `contest`; or why it asks nothing.
 fn shown(alloc: Global, asked: &Asked) -> Result<Text, NoMemory>
     requires { asked.now ≢ Asked.Refused (RequestFault.BadBody BodyFault.NoMemory) }
 {
@@ -41,6 +41,8 @@ fn shown(alloc: Global, asked: &Asked) -> Result<Text, NoMemory>
             Ok(Text::from_vec(shown.into_bytes()))
         }
         Asked::Public => Ok(Text::from_vec(Vec::from_slice(alloc, b"public")?)),
+        Asked::Page => Ok(Text::from_vec(Vec::from_slice(alloc, b"page")?)),
+        Asked::Contest => Ok(Text::from_vec(Vec::from_slice(alloc, b"contest")?)),
         Asked::Refused(fault) => {
             let mut sink = ReliableSink::new(Vec::with_capacity(alloc, 1000)?);
             let _end = answer_fault(alloc, &mut sink, false, fault);
@@ -80,6 +82,8 @@ const ASKED: &str = concat!(
     "POST /judgements/12/ask|{\"who\":\"eve\"} => @eve ask 12\n",
     "GET /board| => board\n",
     "GET /public?again|{ => public\n",
+    "GET /| => page\n",
+    "GET /contest| => contest\n",
     "GET /audit| => audit\n",
     "POST /rejudgings|{\"submissions\":[3,1]} => rejudge 3,1\n",
     "GET /rejudgings/4| => matrix 4\n",
@@ -89,7 +93,7 @@ const ASKED: &str = concat!(
 
 /// Requests that ask nothing, and the responses, in which `^` is a carriage return and `~` a line feed.
 const REFUSED: &str = concat!(
-    "GET /| => HTTP/1.1 404 Not Found^~content-length: 20^~content-type: application/json^~^~{\"reply\":\"no-route\"}\n",
+    "GET /index.html| => HTTP/1.1 404 Not Found^~content-length: 20^~content-type: application/json^~^~{\"reply\":\"no-route\"}\n",
     "GET /board/| => HTTP/1.1 404 Not Found^~content-length: 20^~content-type: application/json^~^~{\"reply\":\"no-route\"}\n",
     "GET /judgements/012| => HTTP/1.1 404 Not Found^~content-length: 20^~content-type: application/json^~^~{\"reply\":\"no-route\"}\n",
     "GET /judgements/4294967296| => HTTP/1.1 404 Not Found^~content-length: 20^~content-type: application/json^~^~{\"reply\":\"no-route\"}\n",

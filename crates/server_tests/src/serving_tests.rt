@@ -1,8 +1,8 @@
-ghost use Rattle.std.specs.Prelude.{◌≡◌, ℕ, ⊤};
-ghost use Rattle.judge_server.specs.Jobs.{gives_none};
+ghost use Rattle.std.specs.Prelude.{◌≡◌, ℕ, None, ⊤};
 
 use crate::talks::{check_bytes, check_end, conn_of, end_told, said};
 use command_text::write_event;
+use contest_page::ContestView;
 use farm_io::{FixedClock, ReliableConn};
 use farm_kinds::{Answer, Answers, Event, Kind, NoMemory, Reply, Text};
 use judge_server::{ConnEnd, Paths, Replier, serve_on};
@@ -11,10 +11,11 @@ use std::process::Abort;
 use std::test::Fail;
 
 /// Finds that every result differs, that every judging is of submission 3, and has nothing else to say. What the public
-/// sees is that submission 1 is pending. It has no cases.
+/// sees is that submission 1 is pending. It has no cases, and the names of a contest.
 #[derive(Drop)]
 struct Differing {
     alloc: Global,
+    contest: ContestView,
 }
 
 /// The events and looks that were asked, each with a bar behind it, and how many may follow.
@@ -41,7 +42,7 @@ impl Replier for Differing {
 
     ghost left = { λ asked. asked.left };
 
-    ghost gives = { λ replier. gives_none };
+    ghost gives = { λ replier. record { case = λ submission test case. case ≡ None; contest = replier.contest } };
 
     fn step(&self, state: &mut Asked, event: &Event) -> Reply {
         state.left -= 1;
@@ -76,6 +77,10 @@ impl Replier for Differing {
     ) -> Result<Option<Text>, NoMemory> {
         Ok(None)
     }
+
+    fn contest(&self) -> &ContestView {
+        &self.contest
+    }
 }
 
 /// What comes on a connection, how many requests are answered and how it ends, the events, and the responses, a line
@@ -85,31 +90,42 @@ const TALKS: &str = concat!(
     "last-timelimit host => 1 Closed => result h1 1 1 timelimit|down h1| => differs-timelimit\n",
     "rejudged-job => 1 End => owner 2| => no-job\n",
     "public host => 2 End => look|host h1| => public-pending nothing\n",
+    "contest host => 2 End => host h1| => no-names nothing\n",
     "host cut => 1 Cut => host h1| => nothing\n",
     "host no-head => 1 BadRequest => host h1| => nothing bad-head\n",
     " => 0 End =>  => \n",
 );
 
 /// Serves a connection at moment 7, and gives how it ended and the events that were asked.
-fn serve(alloc: Global, paths: &Paths, conn: &mut ReliableConn) -> (ConnEnd, Asked) {
+fn serve(
+    alloc: Global,
+    paths: &Paths,
+    replier: &Differing,
+    conn: &mut ReliableConn,
+) -> (ConnEnd, Asked) {
     let mut state = Asked {
         text: Vec::new(alloc),
         left: 1 << 42,
     };
-    let replier = Differing { alloc };
     let clock = FixedClock::new(7);
-    let end = serve_on(alloc, paths, &replier, &mut state, &clock, conn);
+    let end = serve_on(alloc, paths, replier, &mut state, &clock, conn);
     (end, state)
 }
 
 /// Compares how a connection ends, the events and the responses.
-fn check_talk(rt: &impl Abort, alloc: Global, paths: &Paths, talk: &str) -> Result<(), Fail> {
+fn check_talk(
+    rt: &impl Abort,
+    alloc: Global,
+    paths: &Paths,
+    replier: &Differing,
+    talk: &str,
+) -> Result<(), Fail> {
     let (sent, rest) = talk.split_once(" => ").unwrap_or((talk, ""));
     let (end, rest) = rest.split_once(" => ").unwrap_or((rest, ""));
     let (asked, responses) = rest.split_once(" => ").unwrap_or((rest, ""));
     let responses = said(alloc, responses)?;
     let mut conn = conn_of(alloc, sent)?;
-    let (ended, state) = serve(alloc, paths, &mut conn);
+    let (ended, state) = serve(alloc, paths, replier, &mut conn);
     let ended = end_told(alloc, ended)?;
     check_end(rt, ended.as_str(), end, sent);
     check_bytes(rt, state.text.as_slice(), asked.as_bytes(), sent);
@@ -120,8 +136,13 @@ fn check_talk(rt: &impl Abort, alloc: Global, paths: &Paths, talk: &str) -> Resu
 #[test]
 fn connections_are_served(rt: HostRuntime) -> Result<(), Fail> {
     let paths = Paths::new(rt.alloc())?;
+    let contest = ContestView::new(rt.alloc(), Vec::new(rt.alloc()), Vec::new(rt.alloc()))?;
+    let replier = Differing {
+        alloc: rt.alloc(),
+        contest,
+    };
     for talk in TALKS.lines() {
-        check_talk(&rt, rt.alloc(), &paths, talk)?;
+        check_talk(&rt, rt.alloc(), &paths, &replier, talk)?;
     }
     Ok(())
 }
