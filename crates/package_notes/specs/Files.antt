@@ -96,3 +96,25 @@ has_entries (entry ∷ entries) = true
 -- the note on validators that nothing asks for
 abbrev pub validator_notes : Bool → List Note
 validator_notes is_idle = if is_idle then note.Validators ∷ [] else []
+
+abbrev pub is_custom : Validation → Bool
+is_custom validation.Default = false
+is_custom validation.Custom = true
+
+abbrev pub reads_custom : Result YamlValue BadLine → Bool
+reads_custom (Ok yaml) = is_custom yaml.validation
+reads_custom (Err bad) = false
+
+-- outputs are checked by a validator of the package
+unfoldable pub says_custom : Option (List ℕ) → Bool
+says_custom None = false
+says_custom (Some text) = reads_custom (yaml_of text)
+
+-- the bytes 7F 45 4C 46 (System V ABI, "ELF Identification")
+abbrev pub begins_as_elf : List ℕ → Bool
+begins_as_elf bytes = bytes_eq (take 4 bytes) (127 ∷ 69 ∷ 76 ∷ 70 ∷ [])
+
+-- the note on a validator of this name with these bytes
+abbrev pub elf_note_on : List ℕ → Option (List ℕ) → Option Note
+elf_note_on name None = None
+elf_note_on name (Some bytes) = if begins_as_elf bytes then Some (note.ElfValidator name) else None

@@ -60,12 +60,7 @@ pub fn fault_text(alloc: Global, fault: &PackageFault, yaml: &[u8]) -> Result<St
             )
         }
         PackageFault::BadValidator { name } => {
-            about(
-                alloc,
-                "output_validators/",
-                name,
-                "it is no raw image, which has 1 to 262144 words of 4 bytes",
-            )
+            about(alloc, "output_validators/", name, NO_RAW_IMAGE)
         }
         PackageFault::TooLarge { name, len } => large_text(alloc, name, *len),
         PackageFault::Tree => String::from_str(alloc, "a file or folder could not be read"),
@@ -84,6 +79,16 @@ pub fn flag_text(alloc: Global, fault: FlagFault) -> Result<String, AllocError> 
     }
 }
 
+/// What is wrong with an answer whose token of this number, from 0, is too wide for a tolerance.
+pub fn wide_token_text(alloc: Global, at: usize) -> Result<String, AllocError> {
+    format!(in alloc;
+        "token {at} (from 0) is a number of 10^12 or more, which a tolerance cannot be used with"
+    )
+}
+
+/// What is wrong with a validator that is no raw image.
+pub const NO_RAW_IMAGE: &str = "it is no raw image, which has 1 to 262144 words of 4 bytes";
+
 /// What is wrong with a file of this name behind this folder.
 fn about(alloc: Global, folder: &str, name: &Text, wrong: &str) -> Result<String, AllocError> {
     let name = shown(alloc, name)?;
@@ -92,12 +97,12 @@ fn about(alloc: Global, folder: &str, name: &Text, wrong: &str) -> Result<String
 
 fn wide_text(alloc: Global, name: &Text, at: usize) -> Result<String, AllocError> {
     let name = shown(alloc, name)?;
-    format!(in alloc;
-        "data/{name}.ans: token {at} (from 0) is a number of 10^12 or more, which a tolerance cannot be used with"
-    )
+    let text = wide_token_text(alloc, at)?;
+    format!(in alloc; "data/{name}.ans: {text}")
 }
 
-fn large_text(alloc: Global, name: &Text, len: u64) -> Result<String, AllocError> {
+/// What is wrong with a file of so many bytes, which are too many.
+pub fn large_text(alloc: Global, name: &Text, len: u64) -> Result<String, AllocError> {
     let name = shown(alloc, name)?;
     format!(in alloc; "{name}: the file has {len} bytes, and at most 16777216 are read")
 }

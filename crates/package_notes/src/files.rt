@@ -50,7 +50,7 @@ fn notes_among(
 }
 
 /// Adds a note, where there is one.
-fn push_some(notes: &mut Vec<Note>, note: Option<Note>) -> Result<(), NoMemory>
+pub(crate) fn push_some(notes: &mut Vec<Note>, note: Option<Note>) -> Result<(), NoMemory>
     ensures { OnOk result (notes.new.items ≡ notes.old.items ++ cons_option note []) }
 {
     match note {

@@ -14,7 +14,7 @@ mod settings;
 mod texts;
 mod worked;
 
-pub use faults::{fault_text, flag_text};
+pub use faults::{NO_RAW_IMAGE, fault_text, flag_text, large_text, wide_token_text};
 pub use notes::Note;
 pub use package::package_notes;
 pub use texts::note_text;

@@ -25,4 +25,6 @@ pub enum Note {
     OtherFolder { name: Text },
     /// There are validators in `output_validators`, and `problem.yaml` asks for none.
     Validators,
+    /// A file of `output_validators` that is asked for and begins as an ELF file; its path below the package's folder.
+    ElfValidator { name: Text },
 }

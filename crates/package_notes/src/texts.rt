@@ -31,6 +31,10 @@ pub fn note_text(alloc: Global, note: &Note) -> Result<String, AllocError> {
                 "data/{name}: it is neither data/sample nor data/secret, so it is not read"
             )
         }
+        Note::ElfValidator { name } => {
+            let name = shown(alloc, name)?;
+            format!(in alloc; "{name}: it begins as an ELF file, and is run as a raw image")
+        }
         Note::Validators => String::from_str(
             alloc,
             "output_validators: problem.yaml does not set validation to custom, so it is not read",

@@ -3,7 +3,7 @@ use Rattle.package_folder.specs.Names.{paths_below}
 use Rattle.package_folder.specs.Reading.{data_of}
 use Rattle.package_notes.specs.Package.{text_in}
 use Rattle.package_notes.proofs.Parts.{notes_by}
-use Rattle.package_notes.proofs.package.package_notes.Goals as goal
+use Rattle.package_notes.proofs.package.skipped_notes.Goals as goal
 
 pub returns-clause-notes : goal.returns-clause-notes
 returns-clause-notes g c = λ files told.
