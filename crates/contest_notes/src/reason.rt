@@ -1,41 +1,42 @@
 //! Why a folder is no contest, and where it is to be mended.
+ghost use Rattle.std.specs.Prelude.{◌≡◌, ◌≤◌};
+
 use crate::lines::{Line, line_of, word_of};
 use crate::mistakes::{mistake_in, mistake_text, shown};
-use crate::plain::plain;
-use contest_folder::{ContestFault, read_contest};
+use contest_folder::ContestFault;
 use farm_kinds::{Kind, Text};
-use farm_settings::{Setting, SettingsErr, SettingsFault, read_settings};
+use farm_settings::{Setting, SettingsFault};
 use farm_tree::{Tree, TreeErr};
 use package_folder::PackageFault;
-use package_notes::fault_text;
+use package_notes::{fault_text, large_text};
 use std::alloc::{AllocError, Global};
 
-/// Why the folder at the path is no contest, as its files are now. None where it is one, and where it cannot be read.
-pub fn contest_reason<T: Tree>(
-    alloc: Global,
-    tree: &mut T,
-    folder: &str,
-) -> Result<Option<String>, AllocError> {
-    let fault = match read_contest(alloc, tree, folder) {
-        Ok(_) => return Ok(None),
-        Err(fault) => fault,
-    };
-    match &fault {
-        ContestFault::Tree | ContestFault::NoMemory => Ok(None),
-        fault => {
-            let reason = fault_reason(alloc, tree, folder, fault)?;
-            Ok(Some(plain(alloc, reason.as_str())?))
-        }
-    }
-}
-
-/// What a person is told of the fault of the contest in the folder.
-fn fault_reason<T: Tree>(
+/// What a person is told of the fault of the contest in the folder. None where the tree failed, or no memory was left.
+pub(crate) fn fault_reason<T: Tree>(
     alloc: Global,
     tree: &mut T,
     folder: &str,
     fault: &ContestFault,
-) -> Result<String, AllocError> {
+) -> Result<Option<String>, AllocError>
+    ensures same { T.files tree.new ≡ T.files tree.old }
+    ensures later { T.faults tree.old ≤ T.faults tree.new }
+{
+    match fault {
+        ContestFault::Tree | ContestFault::NoMemory => Ok(None),
+        fault => Ok(Some(reason_of(alloc, tree, folder, fault)?)),
+    }
+}
+
+/// What a person is told of a fault of the folder itself.
+fn reason_of<T: Tree>(
+    alloc: Global,
+    tree: &mut T,
+    folder: &str,
+    fault: &ContestFault,
+) -> Result<String, AllocError>
+    ensures same { T.files tree.new ≡ T.files tree.old }
+    ensures later { T.faults tree.old ≤ T.faults tree.new }
+{
     match fault {
         ContestFault::Settings(fault) => {
             let text = settings_reason(alloc, fault)?;
@@ -72,10 +73,7 @@ fn limit_reason(alloc: Global, fault: &ContestFault) -> Result<String, AllocErro
         ContestFault::TooMuch { total } => format!(in alloc;
             "the files of tests and submissions have {total} bytes and more, and at most 1073741824 are held"
         ),
-        ContestFault::TooLarge { name, len } => {
-            let name = shown(name.as_slice());
-            format!(in alloc; "{name}: the file has {len} bytes, and at most 16777216 are read")
-        }
+        ContestFault::TooLarge { name, len } => large_text(alloc, name, *len),
         _ => String::from_str(alloc, "it cannot be read"),
     }
 }
@@ -87,7 +85,10 @@ fn package_reason<T: Tree>(
     folder: &str,
     short: &str,
     fault: &PackageFault,
-) -> Result<String, AllocError> {
+) -> Result<String, AllocError>
+    ensures same { T.files tree.new ≡ T.files tree.old }
+    ensures later { T.faults tree.old ≤ T.faults tree.new }
+{
     let path = format!(in alloc; "{folder}/problems/{short}/problem.yaml")?;
     let yaml = read_or_nothing(alloc, tree, path.as_str());
     let text = fault_text(alloc, fault, yaml.as_slice())?;
@@ -95,7 +96,10 @@ fn package_reason<T: Tree>(
 }
 
 /// What is told where there is no `submissions.txt`.
-fn list_reason<T: Tree>(alloc: Global, tree: &mut T, folder: &str) -> Result<String, AllocError> {
+fn list_reason<T: Tree>(alloc: Global, tree: &mut T, folder: &str) -> Result<String, AllocError>
+    ensures same { T.files tree.new ≡ T.files tree.old }
+    ensures later { T.faults tree.old ≤ T.faults tree.new }
+{
     match tree.list(folder) {
         Err(TreeErr::Absent) => format!(in alloc; "there is no folder {folder}"),
         _ => String::from_str(alloc, "there is no submissions.txt"),
@@ -120,7 +124,10 @@ fn line_reason<T: Tree>(
     folder: &str,
     line: u32,
     wrong: Wrong,
-) -> Result<String, AllocError> {
+) -> Result<String, AllocError>
+    ensures same { T.files tree.new ≡ T.files tree.old }
+    ensures later { T.faults tree.old ≤ T.faults tree.new }
+{
     let path = format!(in alloc; "{folder}/submissions.txt")?;
     let text = read_or_nothing(alloc, tree, path.as_str());
     let said = match line_of(text.as_slice(), line) {
@@ -146,49 +153,18 @@ fn wrong_text(alloc: Global, found: Line<'_>, wrong: Wrong) -> Result<String, Al
 }
 
 /// The bytes of a file, or none where it cannot be read.
-pub(crate) fn read_or_nothing<T: Tree>(alloc: Global, tree: &mut T, path: &str) -> Text {
+pub(crate) fn read_or_nothing<T: Tree>(alloc: Global, tree: &mut T, path: &str) -> Text
+    ensures same { T.files tree.new ≡ T.files tree.old }
+    ensures later { T.faults tree.old ≤ T.faults tree.new }
+{
     match tree.read(path) {
         Ok(text) => text,
         Err(_) => Text::new(alloc),
     }
 }
 
-/// Why the file at the path sets nothing, as it is now. None where it does, and where it cannot be read.
-pub fn file_reason<T: Tree>(
-    alloc: Global,
-    tree: &mut T,
-    file: &str,
-) -> Result<Option<String>, AllocError> {
-    match reason_of_file(alloc, tree, file)? {
-        Some(reason) => Ok(Some(plain(alloc, reason.as_str())?)),
-        None => Ok(None),
-    }
-}
-
-/// The same, with the bytes of the file as they stand.
-fn reason_of_file<T: Tree>(
-    alloc: Global,
-    tree: &mut T,
-    file: &str,
-) -> Result<Option<String>, AllocError> {
-    let text = match tree.read(file) {
-        Ok(text) => text,
-        Err(TreeErr::Absent) => return Ok(Some(String::from_str(alloc, "there is no such file")?)),
-        Err(TreeErr::TooLarge { len }) => {
-            return Ok(Some(format!(in alloc;
-                "it has {len} bytes, and at most 16777216 are read"
-            )?));
-        }
-        Err(_) => return Ok(None),
-    };
-    match read_settings(alloc, text.as_slice()) {
-        Err(SettingsErr::Bad(fault)) => Ok(Some(settings_reason(alloc, &fault)?)),
-        _ => Ok(None),
-    }
-}
-
 /// What a person is told of a fault of `farm.json`, or of another file that sets the same.
-fn settings_reason(alloc: Global, fault: &SettingsFault) -> Result<String, AllocError> {
+pub fn settings_reason(alloc: Global, fault: &SettingsFault) -> Result<String, AllocError> {
     match fault {
         SettingsFault::NotJson => {
             String::from_str(alloc, "it is no JSON object, or is nested deeper than 127")

@@ -1,103 +1,108 @@
-use case_run::image_ok;
+//! The fault of a file that is no program.
+ghost use Rattle.std.specs.Prelude.{◌≡◌, IfNone, IfSome, true, false};
+ghost use Rattle.std.specs.List.{list_all};
+ghost use Rattle.std.specs.Str.{is_utf8};
+ghost use Rattle.elf_image.specs.Header.{has_magic};
+ghost use Rattle.case_run.specs.Images.{is_image};
+ghost use Rattle.program_notes.specs.Faults.{is_source, is_written, no_raw_image, program_fault, raw_fault};
+
 use elf_image::{ElfFault, read_elf};
-use std::alloc::{AllocError, Global};
+use farm_kinds::raw_image;
 use std::str;
 
-/// How many bytes a program has at most.
+/// How many bytes a program has at most: 1 MiB.
 const LIMIT: usize = 1_048_576;
 
-/// Why the bytes of a file are no program, as the words behind the file's name. None where they are one.
-pub fn program_fault(alloc: Global, bytes: &[u8]) -> Result<Option<String>, AllocError> {
-    if image_ok(bytes) {
-        return Ok(None);
-    }
+/// Why the bytes of a file are no program: the first fault in this order.
+#[derive(Clone, Copy, Debug, PartialEq, Eq)]
+pub enum ProgramFault {
+    /// They are so many, which are more than 1 MiB.
+    Size(u64),
+    /// They begin as an ELF file, which has this fault.
+    Elf(ElfFault),
+    /// There are none.
+    Empty,
+    /// They are a text, such as a source.
+    Source,
+    /// They are so many, which is no multiple of 4.
+    Length(u64),
+}
+
+/// The fault of the bytes of a file. None where they are a program, as those who judge it have it.
+#[tactic(auto, unfolding(case_run::specs::Images::is_image))]
+pub fn program_fault(bytes: &[u8]) -> Option<ProgramFault>
+    ensures fault { result ≡ program_fault bytes.now }
+    ensures program { IfNone result (is_image bytes.now ≡ true) }
+    ensures none { IfSome result (λ _. is_image bytes.now ≡ false) }
+{
     if bytes.len() > LIMIT {
-        return Ok(Some(size_fault(alloc, bytes.len() as u64)?));
+        return Some(ProgramFault::Size(bytes.len() as u64));
     }
-    if bytes.starts_with(b"\x7fELF") {
-        let text = match read_elf(bytes) {
-            Ok(_) => "is an ELF file",
-            Err(fault) => elf_text(bytes, fault),
-        };
-        return Ok(Some(String::from_str(alloc, text)?));
+    if !has_magic(bytes) {
+        return raw_fault(bytes);
     }
-    Ok(Some(raw_text(alloc, bytes)?))
+    match read_elf(bytes) {
+        Ok(_) => None,
+        Err(fault) => Some(ProgramFault::Elf(fault)),
+    }
 }
 
-/// What is told of a file of so many bytes, which are too many.
-pub fn size_fault(alloc: Global, len: u64) -> Result<String, AllocError> {
-    format!(in alloc; "has {len} bytes, and a program has at most 1048576")
+/// Whether the bytes begin as an ELF file.
+fn has_magic(bytes: &[u8]) -> bool
+    ensures { result ≡ has_magic bytes.now }
+{
+    bytes.len() >= 4 && bytes[0] == 0x7F && bytes[1] == b'E' && bytes[2] == b'L' && bytes[3] == b'F'
 }
 
-/// What is told of a file that is no ELF file.
-fn raw_text(alloc: Global, bytes: &[u8]) -> Result<String, AllocError> {
-    let len = bytes.len();
-    if len == 0 {
-        return String::from_str(alloc, "is empty");
+/// The fault of bytes that do not begin as an ELF file.
+fn raw_fault(bytes: &[u8]) -> Option<ProgramFault>
+    ensures { result ≡ raw_fault bytes.now }
+{
+    if raw_image(bytes) {
+        return None;
+    }
+    Some(no_raw_image(bytes))
+}
+
+/// The fault of bytes that are no raw image.
+fn no_raw_image(bytes: &[u8]) -> ProgramFault
+    ensures { result ≡ no_raw_image bytes.now }
+{
+    if bytes.is_empty() {
+        return ProgramFault::Empty;
     }
     if is_source(bytes) {
-        return String::from_str(alloc, "is text, and nothing is compiled here");
+        return ProgramFault::Source;
     }
-    format!(in alloc;
-        "is no ELF file, and its {len} bytes are no multiple of 4 as those of a raw image"
-    )
+    ProgramFault::Length(bytes.len() as u64)
 }
 
 /// Whether the bytes are a text without control characters other than white space.
-fn is_source(bytes: &[u8]) -> bool {
-    str::from_utf8(bytes).is_ok() && bytes.iter().all(|b| *b >= 32 || (*b >= 9 && *b <= 13))
+fn is_source(bytes: &[u8]) -> bool
+    ensures { result ≡ is_source bytes.now }
+{
+    is_utf8(bytes) && are_written(bytes)
 }
 
-/// What is told of an ELF file.
-fn elf_text(bytes: &[u8], fault: ElfFault) -> &'static str {
-    match fault {
-        ElfFault::NotElf => "is an ELF file that is cut off in its header",
-        ElfFault::WrongClass { .. } => class_text(bytes),
-        ElfFault::WrongOrder { .. } => "is an ELF file for a big-endian machine",
-        ElfFault::WrongKind { kind } => kind_text(kind),
-        ElfFault::WrongMachine { machine } => machine_text(machine),
-        ElfFault::BadEntrySize { .. } =>
-            "is an ELF file whose program headers have another size than 32",
-        ElfFault::TooMany { .. } => "is an ELF file with more than 16 program headers",
-        ElfFault::Truncated { .. } => "is an ELF file that ends before its program headers do",
-        ElfFault::PastFile { .. } => "is an ELF file that ends before its segments do",
-        ElfFault::FileOverSize { .. } => {
-            "is an ELF file with a segment that has more bytes in the file than in memory"
-        }
-        ElfFault::PastMemory { .. } => "is an ELF file with a segment that ends past 2^32",
-        ElfFault::Overlap { .. } => "is an ELF file whose segments overlap in memory",
-        ElfFault::NoSegment => "is an ELF file without a segment that is loaded",
-        ElfFault::BadStart { .. } =>
-            "is an ELF file that begins at an address which is no multiple of 4",
+/// Whether the bytes are UTF-8.
+fn is_utf8(bytes: &[u8]) -> bool
+    ensures { result ≡ is_utf8 bytes.now }
+{
+    match str::from_utf8(bytes) {
+        Ok(_) => true,
+        Err(_) => false,
     }
 }
 
-/// What is told of an ELF file of another class: for a machine of 64 bits.
-fn class_text(bytes: &[u8]) -> &'static str {
-    match bytes.get(18) {
-        Some(62) => "is a 64-bit ELF file for x86-64, and no 32-bit one for RISC-V",
-        Some(183) => "is a 64-bit ELF file for ARM, and no 32-bit one for RISC-V",
-        Some(243) => "is a 64-bit ELF file for RISC-V, and no 32-bit one",
-        _ => "is a 64-bit ELF file, and no 32-bit one for RISC-V",
-    }
+/// Whether no byte is a control character other than white space.
+fn are_written(bytes: &[u8]) -> bool
+    ensures { result ≡ list_all is_written bytes.now }
+{
+    bytes.iter().all(|b| is_written(*b))
 }
 
-/// What is told of an ELF file of another kind (System V ABI, "ELF Header", `e_type`).
-fn kind_text(kind: u32) -> &'static str {
-    match kind {
-        1 => "is an ELF object file that was not linked",
-        3 =>
-            "is an ELF shared library or position-independent executable (link it with -static -no-pie)",
-        _ => "is an ELF file that is no executable",
-    }
-}
-
-/// What is told of an ELF file for another machine (System V ABI, "ELF Header", `e_machine`).
-fn machine_text(machine: u32) -> &'static str {
-    match machine {
-        3 => "is an ELF file for x86, and not for RISC-V",
-        40 => "is an ELF file for ARM, and not for RISC-V",
-        62 => "is an ELF file for x86-64, and not for RISC-V",
-        _ => "is an ELF file for another machine than RISC-V",
-    }
+fn is_written(b: u8) -> bool
+    ensures { result ≡ is_written b }
+{
+    b >= 32 || (b >= 9 && b <= 13)
 }
