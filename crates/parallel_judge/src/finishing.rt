@@ -7,18 +7,18 @@ ghost use Rattle.parallel_judge.specs.Noting.{StillKeeps};
 ghost use Rattle.parallel_judge.specs.Working.{IsReady, IsHonestRun, IsTurned, with_task, row_lengths};
 
 use crate::noted::NotedFarm;
-use crate::progress::Progress;
 use case_run::{Cases, run_case};
 use farm_kinds::{Event, Name, NoMemory, Reply, Task};
+use people::Person;
 use std::alloc::Global;
 
 /// Works off the open tasks as one host: claims a task, runs it and enters its result, until none is open.
-pub(crate) fn finish<C: Cases, P: Progress>(
+pub(crate) fn finish<C: Cases, P: Person>(
     alloc: Global,
     noted: &mut NotedFarm,
     cases: &C,
     host: Name,
-    progress: &mut P,
+    person: &mut P,
 ) -> Result<(), NoMemory>
     requires { IsReady (C.case_at cases.now) host noted.old.farm }
     ensures ready { IfOk result (λ _. IsReady (C.case_at cases.now) host noted.new.farm) }
@@ -28,17 +28,17 @@ pub(crate) fn finish<C: Cases, P: Progress>(
     ensures journal { StillKeeps (C.case_at cases.now) noted.old noted.new }
     ensures kept { is_some noted.new.history ≡ is_some noted.old.history }
 {
-    while judge_next(alloc, noted, cases, host, progress)? {}
+    while judge_next(alloc, noted, cases, host, person)? {}
     Ok(())
 }
 
 /// Claims one task, runs it and enters its result. False where no task is open.
-fn judge_next<C: Cases, P: Progress>(
+fn judge_next<C: Cases, P: Person>(
     alloc: Global,
     noted: &mut NotedFarm,
     cases: &C,
     host: Name,
-    progress: &mut P,
+    person: &mut P,
 ) -> Result<bool, NoMemory>
     requires { IsReady (C.case_at cases.now) host noted.old.farm }
     ensures turned { IfOk result (λ more. more ≡ true → IsTurned (C.case_at cases.now) host noted.old.farm noted.new.farm) }
@@ -53,7 +53,7 @@ fn judge_next<C: Cases, P: Progress>(
     let Some(case) = cases.case_of(task) else {
         return Ok(false);
     };
-    progress.runs(task);
+    person.runs(task);
     let kind = run_case(alloc, &case)?;
     noted.enter(&Event::Result {
         host,

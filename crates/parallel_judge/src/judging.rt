@@ -14,12 +14,12 @@ use crate::finishing::finish;
 use crate::hosts::run_hosts;
 use crate::names::{caller, host_name};
 use crate::noted::NotedFarm;
-use crate::progress::Progress;
 use crate::verdicts::read_table;
 use contest_folder::Roster;
 use farm_board::{Admission, History};
 use farm_kinds::{Event, NoMemory, TableRows};
 use judgehost::Gate;
+use people::Person;
 use std::alloc::Global;
 use std::marker::Brand;
 use std::sync::Wait;
@@ -37,33 +37,33 @@ pub struct Outcome {
 
 /// Judges a contest by so many host threads, at most 16, and gives its table. The hosts `h1` and so on work at the same
 /// time, each until no task is open or its gate lets it die; then all are brought down, and what they left is done by
-/// the caller as host `h0`. `progress` is told of the caller's tests alone.
-pub fn judge_all<R: Threads + Wait + Sync, G: Gate + Sync, P: Progress>(
+/// the caller as host `h0`. `person` is told of the caller's tests alone.
+pub fn judge_all<R: Threads + Wait + Sync, G: Gate + Sync, P: Person>(
     rt: &R,
     alloc: Global,
     roster: &Roster,
     hosts: u16,
     gate: &G,
     journal: bool,
-    progress: &mut P,
+    person: &mut P,
 ) -> Result<Outcome, NoMemory>
     requires hosts { hosts ≤ 16 }
     ensures table { IfOk result (λ outcome. outcome.table ≡ table_rows roster.now) }
     ensures kept { IfOk result (λ outcome. is_some outcome.history ≡ journal) }
     ensures journal { IfOk result (λ outcome. (calls : List Call) → outcome.history ≡ Some calls → IsJournal roster.now hosts calls) }
 {
-    judge_named::<Brand, R, G, P>(rt, alloc, roster, hosts, gate, journal, progress)
+    judge_named::<Brand, R, G, P>(rt, alloc, roster, hosts, gate, journal, person)
 }
 
 /// The same, where the type `A` says which results are admitted.
-fn judge_named<A: Admission + Send + Sync, R: Threads + Wait + Sync, G: Gate + Sync, P: Progress>(
+fn judge_named<A: Admission + Send + Sync, R: Threads + Wait + Sync, G: Gate + Sync, P: Person>(
     rt: &R,
     alloc: Global,
     roster: &Roster,
     hosts: u16,
     gate: &G,
     journal: bool,
-    progress: &mut P,
+    person: &mut P,
 ) -> Result<Outcome, NoMemory>
     requires named { A.admits ≡ admits_of (case_at roster.now) }
     requires hosts { hosts ≤ 16 }
@@ -72,18 +72,18 @@ fn judge_named<A: Admission + Send + Sync, R: Threads + Wait + Sync, G: Gate + S
     ensures journal { IfOk result (λ outcome. (calls : List Call) → outcome.history ≡ Some calls → IsJournal roster.now hosts calls) }
 {
     let mut noted = run_hosts::<A, R, G>(rt, alloc, roster, hosts, gate, journal)?;
-    let outcome = judge_rest(alloc, &mut noted, roster, hosts, progress);
+    let outcome = judge_rest(alloc, &mut noted, roster, hosts, person);
     drop(noted);
     outcome
 }
 
 /// Judges what the hosts left, and gives the table with the journal.
-fn judge_rest<P: Progress>(
+fn judge_rest<P: Person>(
     alloc: Global,
     noted: &mut NotedFarm,
     roster: &Roster,
     hosts: u16,
-    progress: &mut P,
+    person: &mut P,
 ) -> Result<Outcome, NoMemory>
     requires hosts { hosts ≤ 16 }
     requires under_way { IsUnderWay roster.now.settings (case_at roster.now) (map (tests_for roster.now) roster.now.submissions) [] (host_names hosts) noted.old.farm }
@@ -92,18 +92,18 @@ fn judge_rest<P: Progress>(
     ensures kept { IfOk result (λ outcome. is_some outcome.history ≡ is_some noted.old.history) }
     ensures journal { IfOk result (λ outcome. (calls : List Call) → outcome.history ≡ Some calls → IsJournal roster.now hosts calls) }
 {
-    let table = judge_left(alloc, noted, roster, hosts, progress)?;
+    let table = judge_left(alloc, noted, roster, hosts, person)?;
     let history = noted.history.take();
     Ok(Outcome { table, history })
 }
 
 /// Brings the hosts down, does what they left, and reads the table.
-fn judge_left<P: Progress>(
+fn judge_left<P: Person>(
     alloc: Global,
     noted: &mut NotedFarm,
     roster: &Roster,
     hosts: u16,
-    progress: &mut P,
+    person: &mut P,
 ) -> Result<TableRows, NoMemory>
     requires hosts { hosts ≤ 16 }
     requires under_way { IsUnderWay roster.now.settings (case_at roster.now) (map (tests_for roster.now) roster.now.submissions) [] (host_names hosts) noted.old.farm }
@@ -115,8 +115,8 @@ fn judge_left<P: Progress>(
     bring_down(noted, hosts)?;
     let host = caller();
     noted.enter(&Event::Host { name: host })?;
-    let finished = finish(alloc, noted, roster, host, progress);
-    progress.ends();
+    let finished = finish(alloc, noted, roster, host, person);
+    person.ends();
     finished?;
     read_table(alloc, noted, roster)
 }
