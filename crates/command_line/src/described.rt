@@ -184,8 +184,8 @@ const FOLDER: &str =
     "The contest: problems/NAME/ for each package, submissions.txt, submissions/, farm.json";
 
 const STATUSES: &str = "\
-Status: 0 done, 2 usage, 3 bad settings, contest or password, 4 read fault, 5 write fault,
-6 no memory, 7 file fault, 8 port or connection fault, 9 input limit, 10 no
+Status: 0 done, 2 usage, 3 bad settings, contest or password, 4 read fault, 5 write
+fault, 6 no memory, 7 file fault, 8 port or connection fault, 9 input limit, 10 no
 connection to the server, 11 wrong answer of the server, 12 a store that failed,
 13 no store of this configuration, 14 a full store.";
 
@@ -202,8 +202,8 @@ const SERVE: &str = "\
 Standard error says at which port it listens. Standard output gets a line
 'conn I requests R END' for each connection when it ended, and then the board:
 after M connections, where --connections says so, or with --until-input-ends once
-standard input has ended and those who were let in are done. It asks for no passwords: put a proxy before it
-that does.";
+standard input has ended and those who were let in are done. It asks for no
+passwords: put a proxy before it that does.";
 
 const HOST: &str = "\
 Written is one line 'host NAME claims C posted R END': how often it asked for a

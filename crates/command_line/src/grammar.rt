@@ -8,8 +8,8 @@ use crate::described::{about, described, remarks};
 use clap::{Arg, ArgAction, Command};
 use std::alloc::{AllocError, Global};
 
-/// What `--version` prints behind the program's name.
-const VERSION: &str = "0.1.0";
+/// What `--version` prints behind the name of each program.
+pub const VERSION: &str = "0.1.0";
 
 /// The program with its commands.
 pub(crate) fn farm_command<'a>(alloc: Global) -> Result<Command<'a>, AllocError>
