@@ -10,6 +10,7 @@ import os
 import subprocess
 import sys
 import tempfile
+import time
 
 sys.dont_write_bytecode = True
 
@@ -102,6 +103,9 @@ NOTES = [
     ({"data/secrets/1.in": "", "data/secrets/1.ans": ""}, ["data/secrets: it is neither data/sample nor data/secret, so it is not read"]),
     ({"output_validators/a.rv32": "1234"}, ["output_validators: problem.yaml does not set validation to custom, so it is not read"]),
     ({"output_validators/a.rv32": "1234", "problem.yaml": "validation: custom\n"}, []),
+    ({"output_validators/a.rv32": "\x7fELF", "problem.yaml": "validation: custom\n"},
+     ["output_validators/a.rv32: it begins as an ELF file, and is run as a raw image"]),
+    ({"output_validators/a.rv32": "\x7fELE", "problem.yaml": "validation: custom\n"}, []),
     ({"problem_statement/problem.tex": "", "submissions/accepted/a.c": "", "output_validator/a": ""}, []),
     ({"problem.yaml": "memroy: 5\nlimits:\n  memory: 512\n", "domjudge-problem.ini": "color=red\n", "data/secret/c.ans": "", "data/secret/A": "",
       "data/x": "", "data/more/y": "", "data/more/z": "", "data/again/x": "", "output_validators/v.cpp": ""},
@@ -132,6 +136,11 @@ def run(*words):
 def is_fault(done, said):
     line = done.stderr.decode()
     return done.returncode == 1 and not done.stdout and line.count("\n") == 1 and said in line
+
+
+def is_told(done, folder, said):
+    """Whether this line, and no other one, is told of the package in the folder."""
+    return done.returncode == 1 and not done.stdout and done.stderr.decode() == f"package_info: {folder}: {said}\n"
 
 
 def is_noted(done, notes):
@@ -176,13 +185,16 @@ def rows(top):
     yield "1,000 tests", ("Echo", 100000, "default", " ".join(["sample/1", "secret/01", *names])), run(many)
 
 
-# What is read and is no file, and links that lead back (the target of each link): in their place is none of it.
+UNREAD = "a file or folder could not be read"
+NO_FILE = "it is a pipe, a socket or a device, and no file"
+LEADS_BACK = "it is a link to a folder above itself"
+# What is read and is no file, and links that lead back (the target of each link): what is said of a path below them.
 SPECIAL = [
-    ("a pipe in the place of an input", "data/secret/b.in", None),
-    ("a pipe in the place of problem.yaml", "problem.yaml", None),
-    ("a link to a device", "data/secret/b.ans", "/dev/zero"),
-    ("links that lead back", "data/x", "."),
-    ("links that lead back further", "data/secret/x", "../.."),
+    ("a pipe in the place of an input", "data/secret/b.in", None, NO_FILE),
+    ("a pipe in the place of problem.yaml", "problem.yaml", None, NO_FILE),
+    ("a link to a device", "data/secret/b.ans", "/dev/zero", NO_FILE),
+    ("links that lead back", "data/x", ".", LEADS_BACK),
+    ("links that lead back further", "data/secret/x", "../..", LEADS_BACK),
 ]
 # What is not read, and a link that leads to another folder.
 BESIDE = [
@@ -218,7 +230,7 @@ def looks():
             folder = os.path.join(top, str(number))
             write(folder, {**PLAIN, **changes})
             done = run(folder)
-            yield said, is_fault(done, said), done
+            yield said, is_told(done, folder, said), done
         for number, (changes, notes) in enumerate(NOTES):
             folder = os.path.join(top, f"note {number}")
             write(folder, {**PLAIN, **changes})
@@ -235,12 +247,22 @@ def looks():
         loop = os.path.join(top, "loop")
         unreadable(loop)
         done = run(loop)
-        yield "a link to itself", is_fault(done, "could not be read"), done
-        for name, path, target in SPECIAL:
+        yield "a link to itself", is_told(done, loop, f"{UNREAD}: {loop}/data/loop: Too many levels of symbolic links (os error 40)"), done
+        for name, path, target, why in SPECIAL:
             folder = os.path.join(top, name)
             special(folder, path, target)
+            begun = time.monotonic()
             done = run(folder)
-            yield name, is_fault(done, "could not be read"), done
+            line = done.stderr.decode()
+            named = line.startswith(f"package_info: {folder}: {UNREAD}: {folder}/{path}") and line.endswith(f": {why}\n")
+            yield name, done.returncode == 1 and not done.stdout and named and time.monotonic() - begun < 1, done
+        odd = os.path.join(top, "odd\n\x1b[31m")
+        write(odd, {**PLAIN, "data/secret/a\n\x1b[31mb": ""})
+        done = run(odd)
+        yield "a note on an odd name", is_noted(done, ["data/secret/a??[31mb: it ends neither in .in nor in .ans, so it is not read"]), done
+        os.remove(os.path.join(odd, "problem.yaml"))
+        done = run(odd)
+        yield "a folder with an odd name", is_told(done, os.path.join(top, "odd??[31m"), "there is no problem.yaml"), done
         for name, path, target, said in BESIDE:
             folder = os.path.join(top, name)
             special(folder, path, target)

@@ -142,10 +142,11 @@ VERDICTS = [
 # What is wrong: the words behind the program's name, and what is said.
 REFUSED = [
     (["echo.rv32", "--answer", "none"], b"rvrun: cannot read the answer none: "),
+    (["no\n\x1b[31mne"], b"rvrun: cannot read the image no??[31mne: "),
     (["echo.rv32", "--answer", "answer", "--validator", "none"], b"rvrun: cannot read the validator none: "),
-    (["echo.rv32", "--answer", "answer", "--validator", "echo.elf2"], b"rvrun: echo.elf2 is no raw image, "),
+    (["echo.rv32", "--answer", "answer", "--validator", "echo.elf2"], b"rvrun: echo.elf2: it is no raw image, which has 1 to 262144 words of 4 bytes\n"),
     (["echo.rv32", "--answer", "answer", "--flags", "fast"], b"rvrun: word 1 of the flags is no flag\n"),
-    (["echo.rv32", "--answer", "wide", "--flags", "float_tolerance 1"], b"rvrun: token 0 (from 0) of the answer is a number of 10^12 or more"),
+    (["echo.rv32", "--answer", "wide", "--flags", "float_tolerance 1"], b"rvrun: wide: token 0 (from 0) is a number of 10^12 or more, which a tolerance cannot be used with\n"),
     (["text"], b"rvrun: text is no program: it is text, and nothing is compiled here\n"),
 ]
 

@@ -18,6 +18,7 @@ sys.dont_write_bytecode = True
 from place import TOP, program_and_numbers  # noqa: E402
 
 LINES = b"problem A 2\nsubmit A\nshow 1\n"
+COMMANDS = ["judge", "script", "store", "make", "serve", "host"]
 REPLIES = b"problem A version 1\nsubmission 1 judging 1\npending\n"
 
 
@@ -39,6 +40,11 @@ def fault_of(got, status, written, said):
     return None if all(word in got[2] for word in said) else f"said {got[2][:200]!r}"
 
 
+def helped(got):
+    """What is wrong with an end where help or the version was asked for."""
+    return fault_of(got, 0, None, []) or (None if got[1].endswith(b"\n") else f"wrote {got[1]!r}")
+
+
 def looks(program, folder):
     """The name of each look, and what is wrong there."""
     def path(name):
@@ -52,8 +58,8 @@ def looks(program, folder):
         file.truncate((1 << 24) + 1)
     script = ["script"]
 
-    for words in [["--help"], ["help", "judge"], ["serve", "-h"], ["--version"]]:
-        yield f"0: {words}", fault_of(ended(program, words), 0, None, [])
+    for words in [["--help"], ["-h"], ["help"], ["--version"], ["-V"]] + [words for command in COMMANDS for words in (["help", command], [command, "--help"], [command, "-h"])]:
+        yield f"0: {words}", helped(ended(program, words))
     yield "0: done", fault_of(ended(program, script, text=LINES), 0, REPLIES, [])
     yield "0: with settings", fault_of(ended(program, script + ["--config", path("good.json")], text=LINES), 0, REPLIES, [])
     serve = ["serve", "c", "--port", "0", "--lanes", "17", "--connections", "1"]
@@ -73,7 +79,8 @@ def looks(program, folder):
     yield "4: input that cannot be read", fault_of(ended(program, script, stdin=place), 4, b"", [b"standard input"])
     os.close(place)
     with open("/dev/full", "wb") as full:
-        yield "5: help on a full device", fault_of(ended(program, ["--help"], stdout=full), 5, None, [b"standard output"])
+        for words in [["--help"], ["-V"], ["help", "judge"]]:
+            yield f"5: {words} on a full device", fault_of(ended(program, words, stdout=full), 5, None, [b"standard output"])
         yield "5: a full device", fault_of(ended(program, script, stdout=full, text=LINES), 5, None, [b"standard output"])
     reader, writer = os.pipe()
     os.close(reader)

@@ -40,7 +40,7 @@ CASES = [
     (["float_tolerance"], b"1\n", b"1\n", 1, b"validate: word 1 of the flags wants a value behind it\n"),
     (["fast"], b"1\n", b"1\n", 1, b"validate: word 1 of the flags is no flag\n"),
     (["float_tolerance", "1e-6"], b"1e12\n", b"1e12\n", 1,
-     b"validate: token 0 (from 0) of the answer is a floating point number of 10^12 or more\n"),
+     b"/answer: token 0 (from 0) is a number of 10^12 or more, which a tolerance cannot be used with"),
 ]
 
 
@@ -74,6 +74,10 @@ def looks():
             yield f"{status}: {flags} {answer!r} {output!r}", fault_of(judged(folder, flags, answer, output), status, said)
         done = subprocess.run([PROGRAM, "none", folder + "/none", folder], input=b"", capture_output=True, check=False)
         yield "1: no answer", fault_of((done.returncode, done.stderr, done.stdout), 1, b"cannot read the answer")
+        odd = folder + "/an\n\x1b[31mswer"
+        done = subprocess.run([PROGRAM, "none", odd, folder], input=b"", capture_output=True, check=False)
+        shown = f"cannot read the answer {folder}/an??[31mswer: ".encode()
+        yield "1: no answer with an odd name", fault_of((done.returncode, done.stderr, done.stdout), 1, shown)
         done = subprocess.run([PROGRAM, "none", "answer"], input=b"", capture_output=True, check=False)
         yield "2: words", None if done.returncode == 2 and b"Usage: validate" in done.stderr else f"status {done.returncode}"
         with open(folder + "/answer", "wb") as file:

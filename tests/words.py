@@ -147,7 +147,16 @@ def fault_of(done, status, said, other, lines):
     return f"lacks {lacking} in {said.decode()!r}" if lacking else None
 
 
+def remarks_fault(done):
+    """What is wrong with the lines of help that stand by themselves: none is longer than 84 characters."""
+    text = done.stdout.decode()
+    wide = [line for line in text.split("\n") if len(line) > 84 and not line.startswith(("  ", "Usage: ")) and line != text.split("\n")[0]]
+    return f"wide lines {wide}" if wide else None
+
+
 def looks():
+    for words in [["--help"], *([command, "--help"] for command in ("judge", "script", "store", "make", "serve", "host"))]:
+        yield f"short lines: farm {words}", remarks_fault(ended("farm", words))
     for name, words, lines in HELP:
         done = ended(name, words)
         yield f"0: {name} {words}", fault_of(done, 0, done.stdout, done.stderr, lines)
