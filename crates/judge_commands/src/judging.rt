@@ -7,20 +7,23 @@ ghost use Rattle.judge_commands.specs.Judged.{ContestIs, HasContest, IsReport, N
 
 use crate::journal::push_journal;
 use command_text::write_table;
-use contest_folder::{ContestFault, Roster, push_contest_fault, read_contest};
+use contest_folder::{ContestFault, Roster, push_contest_fault};
+use contest_notes::read_told_contest;
 use exit_status::Exit;
 use farm_io::{PutEnd, Sink};
 use farm_kinds::NoMemory;
 use farm_tree::Tree;
 use judgehost::Gate;
-use parallel_judge::{Outcome, Progress, judge_all};
+use parallel_judge::{Outcome, judge_all};
+use people::Person;
 use std::alloc::Global;
 use std::sync::Wait;
 use std::thread::Threads;
 
 /// `farm judge`: judges the contest in the folder by so many host threads, and writes its table, and behind it the
-/// journal where one is asked for.
-pub fn judge<R: Threads + Wait + Sync, T: Tree, K: Sink, G: Gate + Sync, P: Progress>(
+/// journal where one is asked for. The person is told what of the folder is skipped, why it is no contest, and how far it
+/// is.
+pub fn judge<R: Threads + Wait + Sync, T: Tree, K: Sink, G: Gate + Sync, P: Person>(
     rt: &R,
     alloc: Global,
     folder: &str,
@@ -29,7 +32,7 @@ pub fn judge<R: Threads + Wait + Sync, T: Tree, K: Sink, G: Gate + Sync, P: Prog
     tree: &mut T,
     out: &mut K,
     gate: &G,
-    progress: &mut P,
+    person: &mut P,
 ) -> Exit
     requires hosts { hosts ≤ 16 }
     ensures command { result ≢ Exit.Usage }
@@ -43,14 +46,14 @@ pub fn judge<R: Threads + Wait + Sync, T: Tree, K: Sink, G: Gate + Sync, P: Prog
         → ¬ Rose (T.faults tree.old) (T.faults tree.new) → ¬ Rose (K.faults out.old) (K.faults out.new)
         → (result ≡ Exit.Done) ⊎ (result ≡ Exit.Memory) }
 {
-    match read_contest(alloc, tree, folder) {
-        Ok(roster) => judge_roster(rt, alloc, &roster, hosts, journal, out, gate, progress),
+    match read_told_contest(alloc, tree, folder, "nothing was judged", person) {
+        Ok(roster) => judge_roster(rt, alloc, &roster, hosts, journal, out, gate, person),
         Err(fault) => refuse_contest(alloc, &fault, out),
     }
 }
 
 /// Judges a contest, and writes what is reported of it.
-fn judge_roster<R: Threads + Wait + Sync, K: Sink, G: Gate + Sync, P: Progress>(
+fn judge_roster<R: Threads + Wait + Sync, K: Sink, G: Gate + Sync, P: Person>(
     rt: &R,
     alloc: Global,
     roster: &Roster,
@@ -58,7 +61,7 @@ fn judge_roster<R: Threads + Wait + Sync, K: Sink, G: Gate + Sync, P: Progress>(
     journal: bool,
     out: &mut K,
     gate: &G,
-    progress: &mut P,
+    person: &mut P,
 ) -> Exit
     requires hosts { hosts ≤ 16 }
     ensures ends { (files : Option (List TreeFile)) (folder : List ℕ) → ContestIs files folder (Ok roster.now)
@@ -66,7 +69,7 @@ fn judge_roster<R: Threads + Wait + Sync, K: Sink, G: Gate + Sync, P: Progress>(
     ensures write_fault { result ≡ Exit.WriteFault → Rose (K.faults out.old) (K.faults out.new) }
     ensures all { (result ≡ Exit.Done) ⊎ (result ≡ Exit.WriteFault) ⊎ (result ≡ Exit.Memory) }
 {
-    match report(rt, alloc, roster, hosts, journal, gate, progress) {
+    match report(rt, alloc, roster, hosts, journal, gate, person) {
         Ok(text) => match out.put(text.as_slice()) {
             PutEnd::Done => Exit::Done,
             PutEnd::Failed => Exit::WriteFault,
@@ -76,19 +79,19 @@ fn judge_roster<R: Threads + Wait + Sync, K: Sink, G: Gate + Sync, P: Progress>(
 }
 
 /// The text of a contest's table, and behind it the journal where one is asked for.
-fn report<R: Threads + Wait + Sync, G: Gate + Sync, P: Progress>(
+fn report<R: Threads + Wait + Sync, G: Gate + Sync, P: Person>(
     rt: &R,
     alloc: Global,
     roster: &Roster,
     hosts: u16,
     journal: bool,
     gate: &G,
-    progress: &mut P,
+    person: &mut P,
 ) -> Result<Vec<u8>, NoMemory>
     requires hosts { hosts ≤ 16 }
     ensures { IfOk result (λ text. IsReport roster.now hosts journal text.items) }
 {
-    let outcome = judge_all(rt, alloc, roster, hosts, gate, journal, progress)?;
+    let outcome = judge_all(rt, alloc, roster, hosts, gate, journal, person)?;
     text_of(alloc, &outcome)
 }
 

@@ -14,7 +14,8 @@ use farm_io::{PutEnd, Sink};
 use farm_kinds::NoMemory;
 use farm_tree::ReliableTree;
 use judgehost::Gate;
-use parallel_judge::{Progress, judge_all};
+use parallel_judge::judge_all;
+use people::Person;
 use std::alloc::Global;
 use std::sync::Wait;
 use std::thread::Threads;
@@ -25,14 +26,14 @@ const HOSTS: u16 = 2;
 
 /// `farm make`: makes a contest, judges it by two host threads, and writes how many submissions have each verdict, and
 /// the digest of its table.
-pub fn make<R: Threads + Wait + Sync, K: Sink, G: Gate + Sync, P: Progress>(
+pub fn make<R: Threads + Wait + Sync, K: Sink, G: Gate + Sync, P: Person>(
     rt: &R,
     alloc: Global,
     number: u32,
     size: MadeSize,
     out: &mut K,
     gate: &G,
-    progress: &mut P,
+    person: &mut P,
 ) -> Exit
     ensures ends { MakeEnds number (size_value size) (K.held out.old) (K.held out.new) (out.new ≡ out.old) result }
     ensures command { result ≢ Exit.Usage }
@@ -42,7 +43,7 @@ pub fn make<R: Threads + Wait + Sync, K: Sink, G: Gate + Sync, P: Progress>(
     ensures write_fault { result ≡ Exit.WriteFault → Rose (K.faults out.old) (K.faults out.new) }
     ensures all { (result ≡ Exit.Done) ⊎ (result ≡ Exit.WriteFault) ⊎ (result ≡ Exit.Memory) }
 {
-    match summarize(rt, alloc, number, size, gate, progress) {
+    match summarize(rt, alloc, number, size, gate, person) {
         Ok(text) => match out.put(text.as_slice()) {
             PutEnd::Done => Exit::Done,
             PutEnd::Failed => Exit::WriteFault,
@@ -52,31 +53,31 @@ pub fn make<R: Threads + Wait + Sync, K: Sink, G: Gate + Sync, P: Progress>(
 }
 
 /// What is written of the contest.
-fn summarize<R: Threads + Wait + Sync, G: Gate + Sync, P: Progress>(
+fn summarize<R: Threads + Wait + Sync, G: Gate + Sync, P: Person>(
     rt: &R,
     alloc: Global,
     number: u32,
     size: MadeSize,
     gate: &G,
-    progress: &mut P,
+    person: &mut P,
 ) -> Result<Vec<u8>, NoMemory>
     ensures { IfOk result (λ text. IsSummary number (size_value size) text.items) }
 {
     let roster = made_roster(alloc, number, size)?;
-    summary_of(rt, alloc, &roster, gate, progress)
+    summary_of(rt, alloc, &roster, gate, person)
 }
 
 /// What is written of the contest that was made.
-fn summary_of<R: Threads + Wait + Sync, G: Gate + Sync, P: Progress>(
+fn summary_of<R: Threads + Wait + Sync, G: Gate + Sync, P: Person>(
     rt: &R,
     alloc: Global,
     roster: &Roster,
     gate: &G,
-    progress: &mut P,
+    person: &mut P,
 ) -> Result<Vec<u8>, NoMemory>
     ensures { IfOk result (λ text. text.items ≡ summary_text (table_rows roster.now)) }
 {
-    let outcome = judge_all(rt, alloc, roster, HOSTS, gate, false, progress)?;
+    let outcome = judge_all(rt, alloc, roster, HOSTS, gate, false, person)?;
     summary_text(alloc, &outcome.table)
 }
 
