@@ -96,11 +96,6 @@ file_ends files config path old new unread unwritten e settings is found ends =
     subst (λ (o : Option (Bor (List ℕ))). ScriptEnds files (option_map (λ p. p.now) o) old new unread unwritten e) (sym is)
     (inl (run_with (These settings) (λ (s : SettingsValue). ConfigIs files path.now (Ok s)) old new e (λ s same. subst (λ (x : SettingsValue). ConfigIs files path.now (Ok x)) (sym same) found) ends))
 
--- a file that gives settings has no fault
-pub lawful_is_good : (files : Option (List TreeFile)) (path : List ℕ) (fault : BadConfig) → HasSettings files (Some path) → ConfigIs files path (Err fault) → ⊥
-lawful_is_good None path fault lawful bad = lawful
-lawful_is_good (Some held) path fault lawful bad = let both : Ok lawful.0 ≡ Err fault = sym lawful.1 ∙ bad in cc
-
 -- a script whose file gives no settings
 pub refused_ends : (files : Option (List TreeFile)) (config : Option (Bor (List ℕ))) (path : Bor (List ℕ)) (old new : Streams) (unread unwritten : Type 0) (e : Exit) → config ≡ Some path → unread
     → NoSettingsEnds files path.now old.held new.held unwritten e → ScriptEnds files (option_map (λ p. p.now) config) old new unread unwritten e

@@ -171,11 +171,6 @@ module _ (files : Option (List TreeFile)) (config : Option (List ℕ)) (path : L
   )
   flaw_ends flaw (exit.StoreFull mark) same has shut h = absurd h
 
--- a session that is done, or without memory
-pub exit_done : (e : StoredEnd) → (e ≡ end.Done) ⊎ (e ≡ end.NoMemory) → (exit_of e ≡ exit.Done) ⊎ (exit_of e ≡ exit.Memory)
-exit_done e (inl is) = inl (ap exit_of is)
-exit_done e (inr is) = inr (ap exit_of is)
-
 -- Settings and their store
 
 -- the settings that are in use are those that the tree tells
@@ -198,11 +193,6 @@ module _ (files : Option (List TreeFile)) (config : Option (List ℕ)) (disk : S
       done has.first has.tells
       (subst (λ (s : SettingsValue). opened_of digest (start s) (file_before disk) ≡ Ok has.first) (sym same.0)
       (subst (λ (d : List ℕ). opened_of d (start has.settings) (file_before disk) ≡ Ok has.first) (sym same.1) has.leads)) short faultless.1 faultless.2 faultless.3 not_full
-
--- a file that gives settings has no fault
-pub told_is_good : (files : Option (List TreeFile)) (path : List ℕ) (bad : BadConfig) (s : SettingsValue) (d : List ℕ) → IsToldConfig files (Some path) s d → ConfigIs files path (Err bad) → ⊥
-told_is_good None path bad s d told found = told
-told_is_good (Some held) path bad s d told found = let both : Ok s ≡ Err bad = sym told.0 ∙ found in cc
 
 -- How a script ends with a file of settings and without one
 

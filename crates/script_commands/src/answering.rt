@@ -10,18 +10,21 @@ use farm_core::Farm;
 use farm_io::{Sink, Source};
 use farm_settings::Settings;
 use farm_tree::Tree;
+use people::Person;
 use script_session::{ScriptEnd, run_script};
 use std::alloc::Global;
 use std::mem;
 
-/// `farm script`, with the settings of the file at the path, or with the standard ones.
+/// `farm script`, with the settings of the file at the path, or with the standard ones. Why the file gives none, the person is
+/// told.
 #[tactic(auto, unfolding(crate::specs::Scripted::ScriptIsDone))]
-pub fn script<T: Tree, S: Source, K: Sink>(
+pub fn script<T: Tree, S: Source, K: Sink, P: Person>(
     alloc: Global,
     config: Option<&str>,
     tree: &mut T,
     input: &mut S,
     out: &mut K,
+    person: &mut P,
 ) -> Exit
     ensures command { result ≢ Exit.Usage }
     ensures door_fault { result ≢ Exit.DoorFault }
@@ -42,7 +45,7 @@ pub fn script<T: Tree, S: Source, K: Sink>(
     };
     match read_config(alloc, tree, path) {
         Ok(read) => run(alloc, read.settings, input, out),
-        Err(ConfigEnd::Bad(bad)) => refuse(alloc, path, &bad, out),
+        Err(ConfigEnd::Bad(bad)) => refuse(alloc, path, &bad, out, person),
         Err(ConfigEnd::TreeFault) => Exit::TreeFault,
         Err(ConfigEnd::NoMemory) => Exit::Memory,
     }

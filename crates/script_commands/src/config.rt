@@ -1,16 +1,20 @@
 ghost use Rattle.std.specs.Prelude.{◌≡◌, ◌≢◌, ◌≤◌, ◌++◌, ◌∷◌, [], List, Option, Ok, Err, IfOk, OnOk};
 ghost use Rattle.farm_io.specs.Streams.{Rose};
 ghost use Rattle.farm_tree.specs.declared.reads.TreeFile.{TreeFile};
-ghost use Rattle.script_commands.specs.Config.{ConfigIs, DigestIs, printed, named_line, settings_line, bad_contest_line};
+ghost use Rattle.script_commands.specs.Config.{ConfigIs, DigestIs, bad_config_text, bad_contest_line};
 ghost use Rattle.script_commands.specs.Scripted.{NoSettingsEnds};
 
+use contest_folder::{ContestFault, push_contest_fault, push_settings_fault};
+use contest_notes::settings_reason;
 use exit_status::Exit;
 use farm_io::{PutEnd, Sink};
 use farm_kinds::NoMemory;
 use farm_settings::{Settings, SettingsErr, SettingsFault, read_settings};
 use farm_tree::{Tree, TreeErr};
+use package_folder::copy;
+use people::Person;
 use sha2::{Digest, Sha256};
-use std::alloc::Global;
+use std::alloc::{AllocError, Global};
 
 /// The settings of a file, and the SHA-256 digest of its bytes.
 #[derive(Drop)]
@@ -24,8 +28,8 @@ pub struct Configured {
 pub enum BadConfig {
     /// No file has the path.
     NoConfig,
-    /// The file has more than 16 MiB.
-    TooLarge,
+    /// The file has so many bytes, which are more than 16 MiB.
+    TooLarge { len: u64 },
     /// Its text has this fault.
     Settings(SettingsFault),
 }
@@ -64,14 +68,20 @@ pub fn read_config<T: Tree>(
             Err(SettingsErr::NoMemory) => Err(ConfigEnd::NoMemory),
         },
         Err(TreeErr::Absent) => Err(ConfigEnd::Bad(BadConfig::NoConfig)),
-        Err(TreeErr::TooLarge { .. }) => Err(ConfigEnd::Bad(BadConfig::TooLarge)),
+        Err(TreeErr::TooLarge { len }) => Err(ConfigEnd::Bad(BadConfig::TooLarge { len })),
         Err(TreeErr::Failed) => Err(ConfigEnd::TreeFault),
         Err(TreeErr::NoMemory) => Err(ConfigEnd::NoMemory),
     }
 }
 
-/// Writes the line that says why the file at the path gives no settings.
-pub(crate) fn refuse<K: Sink>(alloc: Global, path: &str, bad: &BadConfig, out: &mut K) -> Exit
+/// Says why the file at the path gives no settings, and writes the line of it.
+pub(crate) fn refuse<K: Sink, P: Person>(
+    alloc: Global,
+    path: &str,
+    bad: &BadConfig,
+    out: &mut K,
+    person: &mut P,
+) -> Exit
     ensures command { result ≢ Exit.Usage }
     ensures door_fault { result ≢ Exit.DoorFault }
     ensures tree_fault { result ≢ Exit.TreeFault }
@@ -80,6 +90,7 @@ pub(crate) fn refuse<K: Sink>(alloc: Global, path: &str, bad: &BadConfig, out: &
         → NoSettingsEnds files path.now (K.held out.old) (K.held out.new) (out.new ≡ out.old) result }
     ensures write_fault { result ≡ Exit.WriteFault → Rose (K.faults out.old) (K.faults out.new) }
 {
+    tell(alloc, path, bad, person);
     match bad_contest_line(alloc, path, bad) {
         Ok(line) => match out.put(line.as_slice()) {
             PutEnd::Done => Exit::BadContest,
@@ -89,65 +100,50 @@ pub(crate) fn refuse<K: Sink>(alloc: Global, path: &str, bad: &BadConfig, out: &
     }
 }
 
+/// Says why the file at the path gives no settings. Where no memory is left to say it, it is left out.
+fn tell<P: Person>(alloc: Global, path: &str, bad: &BadConfig, person: &mut P) {
+    if let Ok(reason) = reason_of(alloc, path, bad) {
+        person.refuses(reason.as_str());
+    }
+}
+
+/// Why the file at the path gives no settings, and what comes of it.
+fn reason_of(alloc: Global, path: &str, bad: &BadConfig) -> Result<String, AllocError> {
+    let reason = match bad {
+        BadConfig::NoConfig => String::from_str(alloc, "there is no such file")?,
+        BadConfig::TooLarge { len } => format!(in alloc;
+            "it has {len} bytes, and at most 16777216 are read"
+        )?,
+        BadConfig::Settings(fault) => settings_reason(alloc, fault)?,
+    };
+    format!(in alloc; "{path} gives no settings: {reason}; no line was read")
+}
+
 /// The line that says why the file at the path gives no settings.
 pub fn bad_contest_line(alloc: Global, path: &str, bad: &BadConfig) -> Result<Vec<u8>, NoMemory>
     ensures { IfOk result (λ line. line.items ≡ bad_contest_line path.now bad.now) }
 {
-    match bad {
-        BadConfig::NoConfig => whole_line(alloc, b"bad contest: no config\n"),
-        BadConfig::TooLarge => named_line(alloc, b"bad contest: too large ", path.as_bytes()),
-        BadConfig::Settings(fault) => settings_line(alloc, fault),
-    }
-}
-
-/// The line of a fault of the file's text.
-fn settings_line(alloc: Global, fault: &SettingsFault) -> Result<Vec<u8>, NoMemory>
-    ensures { IfOk result (λ line. line.items ≡ settings_line fault.now) }
-{
-    match fault {
-        SettingsFault::NotJson => whole_line(alloc, b"bad contest: farm.json: not json\n"),
-        SettingsFault::UnknownKey { key } => {
-            named_line(
-                alloc,
-                b"bad contest: farm.json: unknown key ",
-                key.as_slice(),
-            )
-        }
-        SettingsFault::BadValue { key } => {
-            named_line(alloc, b"bad contest: farm.json: bad value ", key.as_slice())
-        }
-    }
-}
-
-/// These bytes as a line.
-fn whole_line(alloc: Global, line: &[u8]) -> Result<Vec<u8>, NoMemory>
-    ensures { IfOk result (λ copy. copy.items ≡ line.now) }
-{
-    line.to_vec(alloc).map_err(|_| NoMemory)
-}
-
-/// A line that ends in a name, in which each control character is `?`.
-fn named_line(alloc: Global, front: &[u8], name: &[u8]) -> Result<Vec<u8>, NoMemory>
-    ensures { IfOk result (λ line. line.items ≡ named_line front.now name.now) }
-{
-    let mut line = front.to_vec(alloc)?;
-    for b in name {
-        push(&mut line, printed(*b))?;
-    }
-    push(&mut line, b'\n')?;
+    let mut line = b"bad contest: ".to_vec(alloc)?;
+    push_fault(alloc, &mut line, path, bad)?;
+    line.push(b'\n').map_err(|_| NoMemory)?;
     Ok(line)
 }
 
-/// Puts a byte behind the line.
-fn push(line: &mut Vec<u8>, b: u8) -> Result<(), NoMemory>
-    ensures { OnOk result (line.new.items ≡ line.old.items ++ b ∷ []) }
+/// Puts what is printed of the fault behind what is there.
+fn push_fault(
+    alloc: Global,
+    text: &mut Vec<u8>,
+    path: &str,
+    bad: &BadConfig,
+) -> Result<(), NoMemory>
+    ensures { OnOk result (text.new.items ≡ text.old.items ++ bad_config_text path.now bad.now) }
 {
-    line.push(b).map_err(|_| NoMemory)
-}
-
-/// A byte of a name as it is printed.
-fn printed(b: u8) -> u8
-    ensures { result ∷ [] ≡ printed (b ∷ []) }
-{
-    if b < 0x20 || b == 0x7f { b'?' } else { b }
+    match bad {
+        BadConfig::NoConfig => text.extend_from_slice(b"no config").map_err(|_| NoMemory),
+        BadConfig::TooLarge { len } => {
+            let name = copy(alloc, path.as_bytes())?;
+            push_contest_fault(text, &ContestFault::TooLarge { name, len: *len })
+        }
+        BadConfig::Settings(fault) => push_settings_fault(text, fault),
+    }
 }

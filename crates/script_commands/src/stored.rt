@@ -14,6 +14,7 @@ use farm_io::{Sink, Source};
 use farm_journal::{Journal, STORE_LIMIT};
 use farm_settings::Settings;
 use farm_tree::Tree;
+use people::Person;
 use record_store::{Access, Disk};
 use script_session::{StoredEnd, run_stored};
 use sha2::{Digest, Sha256};
@@ -24,9 +25,9 @@ use stored_events::OpenFault;
 /// `farm script` with a store: opens the store at the path, with the settings of a file or with the standard ones, plays its
 /// events, and answers the lines of the input. Each event that changes the farm is stored before its reply is written.
 ///
-/// Where the file gives no settings, the store is not opened.
+/// Where the file gives no settings, the store is not opened, and the person is told why.
 #[tactic(auto, unfolding(crate::specs::Stored::StoredIsDone))]
-pub fn script_stored<T: Tree, S: Source, K: Sink, Y: Disk>(
+pub fn script_stored<T: Tree, S: Source, K: Sink, Y: Disk, P: Person>(
     alloc: Global,
     config: Option<&str>,
     path: &str,
@@ -34,6 +35,7 @@ pub fn script_stored<T: Tree, S: Source, K: Sink, Y: Disk>(
     input: &mut S,
     out: &mut K,
     disk: &mut Y,
+    person: &mut P,
 ) -> Exit
     ensures command { result ≢ Exit.Usage }
     ensures door_fault { result ≢ Exit.DoorFault }
@@ -70,7 +72,7 @@ pub fn script_stored<T: Tree, S: Source, K: Sink, Y: Disk>(
             let digest = read.digest;
             play_anew(alloc, read.settings, &digest, path, input, out, disk)
         }
-        Err(ConfigEnd::Bad(bad)) => refuse(alloc, file, &bad, out),
+        Err(ConfigEnd::Bad(bad)) => refuse(alloc, file, &bad, out, person),
         Err(ConfigEnd::TreeFault) => Exit::TreeFault,
         Err(ConfigEnd::NoMemory) => Exit::Memory,
     }
