@@ -33,6 +33,3 @@ unfolding ListIsDone
 list_complete files path command link store left T S K D L Y e is done =
     subst (λ (o : Option CommandValue). IfSome o (λ command. CommandIsDone files command link store left (¬ T × ¬ S × ¬ K × ¬ D × ¬ L × ¬ Y) e)) is
     (λ told is_one faultless. done told is_one faultless.2 faultless.5)
-
-pub if_asked : (o : Option CommandValue) (P : CommandValue → Type 0) (command : CommandValue) → Some command ≡ o → P command → IfSome o P
-if_asked o P command e p = subst (λ (x : Option CommandValue). IfSome x P) e p

@@ -6,19 +6,22 @@ ghost use Rattle.contest_server.specs.Visits.{watch};
 ghost use Rattle.judge_commands.specs.Judged.{ContestIs, HasContest};
 ghost use Rattle.farm_cli.specs.ServedContest.{DoorUse, ServeEnds, exit_of};
 
-use contest_folder::{Roster, read_contest};
+use contest_folder::Roster;
+use contest_notes::read_told_contest;
 use contest_server::{ServeEnd, serve_contest};
 use exit_status::Exit;
 use farm_io::{Clock, Door, Listening, Sink};
 use farm_tree::Tree;
 use judge_commands::refuse_contest;
+use people::Person;
 use std::alloc::Global;
 use std::sync::Wait;
 use std::thread::Threads;
 
 /// `farm serve`: serves the contest in the folder to at most so many connections that come where the door is to listen,
-/// at most `lanes` of them at the same time. A line is written for each connection, and behind them the board.
-pub fn serve<R: Threads + Wait + Sync, T: Tree, K: Sink, C: Clock + Sync, D: Door>(
+/// at most `lanes` of them at the same time. A line is written for each connection, and behind them the board. The person is
+/// told what of the folder is skipped, and why it is no contest.
+pub fn serve<R: Threads + Wait + Sync, T: Tree, K: Sink, C: Clock + Sync, D: Door, P: Person>(
     rt: &R,
     alloc: Global,
     folder: &str,
@@ -29,6 +32,7 @@ pub fn serve<R: Threads + Wait + Sync, T: Tree, K: Sink, C: Clock + Sync, D: Doo
     out: &mut K,
     clock: &C,
     door: &mut D,
+    person: &mut P,
 ) -> Exit
 where
     D::Conn: Drop,
@@ -47,7 +51,7 @@ where
         → ¬ Rose (T.faults tree.old) (T.faults tree.new) → ¬ Rose (D.faults door.old) (D.faults door.new) → ¬ Rose (K.faults out.old) (K.faults out.new)
         → (result ≡ Exit.Done) ⊎ (result ≡ Exit.Memory) }
 {
-    match read_contest(alloc, tree, folder) {
+    match read_told_contest(alloc, tree, folder, "nobody was served", person) {
         Ok(roster) => serve_roster(rt, alloc, &roster, at, lanes, connections, out, clock, door),
         Err(fault) => refuse_contest(alloc, &fault, out),
     }

@@ -13,7 +13,7 @@ use farm_io::{Clock, Door, Link, Listening, Sink, Source};
 use farm_tree::Tree;
 use judge_commands::{judge, make};
 use judgehost::{Gate, Go};
-use parallel_judge::Progress;
+use people::Person;
 use record_store::Disk;
 use remote_host::Pause;
 use script_commands::{list, script, script_stored};
@@ -21,7 +21,8 @@ use std::alloc::Global;
 use std::sync::Wait;
 use std::thread::Threads;
 
-/// The whole program. The first word is its name, which is not looked at.
+/// The whole program. The first word is its name, which is not looked at. The person is told how far it is, what is skipped, and
+/// why a contest or settings are refused, and is asked nothing.
 ///
 /// `farm script` starts an empty farm with the standard settings, or with those of a file, reads lines to the
 /// end of the input, and writes a reply to each line that is no comment. With a store it starts with the farm that the store
@@ -31,7 +32,7 @@ use std::thread::Threads;
 ///
 /// `farm judge` reads the contest in a folder, judges each of its submissions by host threads and the caller, and
 /// writes a line for each with its verdict; where a journal is asked for, then a line for each call by which the
-/// contest was judged. The gate decides at which points a host dies. Who is told of the progress is asked nothing.
+/// contest was judged. The gate decides at which points a host dies.
 ///
 /// `farm make` makes a contest of a number, judges it in the same way by two host threads and the caller, and writes how
 /// many submissions have each verdict, and the digest of its table.
@@ -49,7 +50,7 @@ pub fn farm_main<
     C: Clock + Sync,
     D: Door,
     G: Gate + Sync,
-    P: Progress,
+    P: Person,
     N: Link,
     Q: Pause,
     Y: Disk,
@@ -63,7 +64,7 @@ pub fn farm_main<
     clock: &C,
     door: &mut D,
     gate: &G,
-    progress: &mut P,
+    person: &mut P,
     link: &mut N,
     pause: &Q,
     disk: &mut Y,
@@ -125,8 +126,8 @@ where
     };
     match command {
         Command::Script { config, store } => match store {
-            None => script(alloc, config, tree, input, out),
-            Some(path) => script_stored(alloc, config, path, tree, input, out, disk),
+            None => script(alloc, config, tree, input, out, person),
+            Some(path) => script_stored(alloc, config, path, tree, input, out, disk, person),
         },
         Command::Store { path } => list(alloc, path, out, disk),
         Command::Judge {
@@ -142,9 +143,9 @@ where
             tree,
             out,
             gate,
-            progress,
+            person,
         ),
-        Command::Make { number, size } => make(rt, alloc, number, size, out, gate, progress),
+        Command::Make { number, size } => make(rt, alloc, number, size, out, gate, person),
         Command::Serve {
             folder,
             address,
@@ -169,6 +170,7 @@ where
             out,
             clock,
             door,
+            person,
         ),
         Command::Host {
             address,
