@@ -6,14 +6,14 @@ use farm_cli::farm_main;
 use farm_io::{Door, FixedClock, Link, Sink, Source};
 use farm_tree::Tree;
 use judgehost::Gate;
-use parallel_judge::Silent;
+use people::Nobody;
 use record_store::MemoryDisk;
 use remote_host::NoPause;
 use std::alloc::Global;
 use std::sync::Wait;
 use std::thread::Threads;
 
-/// How the command of these words ends. Time stands still, and nobody is told of the progress.
+/// How the command of these words ends. Time stands still, and nobody is told anything.
 pub(crate) fn end_with<T: Tree, S: Source, K: Sink, D: Door, G: Gate + Sync, N: Link>(
     rt: &(impl Threads + Wait + Sync),
     alloc: Global,
@@ -41,7 +41,7 @@ where
         &FixedClock::new(0),
         door,
         gate,
-        &mut Silent,
+        &mut Nobody,
         link,
         &NoPause,
         disk,

@@ -4,10 +4,13 @@
 #[cfg(test)]
 mod contest_folder_tests;
 #[cfg(test)]
+mod contest_notes_tests;
+#[cfg(test)]
 mod farm_tree_tests;
 pub mod files;
 #[cfg(test)]
 mod package_folder_tests;
+pub mod recorder;
 #[cfg(test)]
 mod rows;
 #[cfg(test)]
