@@ -8,7 +8,8 @@ use crate::words::Checked;
 use case_run::{Case, Check, run_case};
 use default_validator::{Flags, wide_token};
 use farm_kinds::{Limits, raw_image};
-use package_notes::flag_text;
+use package_notes::{NO_RAW_IMAGE, flag_text, wide_token_text};
+use people::Plain;
 use std::{fs, io};
 
 /// Runs the image once more as a test of a problem, says the verdict, and gives the status.
@@ -25,6 +26,7 @@ pub fn judge(
     let answer = match fs::read(rt, path) {
         Ok(answer) => answer,
         Err(error) => {
+            let path = Plain(path);
             eprintln!(rt; "rvrun: cannot read the answer {path}: {error}")?;
             return Ok(1);
         }
@@ -39,7 +41,7 @@ pub fn judge(
             validator,
             check.flags,
         ),
-        None => judge_by_default(rt, limits, image, input, answer.as_slice(), check.flags),
+        None => judge_by_default(rt, limits, image, input, answer.as_slice(), check),
     }
 }
 
@@ -58,12 +60,14 @@ fn judge_by_program(
     let validator = match fs::read(rt, path) {
         Ok(validator) => validator,
         Err(error) => {
+            let path = Plain(path);
             eprintln!(rt; "rvrun: cannot read the validator {path}: {error}")?;
             return Ok(1);
         }
     };
     if !raw_image(validator.as_slice()) {
-        eprintln!(rt; "rvrun: {path} is no raw image, which has 1 to 262144 words of 4 bytes")?;
+        let path = Plain(path);
+        eprintln!(rt; "rvrun: {path}: {NO_RAW_IMAGE}")?;
         return Ok(1);
     }
     let flags = flags.as_bytes();
@@ -114,11 +118,11 @@ fn judge_by_default<'a>(
     image: &'a [u8],
     input: &'a [u8],
     answer: &'a [u8],
-    flags: &str,
+    checked: &Checked<'_>,
 ) -> io::Result<u8>
     requires { is_image image.now ≡ true }
 {
-    let flags = match Flags::read(flags.as_bytes()) {
+    let flags = match Flags::read(checked.flags.as_bytes()) {
         Ok(flags) => flags,
         Err(fault) => {
             let text = flag_text(rt.alloc(), fault)?;
@@ -127,9 +131,9 @@ fn judge_by_default<'a>(
         }
     };
     if let Some(at) = wide_token(&flags, answer) {
-        eprintln!(rt;
-            "rvrun: token {at} (from 0) of the answer is a number of 10^12 or more, which a tolerance cannot be used with"
-        )?;
+        let path = Plain(checked.answer);
+        let text = wide_token_text(rt.alloc(), at)?;
+        eprintln!(rt; "rvrun: {path}: {text}")?;
         return Ok(1);
     }
     let check = Check::Default(flags);

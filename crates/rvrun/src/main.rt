@@ -15,9 +15,10 @@ mod words;
 use crate::checking::judge;
 use crate::report::{Report, run_to_end};
 use crate::words::{Asked, Run, read_words};
-use case_run::{image_ok, open};
+use case_run::open;
 use farm_kinds::Limits;
-use program_notes::program_fault;
+use people::Plain;
+use program_notes::{ProgramFault, program_fault, program_fault_text};
 use rv_machine::{Ending, Files, Machine, Trap};
 use std::alloc::{AllocError, Global};
 use std::io::{Read, Write};
@@ -57,12 +58,13 @@ fn run_command(rt: &HostRuntime, command: &Run<'_>) -> io::Result<u8> {
     let image = match fs::read(rt, path) {
         Ok(image) => image,
         Err(error) => {
+            let path = Plain(path);
             eprintln!(rt; "rvrun: cannot read the image {path}: {error}")?;
             return Ok(1);
         }
     };
-    if !image_ok(image.as_slice()) {
-        tell_fault(rt, path, image.as_slice())?;
+    if let Some(fault) = program_fault(image.as_slice()) {
+        tell_fault(rt, path, fault, image.as_slice())?;
         return Ok(1);
     }
     let mut stdin = Vec::new(rt.alloc());
@@ -81,11 +83,10 @@ fn run_command(rt: &HostRuntime, command: &Run<'_>) -> io::Result<u8> {
 }
 
 /// Says why the file at the path is no program.
-fn tell_fault(rt: &HostRuntime, path: &str, image: &[u8]) -> io::Result<()> {
-    match program_fault(rt.alloc(), image)? {
-        Some(fault) => eprintln!(rt; "rvrun: {path} is no program: it {fault}"),
-        None => eprintln!(rt; "rvrun: {path} is no program"),
-    }
+fn tell_fault(rt: &HostRuntime, path: &str, fault: ProgramFault, image: &[u8]) -> io::Result<()> {
+    let path = Plain(path);
+    let fault = program_fault_text(rt.alloc(), fault, image)?;
+    eprintln!(rt; "rvrun: {path} is no program: it {fault}")
 }
 
 /// Runs an image on this input, writes its output and says how it ended.

@@ -1,6 +1,6 @@
 //! The words of `rvrun`.
 use clap::{Arg, ArgMatches, Command};
-use command_line::{ProgramWords, no_number, number_from, read_program};
+use command_line::{ProgramWords, VERSION, no_number, number_from, read_program};
 use farm_kinds::Limits;
 use std::alloc::{AllocError, Global};
 
@@ -132,7 +132,7 @@ fn grammar<'a>(alloc: Global) -> Result<Command<'a>, AllocError> {
         .value_name("IMAGE")
         .help("An ELF32 executable for RISC-V or a raw RV32IM image, at most 1048576 bytes");
     Command::new(alloc, "rvrun")
-        .version("0.1.0")
+        .version(VERSION)
         .about("Runs an RV32IM image on standard input, within limits")
         .after_help(REMARKS)
         .arg(image)?

@@ -15,6 +15,7 @@ use crate::judgement::{Judgement, judge};
 use crate::message::{error_text, reason};
 use crate::words::{Asked, Command, read_words};
 use default_validator::Flags;
+use people::Plain;
 use std::io::{Read, Write};
 use std::process::ExitCode;
 use std::{env, fs, io};
@@ -51,7 +52,7 @@ fn judge_command(rt: &HostRuntime, command: &Command<'_>) -> io::Result<u8> {
     let answer = match fs::read(rt, command.answer) {
         Ok(answer) => answer,
         Err(error) => {
-            let path = command.answer;
+            let path = Plain(command.answer);
             eprintln!(rt; "validate: cannot read the answer {path}: {error}")?;
             return Ok(1);
         }
@@ -79,7 +80,8 @@ fn tell(
     answer: &[u8],
     output: &[u8],
 ) -> io::Result<()> {
-    if let Some(text) = error_text(rt.alloc(), judgement)? {
+    if let Some(text) = error_text(rt.alloc(), judgement, command.answer)? {
+        let text = Plain(text.as_str());
         return eprintln!(rt; "validate: {text}");
     }
     let (Judgement::Rejected, Ok(flags)) = (judgement, Flags::read(flags)) else {
@@ -89,6 +91,7 @@ fn tell(
     let folder = command.feedback;
     let path = format!(in rt.alloc(); "{folder}/judgemessage.txt")?;
     if let Err(error) = fs::write(rt, path.as_str(), text.as_slice()) {
+        let path = Plain(path.as_str());
         eprintln!(rt; "validate: cannot write {path}: {error}")?;
     }
     Ok(())

@@ -1,30 +1,25 @@
 use crate::judgement::Judgement;
-use default_validator::{FlagFault, Flags, accepts, wide_token};
+use default_validator::{Flags, accepts, wide_token};
+use package_notes::{flag_text, wide_token_text};
 use std::alloc::{AllocError, Global};
 
 /// How many bytes of a token are shown.
 const SHOWN: usize = 40;
 
-/// Why nothing could be judged. None where something was.
-pub fn error_text(alloc: Global, judgement: Judgement) -> Result<Option<String>, AllocError> {
-    let text = match judgement {
-        Judgement::Accepted | Judgement::Rejected => return Ok(None),
-        Judgement::BadFlags(FlagFault::Unknown(n)) => format!(in alloc;
-            "word {n} of the flags is no flag"
-        )?,
-        Judgement::BadFlags(FlagFault::NoValue(n)) => {
-            format!(in alloc; "word {n} of the flags wants a value behind it")?
-        }
-        Judgement::BadFlags(FlagFault::BadTolerance(n)) => {
-            format!(in alloc; "word {n} of the flags is no tolerance")?
-        }
+/// Why nothing could be judged by the answer at the path. None where something was.
+pub fn error_text(
+    alloc: Global,
+    judgement: Judgement,
+    path: &str,
+) -> Result<Option<String>, AllocError> {
+    match judgement {
+        Judgement::Accepted | Judgement::Rejected => Ok(None),
+        Judgement::BadFlags(fault) => Ok(Some(flag_text(alloc, fault)?)),
         Judgement::WideAnswer(at) => {
-            format!(in alloc;
-                "token {at} (from 0) of the answer is a floating point number of 10^12 or more"
-            )?
+            let text = wide_token_text(alloc, at)?;
+            Ok(Some(format!(in alloc; "{path}: {text}")?))
         }
-    };
-    Ok(Some(text))
+    }
 }
 
 /// Why an output is not accepted: the first place where it differs from the answer.
@@ -98,10 +93,17 @@ fn different(alloc: Global, number: u64, judge: &[u8], team: &[u8]) -> Result<Ve
 /// Puts a token between backquotes, or the front of one that is long.
 fn push_token(text: &mut Vec<u8>, token: &[u8]) -> Result<(), AllocError> {
     text.push(b'`')?;
-    text.extend_from_slice(&token[..token.len().min(SHOWN)])?;
+    for b in &token[..token.len().min(SHOWN)] {
+        text.push(shown(*b))?;
+    }
     if token.len() > SHOWN {
         text.extend_from_slice(b"..")?;
     }
     text.push(b'`')?;
     Ok(())
+}
+
+/// A byte of a token as it is shown: a control character is `?`.
+fn shown(b: u8) -> u8 {
+    if b < 0x20 || b == 0x7f { b'?' } else { b }
 }

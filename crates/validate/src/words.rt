@@ -1,6 +1,6 @@
 //! The words of `validate`.
 use clap::{Arg, Command as Grammar};
-use command_line::{ProgramWords, read_program};
+use command_line::{ProgramWords, VERSION, read_program};
 use std::alloc::{AllocError, Global};
 
 /// What is judged: the path of a test's answer, where to say why an output is not accepted, and the flags.
@@ -59,7 +59,7 @@ fn grammar<'a>(alloc: Global) -> Result<Grammar<'a>, AllocError> {
         .allow_hyphen_values(true)
         .help("Words of flags, as they stand behind validator_flags in problem.yaml");
     Grammar::new(alloc, "validate")
-        .version("0.1.0")
+        .version(VERSION)
         .about(
             "Compares a team's output with the answer of a test, as Kattis' default output validator does",
         )
