@@ -1,24 +1,30 @@
-//! Why the program ended as it did, on standard error.
+//! Why the program ended as it did, on standard error. Why a folder is no contest, and why a file gives no settings, was told
+//! by the command.
 //!
 //! Where standard error cannot be written, nobody can be told.
 use crate::stores::{explain_flaw, explain_full, explain_listing, explain_store_fault};
-use crate::unread::{Watched, unread_reason};
 use command_line::{Command, Login};
-use contest_notes::{contest_reason, file_reason};
 use exit_status::Exit;
+use people::Plain;
 use record_store::Access;
 use remote_host::Wrong;
 use std::alloc::AllocError;
 use std::io;
 use std::net::IpAddr;
+use watched_tree::unread_reason;
 
-/// Says why the command is not done, and what can be done about it.
-pub(crate) fn explain(rt: &HostRuntime, exit: Exit, command: &Command<'_>) {
+/// Says why the command is not done, and what can be done about it. `failed` is the path of the last file or folder that could
+/// not be read.
+pub(crate) fn explain(rt: &HostRuntime, exit: Exit, command: &Command<'_>, failed: Option<&str>) {
     let _ = match command {
-        Command::Judge { folder, .. } => explain_judging(rt, exit, folder),
-        Command::Script { config, store } => {
-            explain_script(rt, exit, config.unwrap_or(""), store.unwrap_or(""))
-        }
+        Command::Judge { folder, .. } => explain_judging(rt, exit, folder, failed),
+        Command::Script { config, store } => explain_script(
+            rt,
+            exit,
+            config.unwrap_or(""),
+            store.unwrap_or(""),
+            failed,
+        ),
         Command::Store { path } => explain_listing(rt, exit, path),
         Command::Make { .. } => explain_making(rt, exit),
         Command::Serve {
@@ -26,7 +32,7 @@ pub(crate) fn explain(rt: &HostRuntime, exit: Exit, command: &Command<'_>) {
             address,
             port,
             ..
-        } => explain_serving(rt, exit, folder, *address, *port),
+        } => explain_serving(rt, exit, folder, *address, *port, failed),
         Command::Host {
             address,
             port,
@@ -61,50 +67,57 @@ Usage: farm <COMMAND>
 For more information, try '--help'.
 ";
 
-/// Says why the folder is no contest, or which file of it cannot be read: what was found is looked for once more. `end` is
-/// what came of it.
-fn explain_contest(rt: &HostRuntime, folder: &str, end: &str) -> io::Result<()> {
-    let mut tree = Watched::new(rt);
-    let reason = contest_reason(rt.alloc(), &mut tree, folder)?;
-    if let Some(reason) = reason {
-        return eprintln!(rt; "farm: {folder} is no contest: {reason}; {end}");
-    }
-    match unread(rt, &tree)? {
-        Some(reason) => eprintln!(rt; "farm: {folder} cannot be read: {reason}; {end}"),
+/// Says which file of the contest cannot be read. `end` is what came of it.
+fn explain_contest(
+    rt: &HostRuntime,
+    folder: &str,
+    failed: Option<&str>,
+    end: &str,
+) -> io::Result<()> {
+    let folder = Plain(folder);
+    match unread(rt, failed)? {
+        Some(reason) => {
+            let reason = Plain(reason.as_str());
+            eprintln!(rt; "farm: {folder} cannot be read: {reason}; {end}")
+        }
         None => eprintln!(rt;
-            "farm: {folder} is no contest, or could not be read, for a reason that is gone by now; {end}"
+            "farm: {folder} could not be read, for a reason that is gone by now; {end}"
         ),
     }
 }
 
-/// Says why the file gives no settings, or cannot be read.
-fn explain_settings(rt: &HostRuntime, file: &str) -> io::Result<()> {
-    let mut tree = Watched::new(rt);
-    let reason = file_reason(rt.alloc(), &mut tree, file)?;
-    if let Some(reason) = reason {
-        return eprintln!(rt; "farm: {file} gives no settings: {reason}; no line was read");
-    }
-    match unread(rt, &tree)? {
-        Some(reason) => eprintln!(rt;
-            "farm: the settings cannot be read: {reason}; no line was read"
-        ),
-        None => eprintln!(rt;
-            "farm: {file} gives no settings, or could not be read, for a reason that is gone by now; no line was read"
-        ),
+/// Says why the file of settings cannot be read.
+fn explain_settings(rt: &HostRuntime, file: &str, failed: Option<&str>) -> io::Result<()> {
+    match unread(rt, failed)? {
+        Some(reason) => {
+            let reason = Plain(reason.as_str());
+            eprintln!(rt; "farm: the settings cannot be read: {reason}; no line was read")
+        }
+        None => {
+            let file = Plain(file);
+            eprintln!(rt;
+                "farm: {file} could not be read, for a reason that is gone by now; no line was read"
+            )
+        }
     }
 }
 
-/// Why what the tree could not read cannot be read.
-fn unread(rt: &HostRuntime, tree: &Watched<'_>) -> Result<Option<String>, AllocError> {
-    match tree.failed() {
-        Some(path) => unread_reason(rt, path),
+/// Why the file or folder at the path that failed cannot be read.
+fn unread(rt: &HostRuntime, failed: Option<&str>) -> Result<Option<String>, AllocError> {
+    match failed {
+        Some(path) => unread_reason(&rt, rt.alloc(), path),
         None => Ok(None),
     }
 }
 
-fn explain_judging(rt: &HostRuntime, exit: Exit, folder: &str) -> io::Result<()> {
+fn explain_judging(
+    rt: &HostRuntime,
+    exit: Exit,
+    folder: &str,
+    failed: Option<&str>,
+) -> io::Result<()> {
     match exit {
-        Exit::BadContest | Exit::TreeFault => explain_contest(rt, folder, "nothing was judged"),
+        Exit::TreeFault => explain_contest(rt, folder, failed, "nothing was judged"),
         Exit::WriteFault => rt.eprintln(
             "farm: standard output could not be written (is the disk full, or its reader gone?); lines are missing",
         ),
@@ -121,9 +134,10 @@ fn explain_serving(
     folder: &str,
     address: IpAddr,
     port: u16,
+    failed: Option<&str>,
 ) -> io::Result<()> {
     match exit {
-        Exit::BadContest | Exit::TreeFault => explain_contest(rt, folder, "nobody was served"),
+        Exit::TreeFault => explain_contest(rt, folder, failed, "nobody was served"),
         Exit::WriteFault => rt.eprintln(
             "farm: standard output could not be written (is the disk full, or its reader gone?); who was connected was served to the end",
         ),
@@ -152,9 +166,12 @@ fn explain_hosting(
         Exit::Memory => rt.eprintln(
             "farm: out of memory; the server hands out again what was not posted. Run it again with more memory",
         ),
-        Exit::LinkFault => eprintln!(rt;
-            "farm: no connection to port {port} of {address}, or it broke off or was silent for a minute: is 'farm serve' running there, and can it be reached?"
-        ),
+        Exit::LinkFault => {
+            let address = Plain(address);
+            eprintln!(rt;
+                "farm: no connection to port {port} of {address}, or it broke off or was silent for a minute: is 'farm serve' running there, and can it be reached?"
+            )
+        }
         Exit::BadAnswer { wrong } => explain_answer(rt, wrong, address, port, login.is_some()),
         _ => Ok(()),
     }
@@ -165,16 +182,17 @@ fn explain_password(rt: &HostRuntime, exit: Exit, login: Option<Login<'_>>) -> i
     let Some(login) = login else {
         return Ok(());
     };
-    let file = login.password_file;
+    let file = Plain(login.password_file);
     if let Exit::BadContest = exit {
         return eprintln!(rt;
             "farm: {file} holds no password: wanted are 1 to 1024 bytes without control characters, and perhaps a line end; nothing was connected"
         );
     }
-    match unread_reason(rt, file)? {
-        Some(reason) => eprintln!(rt;
-            "farm: the password cannot be read: {reason}; nothing was connected"
-        ),
+    match unread_reason(&rt, rt.alloc(), login.password_file)? {
+        Some(reason) => {
+            let reason = Plain(reason.as_str());
+            eprintln!(rt; "farm: the password cannot be read: {reason}; nothing was connected")
+        }
         None => eprintln!(rt;
             "farm: {file} could not be read, for a reason that is gone by now; nothing was connected"
         ),
@@ -201,6 +219,7 @@ fn explain_answer(
     port: u16,
     has_login: bool,
 ) -> io::Result<()> {
+    let address = Plain(address);
     let _ = eprint!(rt; "farm: a wrong answer from port {port} of {address}: ");
     match wrong {
         Wrong::Cut => rt.eprintln("the connection was closed before the whole answer came"),
@@ -246,9 +265,15 @@ fn explain_making(rt: &HostRuntime, exit: Exit) -> io::Result<()> {
     }
 }
 
-fn explain_script(rt: &HostRuntime, exit: Exit, file: &str, store: &str) -> io::Result<()> {
+fn explain_script(
+    rt: &HostRuntime,
+    exit: Exit,
+    file: &str,
+    store: &str,
+    failed: Option<&str>,
+) -> io::Result<()> {
     match exit {
-        Exit::BadContest | Exit::TreeFault => explain_settings(rt, file),
+        Exit::TreeFault => explain_settings(rt, file, failed),
         Exit::ReadFault => rt.eprintln(
             "farm: standard input could not be read on; all complete lines before that were answered",
         ),

@@ -1,28 +1,26 @@
 //! `farm`: the judging back end of a programming contest.
 //!
-//! Each file beside this one has one subject: `name.rt` the words with the program's name, `progress.rt` how far it is,
-//! `port.rt` where it listens, `notes.rt` what is told before, `explanations.rt` why it ended, `stores.rt` what is wrong with a
-//! store, and `unread.rt` what could not be read.
+//! Each file beside this one has one subject: `name.rt` the words with the program's name, `person.rt` what a person is told
+//! by the commands, `progress.rt` how far it is, `port.rt` where it listens, `explanations.rt` why it ended, and `stores.rt` what is
+//! wrong with a store.
 #![tactic(auto)]
 
 mod explanations;
 mod name;
-mod notes;
+mod person;
 mod port;
 mod progress;
 mod stores;
-mod unread;
 
 use crate::explanations::{explain, explain_memory, explain_unread, explain_unwritten};
 use crate::name::own_words;
-use crate::notes::tell_notes;
+use crate::person::Told;
 use crate::port::Announced;
-use crate::progress::{Counted, Meter};
+use crate::progress::Meter;
 use command_line::{Asked, Command, read_words};
 use exit_status::Exit;
 use farm_cli::farm_main;
 use farm_io::{ReadSource, SystemClock, TcpLink, WriteSink};
-use farm_tree::DiskTree;
 use record_store::FileDisk;
 use remote_host::SystemPause;
 use std::io;
@@ -30,6 +28,7 @@ use std::io::Write;
 use std::process::ExitCode;
 use std::sync::Wait;
 use std::thread::Threads;
+use watched_tree::Watched;
 
 fn main(rt: HostRuntime) -> ExitCode {
     let exit = match own_words(&rt) {
@@ -42,12 +41,7 @@ fn main(rt: HostRuntime) -> ExitCode {
 /// Carries out the command of the words, or prints the help that they ask for, or says what is wrong with them.
 fn answer(rt: &HostRuntime, threads: &(impl Threads + Wait + Sync), words: &[String]) -> Exit {
     match read_words(rt.alloc(), words) {
-        Ok(Asked::Command(command)) => {
-            tell_notes(rt, &command);
-            let exit = run(rt, threads, words, &command);
-            explain(rt, exit, &command);
-            exit
-        }
+        Ok(Asked::Command(command)) => run(rt, threads, words, &command),
         Ok(Asked::Help(text)) => print_help(rt, text.as_str()),
         Ok(Asked::Wrong(text)) => {
             // Where standard error cannot be written, nobody can be told.
@@ -89,7 +83,7 @@ fn judges(command: &Command<'_>) -> bool {
 }
 
 /// Runs the command of the words over the files, standard input and output and the sockets of the machine, with hosts as
-/// threads that `threads` starts.
+/// threads that `threads` starts, and says why it is not done where the command itself has not said it.
 fn run(
     rt: &HostRuntime,
     threads: &(impl Threads + Wait + Sync),
@@ -99,9 +93,9 @@ fn run(
     let alloc = rt.alloc();
     let mut input = ReadSource::new(rt.reader());
     let mut out = WriteSink::new(io::writer(rt));
-    let mut tree = DiskTree::new(rt, alloc);
+    let mut tree = Watched::new(rt, alloc);
     let meter = Meter::new(rt, judges(command));
-    farm_main(
+    let exit = farm_main(
         threads,
         alloc,
         words,
@@ -111,11 +105,13 @@ fn run(
         &SystemClock::new(rt),
         &mut Announced::new(rt, threads),
         &meter,
-        &mut Counted::new(&meter),
+        &mut Told::new(rt, &meter),
         &mut TcpLink::new(rt, alloc),
         &SystemPause::new(rt, pause_seconds(command)),
         &mut FileDisk::new(alloc, rt),
-    )
+    );
+    explain(rt, exit, command, tree.failed());
+    exit
 }
 
 /// How the program ends where its words cannot be read: no memory was left for them, or one is no UTF-8.

@@ -1,7 +1,5 @@
 //! How far the judging is, on a terminal.
-use farm_kinds::Task;
 use judgehost::{Gate, Go, Point};
-use parallel_judge::Progress;
 use std::io::IsTerminal;
 use std::sync::atomic::{AtomicU64, Ordering};
 use std::time::Instant;
@@ -38,7 +36,7 @@ impl<'a> Meter<'a> {
     }
 
     /// One more test was run.
-    fn count(&self) {
+    pub(crate) fn count(&self) {
         let Some(begun) = self.begun else {
             return;
         };
@@ -67,7 +65,7 @@ impl<'a> Meter<'a> {
     }
 
     /// Takes the line away.
-    fn clear(&self) {
+    pub(crate) fn clear(&self) {
         if self.written.load(Ordering::Relaxed) > 0 {
             let _ = self.rt.eprint("\r\x1b[K");
         }
@@ -84,27 +82,5 @@ impl Gate for Meter<'_> {
             self.count();
         }
         Go::On
-    }
-}
-
-/// Counts the tests that the program runs by itself.
-#[derive(Drop)]
-pub(crate) struct Counted<'a> {
-    meter: &'a Meter<'a>,
-}
-
-impl<'a> Counted<'a> {
-    pub(crate) fn new(meter: &'a Meter<'a>) -> Counted<'a> {
-        Counted { meter }
-    }
-}
-
-impl Progress for Counted<'_> {
-    fn runs(&mut self, _task: Task) {
-        self.meter.count();
-    }
-
-    fn ends(&mut self) {
-        self.meter.clear();
     }
 }

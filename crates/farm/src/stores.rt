@@ -2,14 +2,15 @@
 ghost use Rattle.std.specs.Prelude.{None};
 ghost use Rattle.farm_io.specs.Beside.{one_sided};
 
-use crate::unread::said;
 use exit_status::{Exit, StoreFlaw};
 use farm_io::{PutEnd, Sink};
+use people::Plain;
 use record_store::{Access, Disk, FileDisk};
 use std::alloc::AllocError;
 use std::fs::{File, OpenFile, OpenOptions, TryLockError};
 use std::{fs, io};
 use store_listing::list_store;
+use watched_tree::said;
 
 /// The SHA-256 digest of no bytes, of which a store without a file of settings is.
 const OF_NO_BYTES: &[u8; 64] = b"e3b0c44298fc1c149afbf4c8996fb92427ae41e4649b934ca495991b7852b855";
@@ -22,15 +23,22 @@ pub(crate) fn explain_store_fault(rt: &HostRuntime, path: &str, access: Access) 
         Access::Read => "; nothing was written to it",
     };
     match store_reason(rt, path, access)? {
-        Some(reason) => eprintln!(rt; "farm: the store cannot be used: {reason}{behind}"),
-        None => eprintln!(rt;
-            "farm: the store {path} could not be read or written (is the disk full?){behind}"
-        ),
+        Some(reason) => {
+            let reason = Plain(reason.as_str());
+            eprintln!(rt; "farm: the store cannot be used: {reason}{behind}")
+        }
+        None => {
+            let path = Plain(path);
+            eprintln!(rt;
+                "farm: the store {path} could not be read or written (is the disk full?){behind}"
+            )
+        }
     }
 }
 
 /// Says what is wrong with the file at the path.
 pub(crate) fn explain_flaw(rt: &HostRuntime, flaw: StoreFlaw, path: &str) -> io::Result<()> {
+    let path = Plain(path);
     match flaw {
         StoreFlaw::OtherConfig { kept } => explain_other(rt, &kept, path),
         StoreFlaw::Record { number: 1 } => eprintln!(rt;
@@ -43,7 +51,7 @@ pub(crate) fn explain_flaw(rt: &HostRuntime, flaw: StoreFlaw, path: &str) -> io:
 }
 
 /// Says of which configuration a store is.
-fn explain_other(rt: &HostRuntime, kept: &[u8; 32], path: &str) -> io::Result<()> {
+fn explain_other(rt: &HostRuntime, kept: &[u8; 32], path: Plain<'_>) -> io::Result<()> {
     let mut digits = [0u8; 64];
     // There is room for 64 digits.
     let _written = hex::encode_to_slice(kept, &mut digits);
@@ -60,6 +68,7 @@ fn explain_other(rt: &HostRuntime, kept: &[u8; 32], path: &str) -> io::Result<()
 
 /// Says that the store at the path is full.
 pub(crate) fn explain_full(rt: &HostRuntime, path: &str, end: u64) -> io::Result<()> {
+    let path = Plain(path);
     eprintln!(rt;
         "farm: the store {path} is full: the record of the next event would end at byte {end}, and 1073741824 is the last; what was answered is stored"
     )
@@ -91,6 +100,7 @@ fn tell_rest(rt: &HostRuntime, path: &str) -> io::Result<()> {
         // Behind a record stands a gate.
         Ok(rest) if rest > 1 => {
             let rest = rest - 1;
+            let path = Plain(path);
             eprintln!(rt;
                 "note: {path}: behind its last record stand {rest} bytes of one that was not finished, and that is not held"
             )
@@ -134,11 +144,11 @@ fn store_reason(
                 );
             }
         }
-        Err(error) => return said(rt, path, &error),
+        Err(error) => return said(rt.alloc(), path, &error),
     }
     match open_again(rt, path, access) {
         Ok(file) => lock_reason(rt, path, &file, access),
-        Err(error) => said(rt, path, &error),
+        Err(error) => said(rt.alloc(), path, &error),
     }
 }
 
@@ -164,7 +174,7 @@ fn lock_reason(
     match locked {
         Ok(()) => Ok(None),
         Err(TryLockError::WouldBlock) => told(rt, path, "another program has it open as a store"),
-        Err(TryLockError::Error(error)) => said(rt, path, &error),
+        Err(TryLockError::Error(error)) => said(rt.alloc(), path, &error),
     }
 }
 

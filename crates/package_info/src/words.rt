@@ -1,6 +1,6 @@
 //! The words of `package_info`.
 use clap::{Arg, Command};
-use command_line::{ProgramWords, read_program};
+use command_line::{ProgramWords, VERSION, read_program};
 use std::alloc::{AllocError, Global};
 
 /// What the words ask for.
@@ -41,7 +41,7 @@ fn grammar<'a>(alloc: Global) -> Result<Command<'a>, AllocError> {
         .value_name("FOLDER")
         .help("The folder of the package");
     Command::new(alloc, "package_info")
-        .version("0.1.0")
+        .version(VERSION)
         .about(
             "Reads a problem package (Kattis problem package format, legacy) and prints what it has",
         )
