@@ -557,6 +557,51 @@ def public(program, _):
             yield "the board in the end", server.ended()[1].endswith(f"{count} timelimit\nboard {count}\n"), None
 
 
+def judge_and_look(server, name, wrong):
+    """Judges what is open as a host of this name, and looks behind each result; what the public did not see at once goes to
+    `wrong`."""
+    client, host = server.client(), {"hostname": name}
+    ask(client, "POST", "/judgehosts", host)
+    while (got := ask(client, "POST", "/judgehosts/fetch-work", host)[1])["reply"] == "task":
+        run = host | {"judging": got["judging"], "test": got["test"], "result": "correct"}
+        ask(client, "POST", "/judgehosts/add-judging-run", run)
+        row = rows_of(client, "/public")[got["judging"] - 1]
+        if row != {"submission": got["judging"], "verdict": "correct"}:
+            wrong.append(row)
+    client.close()
+
+
+def judged_in(rows):
+    """The submissions whose verdict is seen."""
+    return {row["submission"] for row in rows if row["verdict"] != "pending"}
+
+
+def public_by_many(program, _):
+    """What the public sees while four hosts judge at the same time: each host sees its own result behind it, and nobody sees
+    a result go.
+    """
+    count, hosts, others = 200, 4, 3
+    lines = "".join(f"{n} alpha echo a.rv32\n" for n in range(1, count + 1))
+    with tempfile.TemporaryDirectory() as folder:
+        write(folder, ONE_TEST | {"submissions.txt": lines})
+        with Server(program, folder, lanes=hosts + others, connections=hosts + others) as server:
+            stop, wrong, seen = threading.Event(), [], [[] for _ in range(others)]
+            readers = [threading.Thread(target=look_on, args=(server, stop, rows)) for rows in seen]
+            judges = [threading.Thread(target=judge_and_look, args=(server, f"h{n}", wrong)) for n in range(hosts)]
+            for thread in readers + judges:
+                thread.start()
+            for judge in judges:
+                judge.join()
+            yield "each of four hosts sees its results behind them", not wrong, wrong
+            stop.set()
+            for reader in readers:
+                reader.join()
+            stays = all(judged_in(old) <= judged_in(new) for rows in seen for old, new in zip(rows, rows[1:]))
+            versions = [len(rows) for rows in seen]
+            yield f"three others saw {versions} versions, and no result go", stays, versions
+            yield "all are judged", server.ended()[1].endswith(f"{count} correct\nboard {count}\n"), None
+
+
 class Others:
     """Two other clients that ask all the time while a block runs: one keeps its connection, one comes anew each time."""
 
@@ -802,7 +847,7 @@ def main():
         write(folder, FILES)
         looks = [look(program, folder) for look in (
             talks, whole_connections, exact_bytes, batches, cut_anywhere, comes_back, hostile, killed, aborted, large, silent, lanes,
-            stuck, public, crowds, among_many, ends)]
+            stuck, public, public_by_many, crowds, among_many, ends)]
         for some in [*looks, page(program)]:
             for name, good, got in some:
                 print(f"{'ok  ' if good else 'NOT '} {name}{'' if good else f': {got!r}'}")

@@ -11,13 +11,13 @@ use Rattle.farm_board.specs.Passes.{PassValue, SplitsOff, TakesIn, IsJoined, boa
 use Rattle.farm_board.specs.declared.entries.Call.{Call}
 use Rattle.farm_board.specs.declared.entries.Entry.{Entry}
 use Rattle.farm_board.specs.declared.entries.Entry.TheVariants as entry
-use Rattle.farm_board.proofs.Numbers.{in_front, in_end}
+use Rattle.farm_board.proofs.Numbers.{in_here, in_front, in_end}
 use Rattle.farm_board.proofs.Prefixes.{prefix_self, prefix_trans}
 use Rattle.farm_board.proofs.Histories.{after_call_given, board_after_append, board_after_snoc, legal_at}
 use Rattle.farm_board.proofs.Callers.{joined_grows, joined_joins, joins}
-use Rattle.parallel_judge.specs.Hosts.{as_entries, HasEntered}
+use Rattle.parallel_judge.specs.Hosts.{as_entries}
 use Rattle.contest_server.specs.Visits.{Start, Visit}
-use Rattle.contest_server.specs.Beside.{AreAbove, last_or, IsSeat, visit_numbers, start_numbers, pass_numbers, IsTaken, IsBeside}
+use Rattle.contest_server.specs.Beside.{AreAbove, last_or, IsSeat, visit_numbers, start_numbers, pass_numbers, IsTaken, IsBeside, feed_share, HasSplit}
 use Rattle.contest_server.proofs.Numbers.{above_more, last_more}
 
 -- Lists
@@ -55,20 +55,20 @@ seat_more numbers n (entry.Call call) h = absurd h
 seat_more numbers n (entry.Split number new) h = in_front new n numbers h
 seat_more numbers n (entry.Join number old) h = tt
 
-grown : {N : Type 0} (start : BoardState) (calls : List Call) (visits visits' : List (Visit N)) (starts starts' : List (Start N)) (old new : PassValue) (more : List Entry) (e : Entry)
-    → IsBeside start calls visits starts old
+grown : {N : Type 0} (start : BoardState) (calls : List Call) (feed : ℕ) (visits visits' : List (Visit N)) (starts starts' : List (Start N)) (old new : PassValue) (more : List Entry) (e : Entry)
+    → IsBeside start calls feed visits starts old
     → new.seen ≡ (old.seen ++ more) ++ e ∷ [] → IsLegal old.start new.seen → new.mine ≡ old.mine ++ e ∷ [] → entries_by old.number new.seen ≡ new.mine
     → new.number ≡ old.number → new.start ≡ old.start
-    → ((x : Entry) → IsSeat (pass_numbers visits starts) x → IsSeat (pass_numbers visits' starts') x) → IsSeat (pass_numbers visits' starts') e
-    → All (IsTaken new) visits' → AreAbove 0 (pass_numbers visits' starts') → last_or 0 (pass_numbers visits' starts') ≤ (board_seen new).given
-    → IsBeside start calls visits' starts' new
-grown start calls visits visits' starts starts' old new more e b seen legal mine own number begins turn seat taken rising given = record {
+    → ((x : Entry) → IsSeat (pass_numbers feed visits starts) x → IsSeat (pass_numbers feed visits' starts') x) → IsSeat (pass_numbers feed visits' starts') e
+    → All (IsTaken new) visits' → AreAbove 0 (pass_numbers feed visits' starts') → last_or 0 (pass_numbers feed visits' starts') ≤ (board_seen new).given
+    → IsBeside start calls feed visits' starts' new
+grown start calls feed visits visits' starts starts' old new more e b seen legal mine own number begins turn seat taken rising given = record {
   front = prefix_trans (as_entries calls) old.seen new.seen b.front (more ++ e ∷ [], sym (append_assoc old.seen more (e ∷ [])) ∙ sym seen);
   legal = subst (λ (s : BoardState). IsLegal s new.seen) b.begins legal;
   own = ap (λ (n : ℕ). entries_by n new.seen) (sym b.number) ∙ own;
   seats = b.seats ++ e ∷ [];
   mine = mine ∙ ap (λ (es : List Entry). es ++ e ∷ []) b.mine ∙ append_assoc (as_entries calls) b.seats (e ∷ []);
-  seated = all_more (IsSeat (pass_numbers visits' starts')) b.seats e (all_turned (IsSeat (pass_numbers visits starts)) (IsSeat (pass_numbers visits' starts')) turn b.seats b.seated) seat;
+  seated = all_more (IsSeat (pass_numbers feed visits' starts')) b.seats e (all_turned (IsSeat (pass_numbers feed visits starts)) (IsSeat (pass_numbers feed visits' starts')) turn b.seats b.seated) seat;
   number = number ∙ b.number;
   begins = begins ∙ b.begins;
   taken = taken;
@@ -76,71 +76,106 @@ grown start calls visits visits' starts starts' old new more e b seen legal mine
   given = given;
 }
 
--- before any pass was split off
-pub nothing_beside : {N : Type 0} (start : BoardState) (events : List Event) (pass : PassValue) → (h : HasEntered start events pass) → entries_by 0 (as_entries h.calls) ≡ as_entries h.calls
-    → IsBeside {N = N} start h.calls [] [] pass
-nothing_beside {N} start events pass h own = record {
-  front = subst (λ (es : List Entry). IsPrefix (as_entries h.calls) es) (sym h.seen) (prefix_self (as_entries h.calls));
-  legal = subst (λ (es : List Entry). IsLegal start es) (sym h.seen) h.legal;
-  own = ap (λ (es : List Entry). entries_by 0 es) h.seen ∙ own ∙ sym h.mine;
-  seats = [];
-  mine = h.mine ∙ sym (append-nil (as_entries h.calls));
-  seated = All-nil (IsSeat []);
-  number = h.number;
-  begins = h.begins;
-  taken = All-nil (IsTaken {N = N} pass);
-  rising = tt;
-  given = omega arith;
-}
-
--- a pass is split off for a connection
-pub splits_beside : {N : Type 0} (start : BoardState) (calls : List Call) (visits : List (Visit N)) (starts : List (Start N)) (old new : PassValue) (s : Start N) (share : ℕ)
-    → IsBeside start calls visits starts old → SplitsOff old new s.begun share → IsBeside start calls visits (starts ++ s ∷ []) new
-splits_beside {N} start calls visits starts old new s share b split =
-    let other = s.begun in
+-- a pass that is split off has a number above all that were given
+split_number : (old new other : PassValue) (share : ℕ) → SplitsOff old new other share → ((board_seen old).given < other.number) × (other.number ≤ (board_seen new).given)
+split_number old new other share split =
     let g = split.grows in
     let e : Entry = entry.Split old.number other.number in
     let before : List Entry = old.seen ++ g.between in
-    let numbers : pass_numbers visits (starts ++ s ∷ []) ≡ pass_numbers visits starts ++ other.number ∷ [] =
-    ap (λ (ns : List ℕ). visit_numbers visits ++ ns) (map-append (λ (x : Start N). x.begun.number) starts (s ∷ [])) ∙ sym (append_assoc (visit_numbers visits) (start_numbers starts) (other.number ∷ [])) in
     let legal : IsLegal old.start (before ++ e ∷ []) = subst (λ (es : List Entry). IsLegal old.start es) g.seen g.legal in
     let next : IsNext (board_after old.start before) e = legal_at old.start before e [] legal in
     let is : other.number ≡ (board_after old.start before).given + 1 = next.2 in
     let through = after_given (board_seen old) g.between in
     let whole = ap (λ (z : BoardState). z.given) (board_after_append old.start old.seen g.between) in
-    let known = b.given in
     let now : board_seen new ≡ next_board (board_after old.start before) e =
     ap (λ (z : BoardState). board_after z new.seen) g.start ∙ ap (λ (es : List Entry). board_after old.start es) g.seen ∙ board_after_snoc old.start before e in
     let now_given = ap (λ (z : BoardState). z.given) now in
-    let here : other.number ≤ (board_seen new).given = omega (arith, is, now_given) in
-    let below : last_or 0 (pass_numbers visits starts) < other.number = omega (arith, is, through, whole, known) in
-    grown start calls visits visits starts (starts ++ s ∷ []) old new g.between e b g.seen g.legal g.mine g.own g.number g.start
-    (λ x seat. subst (λ (ns : List ℕ). IsSeat ns x) (sym numbers) (seat_more (pass_numbers visits starts) other.number x seat))
-    (subst (λ (ns : List ℕ). is_in other.number ns ≡ true) (sym numbers) (in_end other.number (pass_numbers visits starts)))
+    (omega (arith, is, through, whole), omega (arith, is, now_given))
+
+-- the contest has entered, and the feed's pass was split off
+pub feed_beside : {N : Type 0} (start : BoardState) (events : List Event) (pass own : PassValue) → (h : HasSplit start events pass own) → IsBeside {N = N} start h.entered.calls own.number [] [] pass
+feed_beside {N} start events pass own h =
+    let entered = h.entered in
+    let split = h.split in
+    let g = split.grows in
+    let e : Entry = entry.Split h.before.number own.number in
+    let numbers : List ℕ = own.number ∷ [] in
+    let number = split_number h.before pass own feed_share split in
+    let above = number.0 in
+    record {
+      front = subst (λ (es : List Entry). IsPrefix es pass.seen) entered.seen
+          (g.between ++ e ∷ [], sym (append_assoc h.before.seen g.between (e ∷ [])) ∙ sym g.seen);
+      legal = subst (λ (s : BoardState). IsLegal s pass.seen) entered.begins g.legal;
+      own = ap (λ (n : ℕ). entries_by n pass.seen) (sym entered.number) ∙ g.own;
+      seats = e ∷ [];
+      mine = g.mine ∙ ap (λ (es : List Entry). es ++ e ∷ []) entered.mine;
+      seated = All-cons (IsSeat numbers) e [] (in_here own.number []) (All-nil (IsSeat numbers));
+      number = g.number ∙ entered.number;
+      begins = g.start ∙ entered.begins;
+      taken = All-nil (IsTaken {N = N} pass);
+      rising = (omega (arith, above), tt);
+      given = number.1;
+    }
+
+-- a pass is split off for a connection
+pub splits_beside : {N : Type 0} (start : BoardState) (calls : List Call) (feed : ℕ) (visits : List (Visit N)) (starts : List (Start N)) (old new : PassValue) (s : Start N) (share : ℕ)
+    → IsBeside start calls feed visits starts old → SplitsOff old new s.begun share → IsBeside start calls feed visits (starts ++ s ∷ []) new
+splits_beside {N} start calls feed visits starts old new s share b split =
+    let other = s.begun in
+    let g = split.grows in
+    let e : Entry = entry.Split old.number other.number in
+    let numbers : pass_numbers feed visits (starts ++ s ∷ []) ≡ pass_numbers feed visits starts ++ other.number ∷ [] =
+    ap (λ (ns : List ℕ). feed ∷ ns)
+    (ap (λ (ns : List ℕ). visit_numbers visits ++ ns) (map-append (λ (x : Start N). x.begun.number) starts (s ∷ [])) ∙ sym (append_assoc (visit_numbers visits) (start_numbers starts) (other.number ∷ []))) in
+    let number = split_number old new other share split in
+    let above = number.0 in
+    let known = b.given in
+    let below : last_or 0 (pass_numbers feed visits starts) < other.number = omega (arith, above, known) in
+    grown start calls feed visits visits starts (starts ++ s ∷ []) old new g.between e b g.seen g.legal g.mine g.own g.number g.start
+    (λ x seat. subst (λ (ns : List ℕ). IsSeat ns x) (sym numbers) (seat_more (pass_numbers feed visits starts) other.number x seat))
+    (subst (λ (ns : List ℕ). is_in other.number ns ≡ true) (sym numbers) (in_end other.number (pass_numbers feed visits starts)))
     (all_turned (IsTaken old) (IsTaken new) (λ v was. joined_grows v.begun.number old new e v.ended.mine g was) visits b.taken)
-    (subst (λ (ns : List ℕ). AreAbove 0 ns) (sym numbers) (above_more 0 other.number (pass_numbers visits starts) b.rising below))
-    (subst (λ (n : ℕ). n ≤ (board_seen new).given) (sym (ap (λ (ns : List ℕ). last_or 0 ns) numbers ∙ last_more 0 other.number (pass_numbers visits starts))) here)
+    (subst (λ (ns : List ℕ). AreAbove 0 ns) (sym numbers) (above_more 0 other.number (pass_numbers feed visits starts) b.rising below))
+    (subst (λ (n : ℕ). n ≤ (board_seen new).given) (sym (ap (λ (ns : List ℕ). last_or 0 ns) numbers ∙ last_more 0 other.number (pass_numbers feed visits starts))) number.1)
 
 -- the pass of the connection that was accepted first is taken in
-pub joins_beside : {N : Type 0} (start : BoardState) (calls : List Call) (visits : List (Visit N)) (s : Start N) (starts : List (Start N)) (v : Visit N) (old new : PassValue) → IsOpening start
-    → v.begun ≡ s.begun → v.ended.number ≡ s.begun.number → IsBeside start calls visits (s ∷ starts) old → TakesIn old v.ended new
-    → IsBeside start calls (visits ++ v ∷ []) starts new
-joins_beside {N} start calls visits s starts v old new o same number b t =
+pub joins_beside : {N : Type 0} (start : BoardState) (calls : List Call) (feed : ℕ) (visits : List (Visit N)) (s : Start N) (starts : List (Start N)) (v : Visit N) (old new : PassValue) → IsOpening start
+    → v.begun ≡ s.begun → v.ended.number ≡ s.begun.number → IsBeside start calls feed visits (s ∷ starts) old → TakesIn old v.ended new
+    → IsBeside start calls feed (visits ++ v ∷ []) starts new
+joins_beside {N} start calls feed visits s starts v old new o same number b t =
     let from = v.ended in
     let e : Entry = entry.Join old.number from.number in
     let more = t.begins.0 in
     let seen : new.seen ≡ (old.seen ++ more) ++ e ∷ [] = t.seen ∙ ap (λ (es : List Entry). es ++ e ∷ []) (sym t.begins.1) in
-    let numbers : pass_numbers (visits ++ v ∷ []) starts ≡ pass_numbers visits (s ∷ starts) =
-    ap (λ (ns : List ℕ). ns ++ start_numbers starts) (map-append (λ (x : Visit N). x.begun.number) visits (v ∷ []))
+    let numbers : pass_numbers feed (visits ++ v ∷ []) starts ≡ pass_numbers feed visits (s ∷ starts) =
+    ap (λ (ns : List ℕ). feed ∷ ns)
+    (ap (λ (ns : List ℕ). ns ++ start_numbers starts) (map-append (λ (x : Visit N). x.begun.number) visits (v ∷ []))
     ∙ append_assoc (visit_numbers visits) (v.begun.number ∷ []) (start_numbers starts)
-    ∙ ap (λ (p : PassValue). visit_numbers visits ++ p.number ∷ start_numbers starts) same in
+    ∙ ap (λ (p : PassValue). visit_numbers visits ++ p.number ∷ start_numbers starts) same) in
     let opening : IsOpening old.start = subst IsOpening (sym b.begins) o in
     let here : IsJoined from.number new from.mine = joins old from new opening t in
     let taken : IsTaken new v = subst (λ (n : ℕ). IsJoined n new from.mine) (number ∙ sym (ap (λ (p : PassValue). p.number) same)) here in
     let later = given_later old new t.start (more ++ e ∷ [], sym (append_assoc old.seen more (e ∷ [])) ∙ sym seen) in
     let known = b.given in
-    grown start calls visits (visits ++ v ∷ []) (s ∷ starts) starts old new more e b seen t.legal t.mine t.own t.number t.start
+    grown start calls feed visits (visits ++ v ∷ []) (s ∷ starts) starts old new more e b seen t.legal t.mine t.own t.number t.start
     (λ x seat. subst (λ (ns : List ℕ). IsSeat ns x) (sym numbers) seat) tt
     (all_more (IsTaken new) visits v (all_turned (IsTaken old) (IsTaken new) (λ x was. joined_joins x.begun.number old from new x.ended.mine t was) visits b.taken) taken)
     (subst (λ (ns : List ℕ). AreAbove 0 ns) (sym numbers) b.rising)
     (subst (λ (ns : List ℕ). last_or 0 ns ≤ (board_seen new).given) (sym numbers) (omega (arith, later, known)))
+
+-- the feed's pass is taken in, once all connections were served
+pub feed_joins : {N : Type 0} (start : BoardState) (calls : List Call) (feed : ℕ) (visits : List (Visit N)) (old from new : PassValue) → IsOpening start → from.number ≡ feed
+    → IsBeside start calls feed visits [] old → TakesIn old from new → IsBeside start calls feed visits [] new × IsJoined feed new from.mine
+feed_joins {N} start calls feed visits old from new o number b t =
+    let e : Entry = entry.Join old.number from.number in
+    let more = t.begins.0 in
+    let seen : new.seen ≡ (old.seen ++ more) ++ e ∷ [] = t.seen ∙ ap (λ (es : List Entry). es ++ e ∷ []) (sym t.begins.1) in
+    let opening : IsOpening old.start = subst IsOpening (sym b.begins) o in
+    let here : IsJoined from.number new from.mine = joins old from new opening t in
+    let later = given_later old new t.start (more ++ e ∷ [], sym (append_assoc old.seen more (e ∷ [])) ∙ sym seen) in
+    let known = b.given in (
+      grown start calls feed visits visits [] [] old new more e b seen t.legal t.mine t.own t.number t.start (λ x seat. seat) tt
+          (all_turned (IsTaken old) (IsTaken new) (λ x was. joined_joins x.begun.number old from new x.ended.mine t was) visits b.taken)
+          b.rising (omega (arith, later, known)),
+      subst (λ (n : ℕ). IsJoined n new from.mine) number here,
+    )

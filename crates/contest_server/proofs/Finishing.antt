@@ -1,5 +1,5 @@
 -- What was served, once the last `board` was asked for, or was not.
-use Rattle.std.proofs.Common.{◌≡◌, ◌≢◌, ℕ, List, [], ◌++◌, Option, None, Some, refl, sym, ap, subst, arith, append-nil, inr}
+use Rattle.std.proofs.Common.{◌≡◌, ◌≢◌, ℕ, ◌⊎◌, ⊎_elim, inr, true, List, [], ◌++◌, Option, None, Some, refl, sym, ap, subst, arith, append-nil}
 use Rattle.std.proofs.lemmas.List.Elements.{All-nil}
 use Rattle.std.specs.Io.KnownBytes.{Appends}
 use Rattle.std.proofs.KnownBytes.{Appends-nil, Appends-trans}
@@ -10,16 +10,16 @@ use Rattle.farm_kinds.specs.declared.events.Reply.TheVariants as reply
 use Rattle.farm_model.specs.Texts.{reply_text}
 use Rattle.farm_board.specs.BoardState.{BoardState}
 use Rattle.farm_board.specs.Histories.{IsOpening}
-use Rattle.farm_board.specs.Passes.{PassValue}
-use Rattle.parallel_judge.specs.Hosts.{HasEntered}
-use Rattle.parallel_judge.proofs.Opening.{own_calls}
+use Rattle.farm_board.specs.Passes.{PassValue, TakesIn}
+use Rattle.judge_feed.specs.Showing.{are_looks}
 use Rattle.contest_server.specs.declared.ends.ServeEnd.{ServeEnd}
 use Rattle.contest_server.specs.declared.ends.ServeEnd.TheVariants as end
 use Rattle.contest_server.specs.Visits.{Watch, IsVisit, conn_lines}
-use Rattle.contest_server.specs.Serving.{Came, with_all, desk_value, Opening, Tells, Wrote, Rests}
-use Rattle.contest_server.specs.Served.{IsAsked, ShowsBoard, HasServed, Serves}
-use Rattle.contest_server.proofs.Beside.{nothing_beside}
-use Rattle.contest_server.proofs.Telling.{front_behind}
+use Rattle.contest_server.specs.Serving.{Came, with_all, desk_value, Opening, Tells, Wrote, Rests, HasCauseEnd}
+use Rattle.contest_server.specs.Beside.{HasSplit}
+use Rattle.contest_server.specs.Served.{IsAsked, ShowsBoard, HasShown, Finishes, HasServed, Serves}
+use Rattle.contest_server.proofs.Beside.{feed_beside, feed_joins}
+use Rattle.contest_server.proofs.Telling.{rose_since, front_behind}
 use Rattle.contest_server.proofs.Whole.{history_without, history_with}
 
 -- Before any connection
@@ -32,18 +32,18 @@ back_none : {N : Type 0} (a : Option (List N)) → a ≡ with_all a []
 back_none None = refl
 back_none (Some back) = ap Some (sym (append-nil back))
 
--- the serving begins with this door, what is held, and what the opening pass has entered
-abbrev pub opening_of : {N : Type 0} → DoorState N → Option (List ℕ) → (start : BoardState) (events : List Event) (pass : PassValue) → HasEntered start events pass → Opening N
-opening_of door held start events pass h = record { door = door; held = held; start = start; calls = h.calls }
+-- the serving begins with this door, what is held, and what the opening pass has entered before it split off the feed's
+abbrev pub opening_of : {N : Type 0} → DoorState N → Option (List ℕ) → (start : BoardState) (events : List Event) (pass own : PassValue) → HasSplit start events pass own → Opening N
+opening_of door held start events pass own h = record { door = door; held = held; start = start; calls = h.entered.calls; feed = own.number }
 
-pub tells_none : {N : Type 0} (w : Watch N) (door : DoorState N) (held : Option (List ℕ)) (start : BoardState) (events : List Event) (pass : PassValue) → IsOpening start → (h : HasEntered start events pass)
-    → Tells w (opening_of door held start events pass h) (desk_value door pass []) held 0
-tells_none {N} w door held start events pass o h = record {
+pub tells_none : {N : Type 0} (w : Watch N) (door : DoorState N) (held : Option (List ℕ)) (start : BoardState) (events : List Event) (pass own : PassValue) → IsOpening start → (h : HasSplit start events pass own)
+    → Tells w (opening_of door held start events pass own h) (desk_value door pass []) held 0
+tells_none {N} w door held start events pass own o h = record {
   visits = [];
   stands = record {
     opening = o;
     door = record { came = came_none door.coming; back = back_none door.back; accepted = omega arith; returned = omega arith; listens = refl };
-    beside = nothing_beside start events pass h (own_calls h.calls h.callers);
+    beside = feed_beside start events pass own h;
     each = All-nil (IsVisit w);
   };
   count = refl;
@@ -76,38 +76,72 @@ whole_done : (e : ServeEnd) (old new : Option (List ℕ)) (text : List ℕ) → 
 whole_done e old new text is h = subst (λ (z : ServeEnd). Wrote z old new text) is h
 
 -- the last `board` was not asked for
-pub served_without : {N : Type 0} (w : Watch N) (start : BoardState) (events : List Event) (door door' : DoorState N) (pass pass' : PassValue) (held held' : Option (List ℕ)) (most : ℕ) (e : ServeEnd) → e ≢ end.Done → IsOpening start
-    → (h : HasEntered start events pass) → Rests w (opening_of door held start events pass h) (desk_value door' pass' []) held' most e → HasServed w start events door door' held held' most e
-served_without {N} w start events door door' pass pass' held held' most e other o h r = let few = r.few in record {
-  visits = r.visits;
-  each = r.stands.each;
-  back = r.stands.door;
-  few = omega (arith, few);
-  done = r.done;
-  board = None;
-  asked = asked_not e other;
-  history = pass'.seen;
-  stands = history_without w start events r.visits h.calls pass' o h.events_are h.effective r.stands.each r.stands.beside;
-  wrote = subst (λ (text : List ℕ). Wrote e held held' text) (sym (append-nil (conn_lines 1 r.visits))) r.wrote;
-}
+pub served_without : {N : Type 0} (w : Watch N) (start : BoardState) (events : List Event) (door door' : DoorState N) (pass own pass' from pass'' : PassValue) (held held' : Option (List ℕ)) (most : ℕ) (e : ServeEnd) → e ≢ end.Done → IsOpening start
+    → (h : HasSplit start events pass own) → Rests w (opening_of door held start events pass own h) (desk_value door' pass' []) held' most e
+    → from.number ≡ own.number → are_looks from.mine ≡ true → TakesIn pass' from pass'' → HasServed w start events door door' held held' most e
+served_without {N} w start events door door' pass own pass' from pass'' held held' most e other o h r number looks t =
+    let few = r.few in
+    let joined = feed_joins start h.entered.calls own.number r.visits pass' from pass'' o number r.stands.beside t in record {
+      visits = r.visits;
+      each = r.stands.each;
+      back = r.stands.door;
+      few = omega (arith, few);
+      done = r.done;
+      board = None;
+      asked = asked_not e other;
+      history = pass''.seen;
+      stands = history_without w start events own.number r.visits h.entered.calls pass'' from.mine o h.entered.events_are h.entered.effective r.stands.each joined.0 looks joined.1;
+      wrote = subst (λ (text : List ℕ). Wrote e held held' text) (sym (append-nil (conn_lines 1 r.visits))) r.wrote;
+    }
 
 -- the last `board` was asked for
-pub served_with : {N : Type 0} (w : Watch N) (start : BoardState) (events : List Event) (door door' : DoorState N) (pass pass' pass'' : PassValue) (held held' held'' : Option (List ℕ)) (faults faults' most : ℕ) (e result : ServeEnd) → e ≡ end.Done → IsOpening start
-    → (h : HasEntered start events pass) → Rests w (opening_of door held start events pass h) (desk_value door' pass' []) held' most e → ShowsBoard pass' pass'' held' held'' faults faults' result → HasServed w start events door door' held held'' most result
-served_with {N} w start events door door' pass pass' pass'' held held' held'' faults faults' most e result is o h r s = let few = r.few in record {
-  visits = r.visits;
-  each = r.stands.each;
-  back = r.stands.door;
-  few = omega (arith, few);
-  done = λ _. r.done is;
-  board = Some s.answer;
-  asked = asked_is result s.answer s.other s.known;
-  history = pass''.seen;
-  stands = history_with w start events r.visits h.calls pass' pass'' s.answer o h.events_are h.effective r.stands.each r.stands.beside s.calls;
-  wrote = behind_lines result held held' held'' (conn_lines 1 r.visits) (reply_text s.answer) (whole_done e held held' (conn_lines 1 r.visits) is r.wrote) s.wrote;
-}
+pub served_with : {N : Type 0} (w : Watch N) (start : BoardState) (events : List Event) (door door' : DoorState N) (pass own pass' from pass'' last : PassValue) (held held' held'' : Option (List ℕ)) (faults faults' most : ℕ) (e result : ServeEnd) → e ≡ end.Done → IsOpening start
+    → (h : HasSplit start events pass own) → Rests w (opening_of door held start events pass own h) (desk_value door' pass' []) held' most e
+    → from.number ≡ own.number → are_looks from.mine ≡ true → TakesIn pass' from pass'' → ShowsBoard pass'' last held' held'' faults faults' result → HasServed w start events door door' held held'' most result
+served_with {N} w start events door door' pass own pass' from pass'' last held held' held'' faults faults' most e result is o h r number looks t s =
+    let few = r.few in
+    let joined = feed_joins start h.entered.calls own.number r.visits pass' from pass'' o number r.stands.beside t in record {
+      visits = r.visits;
+      each = r.stands.each;
+      back = r.stands.door;
+      few = omega (arith, few);
+      done = λ _. r.done is;
+      board = Some s.answer;
+      asked = asked_is result s.answer s.other s.known;
+      history = last.seen;
+      stands = history_with w start events own.number r.visits h.entered.calls pass'' last from.mine s.answer o h.entered.events_are h.entered.effective r.stands.each joined.0 looks joined.1 s.calls;
+      wrote = behind_lines result held held' held'' (conn_lines 1 r.visits) (reply_text s.answer) (whole_done e held held' (conn_lines 1 r.visits) is r.wrote) s.wrote;
+    }
 
--- what was served is what the contest's serving says of its end
+-- either way
+pub finished : {N : Type 0} (w : Watch N) (start : BoardState) (events : List Event) (door door' : DoorState N) (pass own pass' from : PassValue) (held held' held'' : Option (List ℕ)) (faults faults' most : ℕ) (e result : ServeEnd) → IsOpening start
+    → (h : HasSplit start events pass own) → Rests w (opening_of door held start events pass own h) (desk_value door' pass' []) held' most e
+    → from.number ≡ own.number → are_looks from.mine ≡ true → Finishes pass' from held' held'' faults faults' e result → HasServed w start events door door' held held'' most result
+finished {N} w start events door door' pass own pass' from held held' held'' faults faults' most e result o h r number looks f =
+    ⊎_elim (λ (t : (e ≡ end.Done) × ((last : PassValue) × ShowsBoard f.whole last held' held'' faults faults' result)).
+    served_with w start events door door' pass own pass' from f.whole t.1.0 held held' held'' faults faults' most e result t.0 o h r number looks f.takes t.1.1)
+    (λ (t : (e ≢ end.Done) × (result ≡ e) × (held'' ≡ held') × (faults' ≡ faults)).
+    subst (λ (z : ServeEnd × Option (List ℕ)). HasServed w start events door door' held z.1 most z.0) (λ i. (sym t.1 i, sym t.2 i))
+    (served_without w start events door door' pass own pass' from f.whole held held' most e t.0 o h r number looks f.takes)) f.ends
+
+shown_cause : (door door' out out' out'' : ℕ) (whole last : PassValue) (held' held'' : Option (List ℕ)) (e result : ServeEnd) → HasCauseEnd door door' out out' e → ShowsBoard whole last held' held'' out' out'' result
+    → HasCauseEnd door door' out out'' result
+shown_cause door door' out out' out'' whole last held' held'' e result cause s =
+    let before = cause.out_later in
+    let later = s.later in
+    record {
+      door_later = cause.door_later;
+      out_later = omega (arith, before, later);
+      door_failed = λ is. absurd (s.other is);
+      out_failed = λ is. rose_since out out' out'' before (s.failed is);
+    }
+
+pub finished_cause : (door door' out out' out'' : ℕ) (pass from : PassValue) (held' held'' : Option (List ℕ)) (e result : ServeEnd) → HasCauseEnd door door' out out' e → Finishes pass from held' held'' out' out'' e result
+    → HasCauseEnd door door' out out'' result
+finished_cause door door' out out' out'' pass from held' held'' e result cause f =
+    ⊎_elim (λ (t : (e ≡ end.Done) × ((last : PassValue) × ShowsBoard f.whole last held' held'' out' out'' result)). shown_cause door door' out out' out'' f.whole t.1.0 held' held'' e result cause t.1.1)
+    (λ (t : (e ≢ end.Done) × (result ≡ e) × (held'' ≡ held') × (out'' ≡ out')). subst (λ (z : ServeEnd × ℕ). HasCauseEnd door door' out z.1 z.0) (λ i. (sym t.1 i, sym t.3 i)) cause) f.ends
+
 pub serves : {N : Type 0} (w : Watch N) (start : BoardState) (events : List Event) (door door' : DoorState N) (held held' : Option (List ℕ)) (most : ℕ) (e : ServeEnd) → HasServed w start events door door' held held' most e
     → Serves w start events door door' held held' most e
 serves w start events door door' held held' most end.Done h = h

@@ -8,3 +8,4 @@ pub mod Finishing
 mod Sending
 mod Settling
 mod Names
+pub mod Unread

@@ -65,7 +65,7 @@ gives_back {N} first old new visits s starts v same g t =
 
 -- A connection was accepted
 
-pub accepts : {N : Type 0} (w : Watch N) (board : BoardId) (door door' : DoorState N) (pass pass' : PassValue) (starts : List (Start N)) (s : Start N) → IsOrderly w board (desk_value door pass starts) → share + length starts + 2 < pass.left
+pub accepts : {N : Type 0} (w : Watch N) (board : BoardId) (door door' : DoorState N) (pass pass' : PassValue) (starts : List (Start N)) (s : Start N) → IsOrderly w board (desk_value door pass starts) → share + length starts + 3 < pass.left
     → IsFresh (w.held s.came) (w.reads s.came) (w.writes s.came) → LetsIn door door' s.came → SplitsOff pass pass' s.begun share → AcceptsNext w board (desk_value door pass starts) (desk_value door' pass' (starts ++ s ∷ [])) coming.Conn
 accepts {N} w board door door' pass pass' starts s orderly enough fresh l split =
     let len = length-append starts (s ∷ []) in
@@ -93,7 +93,7 @@ accepts {N} w board door door' pass pass' starts s orderly enough fresh l split 
         stands = record {
           opening = t.stands.opening;
           door = lets_in o.door door door' t.visits starts s t.stands.door l;
-          beside = splits_beside o.start o.calls t.visits starts pass pass' s share t.stands.beside split;
+          beside = splits_beside o.start o.calls o.feed t.visits starts pass pass' s share t.stands.beside split;
           each = t.stands.each;
         };
         count = omega (arith, len, count);
@@ -108,7 +108,7 @@ pub takes : {N : Type 0} (w : Watch N) (board : BoardId) (door door' : DoorState
     → TakesFirst w board (desk_value door pass (s ∷ starts)) (desk_value door' pass' starts) e
 takes {N} w board door door' pass pass' s starts v e orderly same_conn same_pass requests how answered t b =
     let ready : IsReady w board s = All-head (IsReady w board) s starts orderly.ready in
-    let made = answered.served.entered in
+    let made = answered.served.entered.calls in
     let begun_spare = ap (λ (p : PassValue). p.spare) same_pass in
     let ready_spare = ready.spare in
     let made_spare = made.spare in
@@ -143,7 +143,7 @@ takes {N} w board door door' pass pass' s starts v e orderly same_conn same_pass
         stands = record {
           opening = h.opening;
           door = gives_back o.door door door' visits s starts v same_conn h.door b;
-          beside = joins_beside o.start o.calls visits s starts v pass pass' h.opening same_pass (made.number ∙ ap (λ (p : PassValue). p.number) same_pass) h.beside t;
+          beside = joins_beside o.start o.calls o.feed visits s starts v pass pass' h.opening same_pass (made.number ∙ ap (λ (p : PassValue). p.number) same_pass) h.beside t;
           each = all_more (IsVisit w) visits v h.each visited;
         };
       };

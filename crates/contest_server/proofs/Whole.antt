@@ -1,6 +1,6 @@
 -- The whole history, once all connections were served.
 use Rattle.std.proofs.Common.{◌≡◌, ◌≢◌, ℕ, ◌⊎◌, ◌||◌, inl, inr, ⊎_elim, Bool, true, false, List, [], ◌∷◌, ◌++◌, Option, None, Some, map, eqb, refl, sym, ap, ◌∙◌, subst, append_assoc, append-nil, eq-eqb, eqb-true, ne_eqb}
-use Rattle.std.specs.Prelude.{All, if◌then◌else◌}
+use Rattle.std.specs.Prelude.{All, if◌then◌else◌, ◌&&◌}
 use Rattle.std.proofs.lemmas.List.Elements.{All-nil, All-cons, All-head, All-tail, All-append}
 use mathlib.Core.List.{IsPrefix}
 use Rattle.farm_kinds.specs.declared.events.Event.{Event}
@@ -8,7 +8,7 @@ use Rattle.farm_kinds.specs.declared.events.Event.TheVariants as event
 use Rattle.farm_kinds.specs.declared.events.Reply.{Reply}
 use Rattle.farm_board.specs.BoardState.{BoardState}
 use Rattle.farm_board.specs.Histories.{is_in, is_no_memory, pass_number, IsOut, IsOpening, IsLegal, IsNext, next_board, board_after, entries_by}
-use Rattle.farm_board.specs.Passes.{PassValue, Calls, call_of}
+use Rattle.farm_board.specs.Passes.{PassValue, Calls, IsJoined, call_of}
 use Rattle.farm_board.specs.declared.entries.Call.{Call}
 use Rattle.farm_board.specs.declared.entries.Entry.{Entry}
 use Rattle.farm_board.specs.declared.entries.Entry.TheVariants as entry
@@ -16,9 +16,10 @@ use Rattle.farm_board.proofs.Numbers.{in_here, in_later, in_either, in_from}
 use Rattle.farm_board.proofs.Prefixes.{prefix_trans}
 use Rattle.farm_board.proofs.Histories.{after_call_out, next_out, legal_at}
 use Rattle.farm_board.proofs.Callers.{joined_grows}
-use Rattle.judge_server.specs.Entering.{Entered}
+use Rattle.judge_server.specs.Entering.{Entered, without_looks}
 use Rattle.judge_server.specs.Exchanges.{all_entered}
 use Rattle.judge_server.specs.PassCalls.{entry_of}
+use Rattle.judge_feed.specs.Showing.{is_look, are_looks}
 use Rattle.parallel_judge.specs.Hosts.{as_entries, AreEffective}
 use Rattle.parallel_judge.specs.Journal.{events_in}
 use Rattle.contest_server.specs.Visits.{Watch, Visit, IsVisit}
@@ -103,8 +104,8 @@ seat_gives numbers (entry.Join number old) h = tt
 visit_gives : {N : Type 0} (w : Watch N) (ns : List ℕ) (v : Visit N) → IsVisit w v → All (GivesAmong ns) v.ended.mine
 visit_gives w ns v h =
     let s = h.answered.served in
-    let made = all_entered s.answered ++ s.made in
-    let is = s.entered.mine ∙ ap (λ (es : List Entry). es ++ map (entry_of v.begun.number) made) h.unused in
+    let made = without_looks (all_entered s.answered ++ s.made) in
+    let is = s.entered.calls.mine ∙ ap (λ (es : List Entry). es ++ map (entry_of v.begun.number) made) h.unused in
     subst (λ (es : List Entry). All (GivesAmong ns) es) (sym is) (made_give ns v.begun.number made)
 
 visits_give : {N : Type 0} (w : Watch N) (ns : List ℕ) (history : List Entry) (visits : List (Visit N)) → All (IsVisit w) visits → All (HasCalls history) visits → (n : ℕ) → is_in n (visit_numbers visits) ≡ true → All (GivesAmong ns) (entries_by n history)
@@ -114,6 +115,17 @@ visits_give {N} w ns history (v ∷ vs) each own n is =
     (subst (λ (es : List Entry). All (GivesAmong ns) es) (sym (All-head (HasCalls history) v vs own)) (visit_gives w ns v (All-head (IsVisit w) v vs each))))
     (λ (there : is_in n (visit_numbers vs) ≡ true). visits_give w ns history vs (All-tail (IsVisit w) v vs each) (All-tail (HasCalls history) v vs own) n there)
     (first_or n v.begun.number (visit_numbers vs) is)
+
+later_look : (a b : Bool) → (a && b) ≡ true → b ≡ true
+later_look true b is = is
+later_look false b is = absurd (cc is)
+
+looks_give : (ns : List ℕ) (es : List Entry) → are_looks es ≡ true → All (GivesAmong ns) es
+looks_give ns [] is = All-nil (GivesAmong ns)
+looks_give ns (entry.Call call ∷ es) is =
+    All-cons (GivesAmong ns) (entry.Call call) es tt (looks_give ns es (later_look (is_look call.event) (are_looks es) is))
+looks_give ns (entry.Split number new ∷ es) is = absurd (cc is)
+looks_give ns (entry.Join number old ∷ es) is = absurd (cc is)
 
 -- Calls among entries
 
@@ -136,14 +148,14 @@ no_calls numbers (entry.Join number old ∷ es) h = no_calls numbers es (All-tai
 -- The history
 
 -- the history of a board on which the opening pass has made these calls, then no others, and then these last ones
-history_of : {N : Type 0} (w : Watch N) (start : BoardState) (events : List Event) (visits : List (Visit N)) (board : Option Reply) (calls : List Call) (seats history : List Entry) → IsOpening start
+history_of : {N : Type 0} (w : Watch N) (start : BoardState) (events : List Event) (feed : ℕ) (visits : List (Visit N)) (board : Option Reply) (calls : List Call) (seats history : List Entry) → IsOpening start
     → events_in calls ≡ events → AreEffective calls → IsPrefix (as_entries calls) history → IsLegal start history
-    → entries_by 0 history ≡ as_entries calls ++ (seats ++ as_entries (board_calls board)) → All (IsSeat (visit_numbers visits)) seats
-    → All (IsVisit w) visits → All (HasCalls history) visits → AreAbove 0 (visit_numbers visits)
+    → entries_by 0 history ≡ as_entries calls ++ (seats ++ as_entries (board_calls board)) → All (IsSeat (feed ∷ visit_numbers visits)) seats
+    → All (IsVisit w) visits → All (HasCalls history) visits → are_looks (entries_by feed history) ≡ true → AreAbove 0 (feed ∷ visit_numbers visits)
     → ((r : Reply) → board ≡ Some r → EndsWithBoard start history r)
     → IsHistory start events visits board history
-history_of {N} w start events visits board calls seats history o enters effective begins legal opening seated each own numbers ends =
-    let ns : List ℕ = visit_numbers visits in
+history_of {N} w start events feed visits board calls seats history o enters effective begins legal opening seated each own looks numbers ends =
+    let ns : List ℕ = feed ∷ visit_numbers visits in
     let all : List ℕ = 0 ∷ ns in
     let gives : All (GivesAmong all) (entries_by 0 history) =
     subst (λ (es : List Entry). All (GivesAmong all) es) (sym opening)
@@ -151,9 +163,12 @@ history_of {N} w start events visits board calls seats history o enters effectiv
     (All-append (GivesAmong all) seats (as_entries (board_calls board)) (all_turned (IsSeat ns) (GivesAmong all) (seat_gives ns) seats seated) (calls_give all (board_calls board)))) in
     let out : OutAmong all start = λ n is. subst (λ (xs : List ℕ). is_in n xs ≡ true → is_in n all ≡ true) (sym o.out)
     (λ (t : is_in n (0 ∷ []) ≡ true). ⊎_elim (λ (same : n ≡ 0). subst (λ (m : ℕ). is_in m all ≡ true) (sym same) (in_here 0 ns)) (λ (none : is_in n [] ≡ true). absurd (cc none)) (first_or n 0 [] t)) is in
+    let others_give : (n : ℕ) → is_in n ns ≡ true → All (GivesAmong all) (entries_by n history) = λ n is.
+    ⊎_elim (λ (same : n ≡ feed). subst (λ (m : ℕ). All (GivesAmong all) (entries_by m history)) (sym same) (looks_give all (entries_by feed history) looks))
+    (λ (there : is_in n (visit_numbers visits) ≡ true). visits_give w all history visits each own n there) (first_or n feed (visit_numbers visits) is) in
     let by_these = among all start history legal out
     (λ n is. ⊎_elim (λ (same : n ≡ 0). subst (λ (m : ℕ). All (GivesAmong all) (entries_by m history)) (sym same) gives)
-    (λ (there : is_in n ns ≡ true). visits_give w all history visits each own n there) (first_or n 0 ns is)) in
+    (λ (there : is_in n ns ≡ true). others_give n there) (first_or n 0 ns is)) in
     record {
       calls = calls;
       enters = enters;
@@ -164,44 +179,52 @@ history_of {N} w start events visits board calls seats history o enters effectiv
           ∙ ap (λ (cs : List Call). cs ++ calls_in (seats ++ as_entries (board_calls board))) (calls_of calls)
           ∙ ap (λ (cs : List Call). calls ++ cs) (calls_both seats (as_entries (board_calls board)) ∙ ap (λ (cs : List Call). cs ++ calls_in (as_entries (board_calls board))) (no_calls ns seats seated) ∙ calls_of (board_calls board));
       own = own;
+      feed = feed;
+      looks = looks;
       numbers = numbers;
       others = λ n other off. none_by all n history (outside n other off) by_these;
       ends = ends;
     }
   where
-    outside : (n : ℕ) → n ≢ 0 → is_in n (visit_numbers visits) ≡ false → is_in n (0 ∷ visit_numbers visits) ≡ false
-    outside n other off = ap (λ (b : Bool). b || is_in n (visit_numbers visits)) (ne_eqb n 0 other) ∙ off
+    outside : (n : ℕ) → n ≢ 0 → is_in n (feed ∷ visit_numbers visits) ≡ false → is_in n (0 ∷ feed ∷ visit_numbers visits) ≡ false
+    outside n other off = ap (λ (b : Bool). b || is_in n (feed ∷ visit_numbers visits)) (ne_eqb n 0 other) ∙ off
+
+-- the entries of a pass that was taken in are looks, if those that it made are
+looks_joined : (feed : ℕ) (pass : PassValue) (mine : List Entry) → are_looks mine ≡ true → IsJoined feed pass mine → are_looks (entries_by feed pass.seen) ≡ true
+looks_joined feed pass mine looks j = ap are_looks j.entries ∙ looks
 
 -- where the last `board` was not asked for
-pub history_without : {N : Type 0} (w : Watch N) (start : BoardState) (events : List Event) (visits : List (Visit N)) (calls : List Call) (pass : PassValue) → IsOpening start → events_in calls ≡ events → AreEffective calls
-    → All (IsVisit w) visits → IsBeside start calls visits [] pass → IsHistory start events visits None pass.seen
-history_without {N} w start events visits calls pass o enters effective each b =
-    let numbers = append-nil (visit_numbers visits) in
-    history_of w start events visits None calls b.seats pass.seen o enters effective b.front b.legal
+pub history_without : {N : Type 0} (w : Watch N) (start : BoardState) (events : List Event) (feed : ℕ) (visits : List (Visit N)) (calls : List Call) (pass : PassValue) (mine : List Entry) → IsOpening start → events_in calls ≡ events → AreEffective calls
+    → All (IsVisit w) visits → IsBeside start calls feed visits [] pass → are_looks mine ≡ true → IsJoined feed pass mine → IsHistory start events visits None pass.seen
+history_without {N} w start events feed visits calls pass mine o enters effective each b looks j =
+    let numbers = ap (λ (ns : List ℕ). feed ∷ ns) (append-nil (visit_numbers visits)) in
+    history_of w start events feed visits None calls b.seats pass.seen o enters effective b.front b.legal
     (b.own ∙ b.mine ∙ ap (λ (es : List Entry). as_entries calls ++ es) (sym (append-nil b.seats)))
     (subst (λ (ns : List ℕ). All (IsSeat ns) b.seats) numbers b.seated) each
     (all_turned (IsTaken pass) (HasCalls pass.seen) (λ v t. t.entries) visits b.taken)
+    (looks_joined feed pass mine looks j)
     (subst (λ (ns : List ℕ). AreAbove 0 ns) numbers b.rising)
     (λ r is. absurd (cc is))
 
 -- where it was
-pub history_with : {N : Type 0} (w : Watch N) (start : BoardState) (events : List Event) (visits : List (Visit N)) (calls : List Call) (pass pass' : PassValue) (r : Reply) → IsOpening start → events_in calls ≡ events → AreEffective calls
-    → All (IsVisit w) visits → IsBeside start calls visits [] pass → Calls pass pass' event.Board r → IsHistory start events visits (Some r) pass'.seen
-history_with {N} w start events visits calls pass pass' r o enters effective each b asks =
-    let numbers = append-nil (visit_numbers visits) in
+pub history_with : {N : Type 0} (w : Watch N) (start : BoardState) (events : List Event) (feed : ℕ) (visits : List (Visit N)) (calls : List Call) (pass pass' : PassValue) (mine : List Entry) (r : Reply) → IsOpening start → events_in calls ≡ events → AreEffective calls
+    → All (IsVisit w) visits → IsBeside start calls feed visits [] pass → are_looks mine ≡ true → IsJoined feed pass mine → Calls pass pass' event.Board r → IsHistory start events visits (Some r) pass'.seen
+history_with {N} w start events feed visits calls pass pass' mine r o enters effective each b looks j asks =
+    let numbers = ap (λ (ns : List ℕ). feed ∷ ns) (append-nil (visit_numbers visits)) in
     let g = asks.grows in
     let e : Entry = entry.Call (call_of pass.number event.Board r) in
     let last : Entry = entry.Call (call_of 0 event.Board r) in
     let is : e ≡ last = ap (λ (n : ℕ). entry.Call (call_of n event.Board r)) b.number in
     let seen : pass'.seen ≡ (pass.seen ++ g.between) ++ last ∷ [] = g.seen ∙ ap (λ (x : Entry). (pass.seen ++ g.between) ++ x ∷ []) is in
     let legal : IsLegal start pass'.seen = subst (λ (s : BoardState). IsLegal s pass'.seen) b.begins g.legal in
-    let mine : entries_by 0 pass'.seen ≡ as_entries calls ++ (b.seats ++ last ∷ []) =
+    let own : entries_by 0 pass'.seen ≡ as_entries calls ++ (b.seats ++ last ∷ []) =
     ap (λ (n : ℕ). entries_by n pass'.seen) (sym b.number) ∙ g.own ∙ g.mine ∙ ap (λ (x : Entry). pass.mine ++ x ∷ []) is
     ∙ ap (λ (es : List Entry). es ++ last ∷ []) b.mine ∙ append_assoc (as_entries calls) b.seats (last ∷ []) in
     let next : IsNext (board_after start (pass.seen ++ g.between)) last = legal_at start (pass.seen ++ g.between) last [] (subst (λ (es : List Entry). IsLegal start es) seen legal) in
-    history_of w start events visits (Some r) calls b.seats pass'.seen o enters effective
-    (prefix_trans (as_entries calls) pass.seen pass'.seen b.front (g.between ++ e ∷ [], sym (append_assoc pass.seen g.between (e ∷ [])) ∙ sym g.seen)) legal mine
+    history_of w start events feed visits (Some r) calls b.seats pass'.seen o enters effective
+    (prefix_trans (as_entries calls) pass.seen pass'.seen b.front (g.between ++ e ∷ [], sym (append_assoc pass.seen g.between (e ∷ [])) ∙ sym g.seen)) legal own
     (subst (λ (ns : List ℕ). All (IsSeat ns) b.seats) numbers b.seated) each
     (all_turned (IsTaken pass) (HasCalls pass'.seen) (λ v t. (joined_grows v.begun.number pass pass' e v.ended.mine g t).entries) visits b.taken)
+    (looks_joined feed pass' mine looks (joined_grows feed pass pass' e mine g j))
     (subst (λ (ns : List ℕ). AreAbove 0 ns) numbers b.rising)
     (λ x same. let there : r ≡ x = cc same in subst (λ (y : Reply). EndsWithBoard start pass'.seen y) there (record { before = pass.seen ++ g.between; whole = seen; answer = next.1.answer }))

@@ -31,6 +31,6 @@ view_of roster = record {
 abbrev pub open_limit : ℕ → ℕ
 open_limit lanes = 8192 + lanes
 
--- how many passes of the board may be out: one for each of them, and the one by which the contest enters
+-- how many passes of the board may be out: one for each of them, that of the feed, and the one by which the contest enters
 abbrev pub seats : ℕ → ℕ
-seats lanes = open_limit lanes + 1
+seats lanes = open_limit lanes + 2

@@ -7,10 +7,10 @@ use Rattle.contest_server.specs.declared.lanes.Served.{Served}
 use Rattle.contest_server.specs.Visits.{Watch, Start, Visit, IsAnswered}
 
 -- what the worker of a lane was given
-abbrev pub start_of : {N C Q : Type 0} → Lane (Served N PassValue) (Promised N PassValue C Q) → Start N
+abbrev pub start_of : {N C Q J : Type 0} → Lane (Served N PassValue) (Promised N PassValue C Q J) → Start N
 start_of lane = record { came = lane.promise.value.came.value; begun = lane.promise.value.begun.value }
 
-abbrev pub starts_of : {N C Q : Type 0} → List (Lane (Served N PassValue) (Promised N PassValue C Q)) → List (Start N)
+abbrev pub starts_of : {N C Q J : Type 0} → List (Lane (Served N PassValue) (Promised N PassValue C Q J)) → List (Start N)
 starts_of lanes = map start_of lanes
 
 -- the connection that began so has been served
@@ -25,7 +25,7 @@ visit_of s served = record {
 }
 
 -- the lane's worker has promised what is known of its lane, or the connection was served
-pub record IsLane {N C Q : Type 0} (w : Watch N) (clock : C) (cases : Q) (lane : Lane (Served N PassValue) (Promised N PassValue C Q))
+pub record IsLane {N C Q J : Type 0} (w : Watch N) (clock : C) (cases : Q) (lane : Lane (Served N PassValue) (Promised N PassValue C Q J))
     : Type 0 where
   pub clock_is : lane.promise.value.clock.value ≡ clock
   pub cases_are : lane.promise.value.cases.value ≡ cases
@@ -33,5 +33,5 @@ pub record IsLane {N C Q : Type 0} (w : Watch N) (clock : C) (cases : Q) (lane :
   pub here : IfSome lane.served (λ served. IsAnswered w (visit_of (start_of lane) served))
   pub known : lane.worker ≡ None → IsSome lane.served
 
-abbrev pub AreLanes : {N C Q : Type 0} → Watch N → C → Q → List (Lane (Served N PassValue) (Promised N PassValue C Q)) → Type 0
+abbrev pub AreLanes : {N C Q J : Type 0} → Watch N → C → Q → List (Lane (Served N PassValue) (Promised N PassValue C Q J)) → Type 0
 AreLanes w clock cases lanes = All (IsLane w clock cases) lanes

@@ -1,5 +1,5 @@
 -- What is known once a contest was served.
-use Rattle.std.specs.Prelude.{◌≡◌, ◌≢◌, ℕ, ◌≤◌, ◌⊎◌, false, List, [], ◌∷◌, ◌++◌, length, All, Option, None, Some}
+use Rattle.std.specs.Prelude.{◌≡◌, ◌≢◌, ℕ, ◌≤◌, ◌⊎◌, true, false, List, [], ◌∷◌, ◌++◌, length, All, Option, None, Some}
 use mathlib.Core.List.{IsPrefix}
 use Rattle.farm_io.specs.Doors.{DoorState, IsEmpty}
 use Rattle.farm_io.specs.Streams.{Rose}
@@ -11,10 +11,11 @@ use Rattle.farm_model.specs.Farm.{farm_step}
 use Rattle.farm_model.specs.Texts.{reply_text}
 use Rattle.farm_board.specs.BoardState.{BoardState}
 use Rattle.farm_board.specs.Histories.{is_in, IsLegal, board_after, entries_by}
-use Rattle.farm_board.specs.Passes.{PassValue, Calls, call_of}
+use Rattle.farm_board.specs.Passes.{PassValue, Calls, TakesIn, call_of}
 use Rattle.farm_board.specs.declared.entries.Call.{Call}
 use Rattle.farm_board.specs.declared.entries.Entry.{Entry}
 use Rattle.farm_board.specs.declared.entries.Entry.TheVariants as entry
+use Rattle.judge_feed.specs.Showing.{are_looks}
 use Rattle.parallel_judge.specs.Hosts.{as_entries, AreEffective}
 use Rattle.parallel_judge.specs.Journal.{events_in}
 use Rattle.contest_server.specs.declared.ends.ServeEnd.{ServeEnd}
@@ -60,7 +61,8 @@ abbrev pub HasCalls : {N : Type 0} → List Entry → Visit N → Type 0
 HasCalls history v = entries_by v.begun.number history ≡ v.ended.mine
 
 -- A legal history that begins with the calls by which the contest enters. Beside these and the last `board`, all of its
--- calls are those of the visits, by passes with numbers of their own.
+-- calls are those of the visits, and those of the feed of the public board, which only looks, by passes with numbers of
+-- their own.
 pub record IsHistory {N : Type 0} (start : BoardState) (events : List Event) (visits : List (Visit N))
     (board : Option Reply) (history : List Entry) : Type 0 where
   pub calls : List Call
@@ -70,8 +72,10 @@ pub record IsHistory {N : Type 0} (start : BoardState) (events : List Event) (vi
   pub legal : IsLegal start history
   pub opening : calls_in (entries_by 0 history) ≡ calls ++ board_calls board
   pub own : All (HasCalls history) visits
-  pub numbers : AreAbove 0 (visit_numbers visits)
-  pub others : (n : ℕ) → n ≢ 0 → is_in n (visit_numbers visits) ≡ false → entries_by n history ≡ []
+  pub feed : ℕ
+  pub looks : are_looks (entries_by feed history) ≡ true
+  pub numbers : AreAbove 0 (feed ∷ visit_numbers visits)
+  pub others : (n : ℕ) → n ≢ 0 → is_in n (feed ∷ visit_numbers visits) ≡ false → entries_by n history ≡ []
   pub ends : (r : Reply) → board ≡ Some r → EndsWithBoard start history r
 
 -- the last `board` was asked for, and its text written
@@ -84,6 +88,19 @@ pub record ShowsBoard (old new : PassValue) (held held' : Option (List ℕ)) (fa
   pub other : e ≢ end.DoorFault
   pub later : faults ≤ faults'
   pub failed : e ≡ end.WriteFault → Rose faults faults'
+
+-- the last `board` was asked for where all was done, and else nothing was written
+abbrev pub HasShown : PassValue → Option (List ℕ) → Option (List ℕ) → ℕ → ℕ → ServeEnd → ServeEnd → Type 0
+HasShown whole held held' faults faults' e result =
+    ((e ≡ end.Done) × ((new : PassValue) × ShowsBoard whole new held held' faults faults' result))
+    ⊎ ((e ≢ end.Done) × (result ≡ e) × (held' ≡ held) × (faults' ≡ faults))
+
+-- the feed's pass was taken in; where all was done, the last `board` was asked for behind that
+pub record Finishes (old own : PassValue) (held held' : Option (List ℕ)) (faults faults' : ℕ) (e result : ServeEnd)
+    : Type 0 where
+  pub whole : PassValue
+  pub takes : TakesIn old own whole
+  pub ends : HasShown whole held held' faults faults' e result
 
 -- Connections were served, on a board that began so and that the contest has entered by these events
 pub record HasServed {N : Type 0} (w : Watch N) (start : BoardState) (events : List Event) (door door' : DoorState N)

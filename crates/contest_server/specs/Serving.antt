@@ -65,13 +65,13 @@ pub record IsReady {N : Type 0} (w : Watch N) (board : BoardId) (s : Start N) : 
   pub spare : s.begun.spare ≡ 0
 
 -- the passes are of this board, the connections that are being served were accepted and not given back, the door listens,
--- and the opening pass can take them all in and make a call behind that
+-- and the opening pass can take them all in, and the feed's, and make a call behind that
 pub record IsOrderly {N : Type 0} (w : Watch N) (board : BoardId) (d : DeskValue N) : Type 0 where
   pub board_is : d.pass.board ≡ board
   pub door : d.door.returned + length d.starts ≤ d.door.accepted
   pub listens : DoesListen d.door
   pub ready : All (IsReady w board) d.starts
-  pub left : length d.starts < d.pass.left
+  pub left : length d.starts + 1 < d.pass.left
 
 -- the desk is still in order, and a connection that is being served has a seat
 pub record StaysOrderly {N : Type 0} (w : Watch N) (board : BoardId) (old new : DeskValue N) : Type 0 where
@@ -80,18 +80,20 @@ pub record StaysOrderly {N : Type 0} (w : Watch N) (board : BoardId) (old new : 
 
 -- What was served and written
 
--- what the serving began with: the door, the bytes written, the board, and the calls by which the contest entered it
+-- what the serving began with: the door, the bytes written, the board, the calls by which the contest entered it, and the
+-- number of the feed's pass
 pub record Opening (N : Type 0) : Type 0 where
   pub door : DoorState N
   pub held : Option (List ℕ)
   pub start : BoardState
   pub calls : List Call
+  pub feed : ℕ
 
 -- these connections were served
 pub record Stands {N : Type 0} (w : Watch N) (o : Opening N) (visits : List (Visit N)) (d : DeskValue N) : Type 0 where
   pub opening : IsOpening o.start
   pub door : GivesBack o.door d.door visits d.starts
-  pub beside : IsBeside o.start o.calls visits d.starts d.pass
+  pub beside : IsBeside o.start o.calls o.feed visits d.starts d.pass
   pub each : All (IsVisit w) visits
 
 -- of so many connections that came those that are not being served any more were served, and their lines written

@@ -1,8 +1,13 @@
 -- Connections that are being served, and those that were, with the lines that say so.
-use Rattle.std.specs.Prelude.{◌≡◌, ℕ, ◌+◌, List, [], ◌∷◌, ◌++◌, Option, Some, codes}
+use Rattle.std.specs.Prelude.{◌≡◌, ℕ, ◌+◌, false, List, [], ◌∷◌, ◌++◌, Option, Some, codes}
 use Rattle.std.specs.Fmt.{decimal}
 use Rattle.farm_io.specs.Doors.{IsFresh}
+use Rattle.farm_kinds.specs.declared.outcomes.Answer.{Answer}
+use Rattle.farm_model.specs.State.{start, standard_settings}
+use Rattle.farm_board.specs.BoardState.{BoardState}
+use Rattle.farm_board.specs.Histories.{opening_board}
 use Rattle.farm_board.specs.Passes.{PassValue}
+use Rattle.public_board.specs.Values.{ReaderValue}
 use Rattle.judge_server.specs.declared.ends.ConnHow.{ConnHow}
 use Rattle.judge_server.specs.declared.ends.ConnHow.TheVariants as how
 use Rattle.farm_kinds.specs.declared.outcomes.Task.{Task}
@@ -11,7 +16,7 @@ use Rattle.contest_page.specs.ViewValue.{ViewValue}
 use Rattle.judge_server.specs.Jobs.{gives_by}
 use Rattle.judge_server.specs.Exchanges.{Around, giving}
 use Rattle.judge_server.specs.Serving.{untaken, IsServed, HasCauseServed, AnswersAll}
-use Rattle.judge_server.specs.PassCalls.{MakesCalls}
+use Rattle.judge_server.specs.LaneCalls.{access, LaneMakes}
 
 -- the bytes that a connection tells, if it tells any
 abbrev pub Telling : Type 0 → Type 0
@@ -21,7 +26,7 @@ Telling N = N → Option (List ℕ)
 abbrev pub Counting : Type 0 → Type 0
 Counting N = N → ℕ
 
--- what is told of connections of one type, and of the clock and the cases by which they are served
+-- what is told of connections of one type, and of the clock, the cases and the board by which they are served
 pub record Watch (N : Type 0) : Type 1 where
   -- the bytes that a connection has left, and those that it holds, where it tells them
   pub left : Telling N
@@ -31,19 +36,30 @@ pub record Watch (N : Type 0) : Type 1 where
   pub writes : Counting N
   -- the numbers that the clock may show, whether the server ever asks to close, and the cases and names that it may give
   pub around : Around
+  -- what the board began with
+  pub start : BoardState
 
+-- on a board that nothing has entered
 abbrev pub watch : {N : Type 0} → Telling N → Telling N → Counting N → Counting N → Around → Watch N
 watch left held reads writes around =
-    record { left = left; held = held; reads = reads; writes = writes; around = around }
+    record {
+      left = left;
+      held = held;
+      reads = reads;
+      writes = writes;
+      around = around;
+      start = opening_board (start standard_settings) 1 false;
+    }
 
--- the same, where these cases are given, and these names
-abbrev pub with_cases : {N : Type 0} → (Task → Option TestCase) → ViewValue → Watch N → Watch N
-with_cases case_at view w = record {
+-- the same, on a board that began so, where these cases are given, and these names
+abbrev pub on_board : {N : Type 0} → BoardState → (Task → Option TestCase) → ViewValue → Watch N → Watch N
+on_board start case_at view w = record {
   left = w.left;
   held = w.held;
   reads = w.reads;
   writes = w.writes;
   around = giving (gives_by case_at view) w.around;
+  start = start;
 }
 
 -- a connection as it came, and the pass that was split off for it
@@ -65,10 +81,13 @@ abbrev pub visit : {N : Type 0} → N → N → PassValue → PassValue → ℕ 
 visit came back begun ended requests how =
     record { came = came; back = back; begun = begun; ended = ended; requests = requests; how = how }
 
--- what `serve_conn` says of a connection
+-- what `serve_lane` says of a connection, with what the reader of its lane had seen before and has seen behind it
 pub record IsAnswered {N : Type 0} (w : Watch N) (v : Visit N) : Type 0 where
-  pub served : IsServed MakesCalls w.around (untaken v.begun (w.left v.came) (w.held v.came))
-      (untaken v.ended (w.left v.back) (w.held v.back)) v.requests v.how
+  pub before : ReaderValue Answer
+  pub behind : ReaderValue Answer
+  pub served : IsServed (LaneMakes w.start) w.around
+      (untaken (access v.begun before) (w.left v.came) (w.held v.came))
+      (untaken (access v.ended behind) (w.left v.back) (w.held v.back)) v.requests v.how
   pub cause : HasCauseServed (w.reads v.came) (w.reads v.back) (w.writes v.came) (w.writes v.back) (Some v.how)
   pub complete : AnswersAll w.around.asks (w.left v.came) (w.reads v.came) (w.reads v.back) (w.writes v.came) (w.writes v.back)
       v.requests v.how

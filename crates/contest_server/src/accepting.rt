@@ -5,8 +5,8 @@ ghost use Rattle.contest_server.specs.Texts.{HasCauseTold};
 ghost use Rattle.contest_server.specs.Lanes.{starts_of, AreLanes};
 ghost use Rattle.contest_server.specs.Serving.{desk_value, share, IsOrderly, AcceptsNext, MakesRoom, ServesNext, HasCauseNext};
 
-use crate::freeing::free_place;
 use crate::desk::Desk;
+use crate::freeing::free_place;
 use crate::lanes::begin;
 use crate::lines::TextFault;
 use crate::returning::{tell_ended, tell_next};
@@ -15,6 +15,7 @@ use case_run::Cases;
 use contest_page::Shows;
 use farm_board::{Admission, Pass};
 use farm_io::{Accepted, Clock, Door, Sink};
+use judge_feed::Naming;
 use std::sync::Wait;
 use std::thread::{Scope, Threads};
 
@@ -43,25 +44,27 @@ fn accept_next<
     A: Admission + Send + Sync,
     C: Clock + Sync,
     Q: Cases + Shows + Sync,
+    J: Naming + Send + Sync,
 >(
-    service: &Service<'s, R, A, C, Q>,
+    service: &Service<'s, R, A, C, Q, J>,
     scope: &Scope<'s, E>,
-    desk: &mut Desk<'_, '_, '_, D, K, A, C, Q>,
+    desk: &mut Desk<'_, '_, '_, D, K, A, C, Q, J>,
     count: u64,
 ) -> Coming
 where
     D::Conn: Drop + 's,
-    requires orderly { IsOrderly (⟦<Service<'s, R, A, C, Q> as Watches<D::Conn>>⟧.watched service.now) service.now.board.now.id
+    requires named { service.now.board.now.id ≡ J.board }
+    requires orderly { IsOrderly (⟦<Service<'s, R, A, C, Q, J> as Watches<D::Conn>>⟧.watched service.now) service.now.board.now.id
         (desk_value (D.state desk.old.door.now) desk.old.pass.now (starts_of desk.old.lanes.items)) }
-    requires lanes { AreLanes (⟦<Service<'s, R, A, C, Q> as Watches<D::Conn>>⟧.watched service.now)
+    requires lanes { AreLanes (⟦<Service<'s, R, A, C, Q, J> as Watches<D::Conn>>⟧.watched service.now)
         service.now.clock.now service.now.cases.now desk.old.lanes.items }
     requires room { deque_len desk.old.lanes < deque_capacity desk.old.lanes }
     requires spare { 0 < desk.old.pass.now.spare }
-    requires left { share + deque_len desk.old.lanes + 2 < desk.old.pass.now.left }
-    ensures accepts { AcceptsNext (⟦<Service<'s, R, A, C, Q> as Watches<D::Conn>>⟧.watched service.now) service.now.board.now.id
+    requires left { share + deque_len desk.old.lanes + 3 < desk.old.pass.now.left }
+    ensures accepts { AcceptsNext (⟦<Service<'s, R, A, C, Q, J> as Watches<D::Conn>>⟧.watched service.now) service.now.board.now.id
         (desk_value (D.state desk.old.door.now) desk.old.pass.now (starts_of desk.old.lanes.items))
         (desk_value (D.state desk.new.door.now) desk.new.pass.now (starts_of desk.new.lanes.items)) result }
-    ensures lanes { AreLanes (⟦<Service<'s, R, A, C, Q> as Watches<D::Conn>>⟧.watched service.now)
+    ensures lanes { AreLanes (⟦<Service<'s, R, A, C, Q, J> as Watches<D::Conn>>⟧.watched service.now)
         service.now.clock.now service.now.cases.now desk.new.lanes.items }
     ensures later { D.faults desk.old.door.now ≤ D.faults desk.new.door.now }
     ensures failed { result ≡ Coming.Failed → Rose (D.faults desk.old.door.now) (D.faults desk.new.door.now) }
@@ -84,27 +87,36 @@ where
 
 /// Takes in the connections that have ended, as far as their turn has come, and writes their lines. Where as many as may
 /// wait for that, the one that was accepted first is waited for.
-fn make_room<'s, R: Threads + Wait, D: Door, K: Sink, A: Admission, C: Clock, Q: Cases + Shows>(
-    service: &Service<'s, R, A, C, Q>,
-    desk: &mut Desk<'_, '_, '_, D, K, A, C, Q>,
+fn make_room<
+    's,
+    R: Threads + Wait,
+    D: Door,
+    K: Sink,
+    A: Admission,
+    C: Clock,
+    Q: Cases + Shows,
+    J: Naming,
+>(
+    service: &Service<'s, R, A, C, Q, J>,
+    desk: &mut Desk<'_, '_, '_, D, K, A, C, Q, J>,
     count: u64,
 ) -> Result<(), TextFault>
 where
     D::Conn: Drop,
-    requires orderly { IsOrderly (⟦<Service<'s, R, A, C, Q> as Watches<D::Conn>>⟧.watched service.now) service.now.board.now.id
+    requires orderly { IsOrderly (⟦<Service<'s, R, A, C, Q, J> as Watches<D::Conn>>⟧.watched service.now) service.now.board.now.id
         (desk_value (D.state desk.old.door.now) desk.old.pass.now (starts_of desk.old.lanes.items)) }
-    requires lanes { AreLanes (⟦<Service<'s, R, A, C, Q> as Watches<D::Conn>>⟧.watched service.now)
+    requires lanes { AreLanes (⟦<Service<'s, R, A, C, Q, J> as Watches<D::Conn>>⟧.watched service.now)
         service.now.clock.now service.now.cases.now desk.old.lanes.items }
     requires some { 0 < service.now.most }
     requires few { deque_len desk.old.lanes ≤ service.now.most }
     requires count { deque_len desk.old.lanes ≤ count }
-    ensures makes { MakesRoom (⟦<Service<'s, R, A, C, Q> as Watches<D::Conn>>⟧.watched service.now) service.now.board.now.id
+    ensures makes { MakesRoom (⟦<Service<'s, R, A, C, Q, J> as Watches<D::Conn>>⟧.watched service.now) service.now.board.now.id
         (desk_value (D.state desk.old.door.now) desk.old.pass.now (starts_of desk.old.lanes.items))
         (desk_value (D.state desk.new.door.now) desk.new.pass.now (starts_of desk.new.lanes.items))
         (K.held desk.old.out.now) (K.held desk.new.out.now) count result }
     ensures room { IfOk result (λ _. deque_len desk.new.lanes < service.now.most) }
     ensures cause { HasCauseTold (K.faults desk.old.out.now) (K.faults desk.new.out.now) result }
-    ensures lanes { AreLanes (⟦<Service<'s, R, A, C, Q> as Watches<D::Conn>>⟧.watched service.now)
+    ensures lanes { AreLanes (⟦<Service<'s, R, A, C, Q, J> as Watches<D::Conn>>⟧.watched service.now)
         service.now.clock.now service.now.cases.now desk.new.lanes.items }
     ensures later { D.faults desk.old.door.now ≤ D.faults desk.new.door.now }
     ensures same { (desk.new.door.ghost_name ≡ desk.old.door.ghost_name) × (desk.new.out.ghost_name ≡ desk.old.out.ghost_name)
@@ -114,15 +126,16 @@ where
     if desk.lanes.len() < usize::from(service.most) {
         return Ok(());
     }
-    desk.door.ask_to_close(count.saturating_sub(desk.lanes.len() as u64));
+    desk.door
+        .ask_to_close(count.saturating_sub(desk.lanes.len() as u64));
     tell_next(service, desk, count)
 }
 
-/// Whether the calls that are left suffice for one more connection, beside those by which all are taken in.
+/// Whether the calls that are left suffice for one more connection, beside those by which all are taken in, and the feed's.
 fn has_calls<A: Admission>(pass: &Pass<A>, lanes: usize) -> bool
-    ensures { IsTrue result → share + lanes + 2 < pass.now.left }
+    ensures { IsTrue result → share + lanes + 3 < pass.now.left }
 {
-    pass.left().saturating_sub(SHARE + 2) > lanes as u64
+    pass.left().saturating_sub(SHARE + 3) > lanes as u64
 }
 
 /// Makes room for a connection, and begins to serve the next one, where so many came and calls of the board are left.
@@ -135,27 +148,29 @@ fn serve_ready<
     A: Admission + Send + Sync,
     C: Clock + Sync,
     Q: Cases + Shows + Sync,
+    J: Naming + Send + Sync,
 >(
-    service: &Service<'s, R, A, C, Q>,
+    service: &Service<'s, R, A, C, Q, J>,
     scope: &Scope<'s, E>,
-    desk: &mut Desk<'_, '_, '_, D, K, A, C, Q>,
+    desk: &mut Desk<'_, '_, '_, D, K, A, C, Q, J>,
     count: u64,
 ) -> Result<Coming, TextFault>
 where
     D::Conn: Drop + 's,
-    requires orderly { IsOrderly (⟦<Service<'s, R, A, C, Q> as Watches<D::Conn>>⟧.watched service.now) service.now.board.now.id
+    requires named { service.now.board.now.id ≡ J.board }
+    requires orderly { IsOrderly (⟦<Service<'s, R, A, C, Q, J> as Watches<D::Conn>>⟧.watched service.now) service.now.board.now.id
         (desk_value (D.state desk.old.door.now) desk.old.pass.now (starts_of desk.old.lanes.items)) }
-    requires lanes { AreLanes (⟦<Service<'s, R, A, C, Q> as Watches<D::Conn>>⟧.watched service.now)
+    requires lanes { AreLanes (⟦<Service<'s, R, A, C, Q, J> as Watches<D::Conn>>⟧.watched service.now)
         service.now.clock.now service.now.cases.now desk.old.lanes.items }
     requires some { 0 < service.now.most }
     requires seats { desk.old.pass.now.spare + deque_len desk.old.lanes ≡ service.now.most }
     requires count { deque_len desk.old.lanes ≤ count }
-    ensures serves { ServesNext (⟦<Service<'s, R, A, C, Q> as Watches<D::Conn>>⟧.watched service.now) service.now.board.now.id
+    ensures serves { ServesNext (⟦<Service<'s, R, A, C, Q, J> as Watches<D::Conn>>⟧.watched service.now) service.now.board.now.id
         (desk_value (D.state desk.old.door.now) desk.old.pass.now (starts_of desk.old.lanes.items))
         (desk_value (D.state desk.new.door.now) desk.new.pass.now (starts_of desk.new.lanes.items))
         (K.held desk.old.out.now) (K.held desk.new.out.now) count result }
     ensures cause { HasCauseNext (D.faults desk.old.door.now) (D.faults desk.new.door.now) (K.faults desk.old.out.now) (K.faults desk.new.out.now) result }
-    ensures lanes { AreLanes (⟦<Service<'s, R, A, C, Q> as Watches<D::Conn>>⟧.watched service.now)
+    ensures lanes { AreLanes (⟦<Service<'s, R, A, C, Q, J> as Watches<D::Conn>>⟧.watched service.now)
         service.now.clock.now service.now.cases.now desk.new.lanes.items }
     ensures same { (desk.new.door.ghost_name ≡ desk.old.door.ghost_name) × (desk.new.out.ghost_name ≡ desk.old.out.ghost_name)
         × (desk.new.pass.ghost_name ≡ desk.old.pass.ghost_name) }
@@ -180,27 +195,29 @@ pub(crate) fn serve_next<
     A: Admission + Send + Sync,
     C: Clock + Sync,
     Q: Cases + Shows + Sync,
+    J: Naming + Send + Sync,
 >(
-    service: &Service<'s, R, A, C, Q>,
+    service: &Service<'s, R, A, C, Q, J>,
     scope: &Scope<'s, E>,
-    desk: &mut Desk<'_, '_, '_, D, K, A, C, Q>,
+    desk: &mut Desk<'_, '_, '_, D, K, A, C, Q, J>,
     count: u64,
 ) -> Result<Coming, TextFault>
 where
     D::Conn: Drop + 's,
-    requires orderly { IsOrderly (⟦<Service<'s, R, A, C, Q> as Watches<D::Conn>>⟧.watched service.now) service.now.board.now.id
+    requires named { service.now.board.now.id ≡ J.board }
+    requires orderly { IsOrderly (⟦<Service<'s, R, A, C, Q, J> as Watches<D::Conn>>⟧.watched service.now) service.now.board.now.id
         (desk_value (D.state desk.old.door.now) desk.old.pass.now (starts_of desk.old.lanes.items)) }
-    requires lanes { AreLanes (⟦<Service<'s, R, A, C, Q> as Watches<D::Conn>>⟧.watched service.now)
+    requires lanes { AreLanes (⟦<Service<'s, R, A, C, Q, J> as Watches<D::Conn>>⟧.watched service.now)
         service.now.clock.now service.now.cases.now desk.old.lanes.items }
     requires some { 0 < service.now.most }
     requires seats { desk.old.pass.now.spare + deque_len desk.old.lanes ≡ service.now.most }
     requires count { deque_len desk.old.lanes ≤ count }
-    ensures serves { ServesNext (⟦<Service<'s, R, A, C, Q> as Watches<D::Conn>>⟧.watched service.now) service.now.board.now.id
+    ensures serves { ServesNext (⟦<Service<'s, R, A, C, Q, J> as Watches<D::Conn>>⟧.watched service.now) service.now.board.now.id
         (desk_value (D.state desk.old.door.now) desk.old.pass.now (starts_of desk.old.lanes.items))
         (desk_value (D.state desk.new.door.now) desk.new.pass.now (starts_of desk.new.lanes.items))
         (K.held desk.old.out.now) (K.held desk.new.out.now) count result }
     ensures cause { HasCauseNext (D.faults desk.old.door.now) (D.faults desk.new.door.now) (K.faults desk.old.out.now) (K.faults desk.new.out.now) result }
-    ensures lanes { AreLanes (⟦<Service<'s, R, A, C, Q> as Watches<D::Conn>>⟧.watched service.now)
+    ensures lanes { AreLanes (⟦<Service<'s, R, A, C, Q, J> as Watches<D::Conn>>⟧.watched service.now)
         service.now.clock.now service.now.cases.now desk.new.lanes.items }
     ensures same { (desk.new.door.ghost_name ≡ desk.old.door.ghost_name) × (desk.new.out.ghost_name ≡ desk.old.out.ghost_name)
         × (desk.new.pass.ghost_name ≡ desk.old.pass.ghost_name) }

@@ -3,22 +3,28 @@ ghost use Rattle.std.specs.Bool.{OnTrue, OnFalse};
 ghost use Rattle.farm_kinds.specs.declared.events.Event.{Event as EventValue};
 ghost use Rattle.farm_board.specs.BoardState.{BoardState};
 ghost use Rattle.farm_board.specs.Histories.{IsOpening};
-ghost use Rattle.parallel_judge.specs.Hosts.{HasEntered};
 ghost use Rattle.judge_server.specs.Exchanges.{around_of};
-ghost use Rattle.contest_server.specs.Visits.{watch, with_cases};
+ghost use Rattle.contest_server.specs.Visits.{watch, on_board};
 ghost use Rattle.contest_server.specs.Serving.{desk_value, IsOrderly, ServesLanes, HasCauseEnd};
-ghost use Rattle.contest_server.specs.Served.{HasServed, ShowsBoard};
+ghost use Rattle.farm_board.specs.Passes.{PassValue};
+ghost use Rattle.contest_server.specs.Beside.{HasSplit};
+ghost use Rattle.contest_server.specs.Served.{HasServed, ShowsBoard, Finishes};
 
+use crate::bell::Bell;
 use crate::ends::ServeEnd;
 use crate::lines::put_text;
+use crate::public::Public;
 use crate::service::{Service, Watches};
 use crate::serving::{end_of, serve_lanes};
 use case_run::Cases;
 use command_text::push_reply;
 use contest_page::Shows;
-use farm_board::{Admission, Pass};
+use farm_board::{Admission, Anyone, Board, Pass};
 use farm_io::{Clock, Door, Sink};
 use farm_kinds::{Event, Reply};
+use judge_feed::Naming;
+use judge_server::Paths;
+use std::alloc::Global;
 use std::sync::Wait;
 use std::thread;
 use std::thread::Threads;
@@ -32,8 +38,9 @@ fn serve_in_scope<
     A: Admission + Send + Sync,
     C: Clock + Sync,
     Q: Cases + Shows + Sync,
+    J: Naming + Send + Sync,
 >(
-    service: &Service<'s, R, A, C, Q>,
+    service: &Service<'s, R, A, C, Q, J>,
     door: &mut D,
     out: &mut K,
     pass: Pass<A>,
@@ -41,11 +48,12 @@ fn serve_in_scope<
 ) -> (Pass<A>, ServeEnd)
 where
     D::Conn: Drop,
-    requires orderly { IsOrderly (⟦<Service<'s, R, A, C, Q> as Watches<D::Conn>>⟧.watched service.now) service.now.board.now.id
+    requires named { service.now.board.now.id ≡ J.board }
+    requires orderly { IsOrderly (⟦<Service<'s, R, A, C, Q, J> as Watches<D::Conn>>⟧.watched service.now) service.now.board.now.id
         (desk_value (D.state door.old) pass []) }
     requires some { 0 < service.now.most }
     requires seats { pass.spare ≡ service.now.most }
-    ensures serves { ServesLanes (⟦<Service<'s, R, A, C, Q> as Watches<D::Conn>>⟧.watched service.now) service.now.board.now.id
+    ensures serves { ServesLanes (⟦<Service<'s, R, A, C, Q, J> as Watches<D::Conn>>⟧.watched service.now) service.now.board.now.id
         (desk_value (D.state door.old) pass [])
         (desk_value (D.state door.new) result.0 [])
         (K.held out.old) (K.held out.new) connections result.1 }
@@ -55,15 +63,16 @@ where
         thread::scope_env(),
         service.rt,
         |scope| -> (&mut D, &mut K, Pass<A>, ServeEnd)
-            requires orderly { IsOrderly (with_cases (Q.case_at service.now.cases.now) (Q.shown service.now.cases.now)
+            requires orderly { IsOrderly (on_board J.start (Q.case_at service.now.cases.now) (Q.shown service.now.cases.now)
                 (watch D.Conn.left D.Conn.held D.Conn.Source.faults D.Conn.Sink.faults
                 (around_of (C.shows service.now.clock.now) D.Conn.Peer.asks)))
                 service.now.board.now.id
                 (desk_value (D.state door.now) pass []) }
+            requires named { service.now.board.now.id ≡ J.board }
             requires some { 0 < service.now.most }
             requires seats { pass.spare ≡ service.now.most }
             ensures { (result.0.ghost_name ≡ door.entry.ghost_name) × (result.1.ghost_name ≡ out.entry.ghost_name)
-                × ServesLanes (with_cases (Q.case_at service.entry.now.cases.now) (Q.shown service.entry.now.cases.now)
+                × ServesLanes (on_board J.start (Q.case_at service.entry.now.cases.now) (Q.shown service.entry.now.cases.now)
                 (watch D.Conn.left D.Conn.held D.Conn.Source.faults D.Conn.Sink.faults
                 (around_of (C.shows service.entry.now.clock.now) D.Conn.Peer.asks)))
                 service.entry.now.board.now.id
@@ -89,20 +98,22 @@ fn is_done(end: ServeEnd) -> bool
 }
 
 /// Asks for `board`, and writes its text.
-fn show_board<'s, W: Wait, K: Sink, A: Admission, C, Q>(
-    service: &Service<'s, W, A, C, Q>,
+fn show_board<W: Wait, K: Sink, A: Admission>(
+    rt: &W,
+    alloc: Global,
+    board: &Board<Anyone, A>,
     pass: &mut Pass<A>,
     out: &mut K,
 ) -> ServeEnd
-    requires board { pass.old.board ≡ service.now.board.now.id }
+    requires board { pass.old.board ≡ board.now.id }
     requires left { 0 < pass.old.left }
     ensures shows { ShowsBoard pass.old pass.new (K.held out.old) (K.held out.new) (K.faults out.old) (K.faults out.new) result }
 {
-    let reply = service.board.step(service.rt, pass, &Event::Board);
+    let reply = board.step(rt, pass, &Event::Board);
     if matches!(reply, Reply::NoMemory) {
         return ServeEnd::NoMemory;
     }
-    let mut text = Vec::new(service.alloc);
+    let mut text = Vec::new(alloc);
     if push_reply(&mut text, &reply).is_err() {
         return ServeEnd::NoMemory;
     }
@@ -112,18 +123,48 @@ fn show_board<'s, W: Wait, K: Sink, A: Admission, C, Q>(
     }
 }
 
-/// Serves so many connections at the most on a board that the contest has entered, and writes their lines and behind
-/// them the text of `board`.
+/// Takes in the feed's pass, once all connections were served and so it ended, and behind their lines writes the text of
+/// `board`.
+fn finish<W: Wait, K: Sink, A: Admission>(
+    rt: &W,
+    alloc: Global,
+    board: &Board<Anyone, A>,
+    mut pass: Pass<A>,
+    own: Pass<A>,
+    end: ServeEnd,
+    out: &mut K,
+) -> ServeEnd
+    requires board { (pass.board ≡ board.now.id) × (own.board ≡ board.now.id) }
+    requires left { 1 < pass.left }
+    ensures finishes { Finishes pass own (K.held out.old) (K.held out.new) (K.faults out.old) (K.faults out.new) end result }
+{
+    board.join(rt, &mut pass, own);
+    if is_done(end) {
+        return show_board(rt, alloc, board, &mut pass, out);
+    }
+    end
+}
+
+/// Serves so many connections at the most on a board that the contest has entered, where what the public sees is
+/// published, and writes their lines and behind them the text of `board`.
 pub(crate) fn serve_board<
-    's,
     R: Threads + Wait + Sync,
     D: Door,
     K: Sink,
     A: Admission + Send + Sync,
     C: Clock + Sync,
     Q: Cases + Shows + Sync,
+    J: Naming + Send + Sync,
 >(
-    service: &Service<'s, R, A, C, Q>,
+    rt: &R,
+    alloc: Global,
+    paths: &Paths,
+    board: &Board<Anyone, A>,
+    clock: &C,
+    cases: &Q,
+    public: Public<A, J>,
+    workers: u16,
+    most: u16,
     door: &mut D,
     out: &mut K,
     pass: Pass<A>,
@@ -131,18 +172,32 @@ pub(crate) fn serve_board<
 ) -> ServeEnd
 where
     D::Conn: Drop,
-    requires orderly { IsOrderly (⟦<Service<'s, R, A, C, Q> as Watches<D::Conn>>⟧.watched service.now) service.now.board.now.id
-        (desk_value (D.state door.old) pass []) }
-    requires some { 0 < service.now.most }
-    requires seats { pass.spare ≡ service.now.most }
-    ensures served { (start : BoardState) (events : List EventValue) → IsOpening start → HasEntered start events pass
-        → HasServed (⟦<Service<'s, R, A, C, Q> as Watches<D::Conn>>⟧.watched service.now)
+    requires named { board.now.id ≡ J.board }
+    requires orderly { IsOrderly (on_board J.start (Q.case_at cases.now) (Q.shown cases.now)
+        (watch D.Conn.left D.Conn.held D.Conn.Source.faults D.Conn.Sink.faults (around_of (C.shows clock.now) D.Conn.Peer.asks)))
+        board.now.id (desk_value (D.state door.old) pass []) }
+    requires some { 0 < most }
+    requires seats { pass.spare ≡ most }
+    ensures served { (start : BoardState) (events : List EventValue) (own : PassValue) → IsOpening start → own.number ≡ J.number → HasSplit start events pass own
+        → HasServed (on_board J.start (Q.case_at cases.now) (Q.shown cases.now)
+        (watch D.Conn.left D.Conn.held D.Conn.Source.faults D.Conn.Sink.faults (around_of (C.shows clock.now) D.Conn.Peer.asks)))
         start events (D.state door.old) (D.state door.new) (K.held out.old) (K.held out.new) connections result }
     ensures cause { HasCauseEnd (D.faults door.old) (D.faults door.new) (K.faults out.old) (K.faults out.new) result }
 {
-    let (mut pass, end) = serve_in_scope(service, door, out, pass, connections);
-    if is_done(end) {
-        return show_board(service, &mut pass, out);
-    }
-    end
+    let bell = Bell::new();
+    let service = Service {
+        rt,
+        alloc,
+        paths,
+        board,
+        clock,
+        cases,
+        public: &public,
+        bell: &bell,
+        workers,
+        most,
+    };
+    let (pass, end) = serve_in_scope(&service, door, out, pass, connections);
+    let own = public.end(rt);
+    finish(rt, alloc, board, pass, own, end, out)
 }

@@ -3,24 +3,25 @@ ghost use Rattle.farm_io.specs.Doors.{DoesListen};
 ghost use Rattle.farm_io.specs.Streams.{Rose};
 ghost use Rattle.farm_model.specs.State.{start};
 ghost use Rattle.farm_board.specs.Histories.{opening_board};
-ghost use Rattle.parallel_judge.specs.Hosts.{HasEntered};
+ghost use Rattle.judge_feed.specs.Refreshing.{IsFresh};
+ghost use Rattle.contest_server.specs.Beside.{HasSplit};
 ghost use Rattle.contest_server.specs.Contest.{entering_events, open_limit, seats, view_of};
 ghost use Rattle.judge_server.specs.Exchanges.{around_of};
 ghost use Rattle.contest_folder.specs.JudgingCases.{case_at};
-ghost use Rattle.contest_server.specs.Visits.{watch, with_cases};
+ghost use Rattle.contest_server.specs.Visits.{watch, on_board};
 ghost use Rattle.contest_server.specs.Serving.{HasCauseEnd};
 ghost use Rattle.contest_server.specs.Served.{Serves};
 
-use crate::bell::Bell;
 use crate::boards::serve_board;
 use crate::ends::ServeEnd;
-use crate::service::Service;
+use crate::public::Public;
 use crate::shown::Shown;
 use contest_folder::Roster;
 use farm_board::{Admission, Anyone, Board, Pass};
 use farm_core::Farm;
 use farm_io::{Clock, Door, Sink};
 use farm_kinds::NoMemory;
+use judge_feed::{Feed, Naming};
 use judge_server::Paths;
 use parallel_judge::{enter_problems, enter_submissions};
 use std::alloc::Global;
@@ -30,6 +31,9 @@ use std::thread::Threads;
 
 /// How many connections may wait for their line to be written, because one that came before them is still being served.
 const UNTOLD: u16 = 8192;
+
+/// How many calls the feed may make.
+const FEED_SHARE: u64 = 1 << 60;
 
 /// Serves a contest to the connections of a door, `connections` at the most. Each is served by a worker of its own as
 /// soon as it was accepted, or by the caller where none can be started, and at most `lanes` at the same time: then they
@@ -62,7 +66,7 @@ where
     requires lanes { (1 ≤ lanes) × (lanes ≤ 16) }
     requires door { (D.state door.old).returned ≤ (D.state door.old).accepted }
     requires listens { DoesListen (D.state door.old) }
-    ensures serves { Serves (with_cases (case_at roster.now) (view_of roster.now)
+    ensures serves { Serves (on_board (opening_board (start roster.now.settings) (seats lanes) false) (case_at roster.now) (view_of roster.now)
         (watch D.Conn.left D.Conn.held D.Conn.Source.faults D.Conn.Sink.faults (around_of (C.shows clock.now) D.Conn.Peer.asks)))
         (opening_board (start roster.now.settings) (seats lanes) false)
         (entering_events roster.now) (D.state door.old) (D.state door.new) (K.held out.old) (K.held out.new) connections result }
@@ -76,50 +80,116 @@ where
     let Ok(shown) = Shown::of(alloc, roster) else {
         return ServeEnd::NoMemory;
     };
-    let Ok((board, pass)) = open_board::<R, Brand>(rt, alloc, roster, lanes) else {
+    let Ok((board, pass, own)) = open_board::<R, Brand>(rt, alloc, roster, lanes) else {
         return ServeEnd::NoMemory;
     };
-    let bell = Bell::new();
-    let service = Service {
+    let end = serve_named::<R, D, K, Brand, C, Brand>(
         rt,
         alloc,
-        paths: &paths,
-        board: &board,
+        &paths,
+        &board,
+        roster,
+        &shown,
+        lanes,
+        connections,
         clock,
-        cases: &shown,
-        bell: &bell,
-        workers: lanes,
-        most: UNTOLD + lanes,
-    };
-    let end = serve_board(&service, door, out, pass, connections);
+        door,
+        out,
+        pass,
+        own,
+    );
     drop(board);
     end
 }
 
-/// A board with a seat for each lane, and its opening pass, by which the contest has entered.
+/// Serves a contest on a board that it has entered, where what the public sees is published by the feed's pass.
+fn serve_named<
+    R: Threads + Wait + Sync,
+    D: Door,
+    K: Sink,
+    A: Admission + Send + Sync,
+    C: Clock + Sync,
+    J: Naming + Send + Sync,
+>(
+    rt: &R,
+    alloc: Global,
+    paths: &Paths,
+    board: &Board<Anyone, A>,
+    roster: &Roster,
+    shown: &Shown<'_>,
+    lanes: u16,
+    connections: u32,
+    clock: &C,
+    door: &mut D,
+    out: &mut K,
+    pass: Pass<A>,
+    own: Pass<A>,
+) -> ServeEnd
+where
+    D::Conn: Drop,
+    requires lanes { (1 ≤ lanes) × (lanes ≤ 16) }
+    requires door { (D.state door.old).returned ≤ (D.state door.old).accepted }
+    requires listens { DoesListen (D.state door.old) }
+    requires shown { shown.now.roster.now ≡ roster.now }
+    requires view { shown.now.view ≡ view_of roster.now }
+    requires named { board.now.id ≡ J.board }
+    requires begins { J.start ≡ opening_board (start roster.now.settings) (seats lanes) false }
+    requires fresh { IsFresh J.board J.start J.number own }
+    requires board { pass.board ≡ board.now.id }
+    requires spare { pass.spare ≡ open_limit lanes }
+    requires left { 2 ^ 62 ≤ pass.left + 2 ^ 61 }
+    requires entered { HasSplit J.start (entering_events roster.now) pass own }
+    ensures serves { Serves (on_board J.start (case_at roster.now) (view_of roster.now)
+        (watch D.Conn.left D.Conn.held D.Conn.Source.faults D.Conn.Sink.faults (around_of (C.shows clock.now) D.Conn.Peer.asks)))
+        J.start (entering_events roster.now) (D.state door.old) (D.state door.new) (K.held out.old) (K.held out.new) connections result }
+    ensures cause { HasCauseEnd (D.faults door.old) (D.faults door.new) (K.faults out.old) (K.faults out.new) result }
+{
+    match Feed::<A, J>::open(rt, alloc, board, own, lanes) {
+        Err(_own) => ServeEnd::NoMemory,
+        Ok((feed, readers)) => serve_board(
+            rt,
+            alloc,
+            paths,
+            board,
+            clock,
+            shown,
+            Public::new(feed, readers),
+            lanes,
+            UNTOLD + lanes,
+            door,
+            out,
+            pass,
+            connections,
+        ),
+    }
+}
+
+/// A board with a seat for each lane, its opening pass, by which the contest has entered, and the pass of the feed.
 fn open_board<W: Wait, A: Admission>(
     rt: &W,
     alloc: Global,
     roster: &Roster,
     lanes: u16,
-) -> Result<(Board<Anyone, A>, Pass<A>), NoMemory>
+) -> Result<(Board<Anyone, A>, Pass<A>, Pass<A>), NoMemory>
     requires named { A.admits ≡ (λ task kind. true) }
     requires lanes { lanes ≤ 16 }
     ensures board { IfOk result (λ opened. opened.1.board ≡ opened.0.id) }
     ensures spare { IfOk result (λ opened. opened.1.spare ≡ open_limit lanes) }
-    ensures left { IfOk result (λ opened. 2 ^ 62 ≤ opened.1.left + 2 * 2 ^ 32) }
-    ensures entered { IfOk result (λ opened. HasEntered (opening_board (start roster.now.settings) (seats lanes) false)
-        (entering_events roster.now) opened.1) }
+    ensures left { IfOk result (λ opened. 2 ^ 62 ≤ opened.1.left + 2 ^ 61) }
+    ensures entered { IfOk result (λ opened. HasSplit (opening_board (start roster.now.settings) (seats lanes) false)
+        (entering_events roster.now) opened.1 opened.2) }
+    ensures fresh { IfOk result (λ opened. IsFresh opened.0.id (opening_board (start roster.now.settings) (seats lanes) false) opened.2.number opened.2) }
 {
     let farm = Farm::new(alloc, roster.settings().copy()?);
     let (board, mut pass) = Board::<Anyone, A>::new(
         alloc,
         farm,
         Anyone,
-        UNTOLD + lanes + 1,
+        UNTOLD + lanes + 2,
         false,
     )?;
     enter_problems(rt, &board, &mut pass, roster)?;
     enter_submissions(rt, &board, &mut pass, roster)?;
-    Ok((board, pass))
+    let own = board.split(rt, &mut pass, FEED_SHARE);
+    Ok((board, pass, own))
 }

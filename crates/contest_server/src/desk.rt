@@ -7,11 +7,22 @@ use case_run::Cases;
 use contest_page::Shows;
 use farm_board::{Admission, Pass};
 use farm_io::{Clock, Door};
+use judge_feed::Naming;
 use std::alloc::Global;
 use std::collections::VecDeque;
 
 /// What changes while a contest is served.
-pub(crate) struct Desk<'d, 'o, 'p, D: Door, K, A: Admission, C: Clock, Q: Cases + Shows> {
+pub(crate) struct Desk<
+    'd,
+    'o,
+    'p,
+    D: Door,
+    K,
+    A: Admission,
+    C: Clock,
+    Q: Cases + Shows,
+    J: Naming,
+> {
     /// Where connections come from, and where they are given back.
     pub door: &'d mut D,
     /// Where lines are written.
@@ -21,10 +32,20 @@ pub(crate) struct Desk<'d, 'o, 'p, D: Door, K, A: Admission, C: Clock, Q: Cases 
     /// The places of the workers that are at work.
     pub places: Places,
     /// The connections that came and were not given back yet, the first one first.
-    pub lanes: VecDeque<Worker<D::Conn, A, C, Q>>,
+    pub lanes: VecDeque<Worker<D::Conn, A, C, Q, J>>,
 }
 
-impl<'d, 'o, 'p, D: Door, K, A: Admission, C: Clock, Q: Cases + Shows> Desk<'d, 'o, 'p, D, K, A, C, Q> {
+impl<'d, 'o, 'p, D: Door, K, A: Admission, C: Clock, Q: Cases + Shows, J: Naming> Desk<
+    'd,
+    'o,
+    'p,
+    D,
+    K,
+    A,
+    C,
+    Q,
+    J,
+> {
     /// A desk to which no connection has come.
     pub fn new(alloc: Global, door: &'d mut D, out: &'o mut K, pass: &'p mut Pass<A>) -> Self
         ensures same { (result.door.ghost_name ≡ door.entry.ghost_name) × (result.out.ghost_name ≡ out.entry.ghost_name)

@@ -10,6 +10,7 @@ use case_run::Cases;
 use contest_page::Shows;
 use farm_board::Admission;
 use farm_io::{Clock, Door, Peer, Sink, Source};
+use judge_feed::Naming;
 use std::collections::VecDeque;
 use std::sync::Wait;
 use std::thread::Threads;
@@ -22,17 +23,18 @@ fn settle_done<
     A: Admission,
     C: Clock,
     Q: Cases + Shows,
+    J: Naming,
 >(
-    service: &Service<'s, R, A, C, Q>,
+    service: &Service<'s, R, A, C, Q, J>,
     places: &mut Places,
-    lanes: &mut VecDeque<Worker<N, A, C, Q>>,
+    lanes: &mut VecDeque<Worker<N, A, C, Q, J>>,
     count: u64,
     done: [bool; PLACES],
 )
-    requires lanes { AreLanes (⟦<Service<'s, R, A, C, Q> as Watches<N>>⟧.watched service.now)
+    requires lanes { AreLanes (⟦<Service<'s, R, A, C, Q, J> as Watches<N>>⟧.watched service.now)
         service.now.clock.now service.now.cases.now lanes.old.items }
     ensures starts { starts_of lanes.new.items ≡ starts_of lanes.old.items }
-    ensures lanes { AreLanes (⟦<Service<'s, R, A, C, Q> as Watches<N>>⟧.watched service.now)
+    ensures lanes { AreLanes (⟦<Service<'s, R, A, C, Q, J> as Watches<N>>⟧.watched service.now)
         service.now.clock.now service.now.cases.now lanes.new.items }
     ensures len { deque_len lanes.new ≡ deque_len lanes.old }
 {
@@ -75,19 +77,24 @@ fn ask_in_order<W: Wait, D: Door>(
 
 /// Joins the workers that are done. Where as many as there may be are at work, one of them is waited for, and the
 /// connections are asked to close, the first one at first.
-pub(crate) fn free_place<'s, R: Threads + Wait, D: Door, K: Sink, A: Admission, C: Clock, Q: Cases + Shows>(
-    service: &Service<'s, R, A, C, Q>,
-    desk: &mut Desk<'_, '_, '_, D, K, A, C, Q>,
-    count: u64,
-)
+pub(crate) fn free_place<
+    's,
+    R: Threads + Wait,
+    D: Door,
+    K: Sink,
+    A: Admission,
+    C: Clock,
+    Q: Cases + Shows,
+    J: Naming,
+>(service: &Service<'s, R, A, C, Q, J>, desk: &mut Desk<'_, '_, '_, D, K, A, C, Q, J>, count: u64)
 where
     D::Conn: Drop,
-    requires lanes { AreLanes (⟦<Service<'s, R, A, C, Q> as Watches<D::Conn>>⟧.watched service.now)
+    requires lanes { AreLanes (⟦<Service<'s, R, A, C, Q, J> as Watches<D::Conn>>⟧.watched service.now)
         service.now.clock.now service.now.cases.now desk.old.lanes.items }
     ensures kept { D.state desk.new.door.now ≡ D.state desk.old.door.now }
     ensures later { D.faults desk.old.door.now ≤ D.faults desk.new.door.now }
     ensures starts { starts_of desk.new.lanes.items ≡ starts_of desk.old.lanes.items }
-    ensures lanes { AreLanes (⟦<Service<'s, R, A, C, Q> as Watches<D::Conn>>⟧.watched service.now)
+    ensures lanes { AreLanes (⟦<Service<'s, R, A, C, Q, J> as Watches<D::Conn>>⟧.watched service.now)
         service.now.clock.now service.now.cases.now desk.new.lanes.items }
     ensures out { desk.new.out.now ≡ desk.old.out.now }
     ensures pass { desk.new.pass.now ≡ desk.old.pass.now }

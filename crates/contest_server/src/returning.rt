@@ -12,6 +12,7 @@ use case_run::Cases;
 use contest_page::Shows;
 use farm_board::{Admission, Pass};
 use farm_io::{Clock, Door, Peer, Sink, Source};
+use judge_feed::Naming;
 use judge_server::ConnEnd;
 use std::collections::VecDeque;
 use std::sync::Wait;
@@ -19,21 +20,27 @@ use std::thread::Threads;
 
 /// Waits for the connection that was accepted first among those that are being served, takes its pass in, and gives it
 /// back.
-fn take_in<'s, R: Threads + Wait, D: Door, K: Sink, A: Admission, C: Clock, Q: Cases + Shows>(
-    service: &Service<'s, R, A, C, Q>,
-    desk: &mut Desk<'_, '_, '_, D, K, A, C, Q>,
-) -> ConnEnd
+fn take_in<
+    's,
+    R: Threads + Wait,
+    D: Door,
+    K: Sink,
+    A: Admission,
+    C: Clock,
+    Q: Cases + Shows,
+    J: Naming,
+>(service: &Service<'s, R, A, C, Q, J>, desk: &mut Desk<'_, '_, '_, D, K, A, C, Q, J>) -> ConnEnd
 where
     D::Conn: Drop,
-    requires orderly { IsOrderly (⟦<Service<'s, R, A, C, Q> as Watches<D::Conn>>⟧.watched service.now) service.now.board.now.id
+    requires orderly { IsOrderly (⟦<Service<'s, R, A, C, Q, J> as Watches<D::Conn>>⟧.watched service.now) service.now.board.now.id
         (desk_value (D.state desk.old.door.now) desk.old.pass.now (starts_of desk.old.lanes.items)) }
-    requires lanes { AreLanes (⟦<Service<'s, R, A, C, Q> as Watches<D::Conn>>⟧.watched service.now)
+    requires lanes { AreLanes (⟦<Service<'s, R, A, C, Q, J> as Watches<D::Conn>>⟧.watched service.now)
         service.now.clock.now service.now.cases.now desk.old.lanes.items }
     requires some { 0 < deque_len desk.old.lanes }
-    ensures takes { TakesFirst (⟦<Service<'s, R, A, C, Q> as Watches<D::Conn>>⟧.watched service.now) service.now.board.now.id
+    ensures takes { TakesFirst (⟦<Service<'s, R, A, C, Q, J> as Watches<D::Conn>>⟧.watched service.now) service.now.board.now.id
         (desk_value (D.state desk.old.door.now) desk.old.pass.now (starts_of desk.old.lanes.items))
         (desk_value (D.state desk.new.door.now) desk.new.pass.now (starts_of desk.new.lanes.items)) result }
-    ensures lanes { AreLanes (⟦<Service<'s, R, A, C, Q> as Watches<D::Conn>>⟧.watched service.now)
+    ensures lanes { AreLanes (⟦<Service<'s, R, A, C, Q, J> as Watches<D::Conn>>⟧.watched service.now)
         service.now.clock.now service.now.cases.now desk.new.lanes.items }
     ensures later { D.faults desk.old.door.now ≤ D.faults desk.new.door.now }
     ensures out { desk.new.out.now ≡ desk.old.out.now }
@@ -62,37 +69,43 @@ pub(crate) fn tell_next<
     A: Admission,
     C: Clock,
     Q: Cases + Shows,
+    J: Naming,
 >(
-    service: &Service<'s, R, A, C, Q>,
-    desk: &mut Desk<'_, '_, '_, D, K, A, C, Q>,
+    service: &Service<'s, R, A, C, Q, J>,
+    desk: &mut Desk<'_, '_, '_, D, K, A, C, Q, J>,
     count: u64,
 ) -> Result<(), TextFault>
 where
     D::Conn: Drop,
-    requires orderly { IsOrderly (⟦<Service<'s, R, A, C, Q> as Watches<D::Conn>>⟧.watched service.now) service.now.board.now.id
+    requires orderly { IsOrderly (⟦<Service<'s, R, A, C, Q, J> as Watches<D::Conn>>⟧.watched service.now) service.now.board.now.id
         (desk_value (D.state desk.old.door.now) desk.old.pass.now (starts_of desk.old.lanes.items)) }
-    requires lanes { AreLanes (⟦<Service<'s, R, A, C, Q> as Watches<D::Conn>>⟧.watched service.now)
+    requires lanes { AreLanes (⟦<Service<'s, R, A, C, Q, J> as Watches<D::Conn>>⟧.watched service.now)
         service.now.clock.now service.now.cases.now desk.old.lanes.items }
     requires some { 0 < deque_len desk.old.lanes }
     requires count { deque_len desk.old.lanes ≤ count }
-    ensures tells { TellsFirst (⟦<Service<'s, R, A, C, Q> as Watches<D::Conn>>⟧.watched service.now) service.now.board.now.id
+    ensures tells { TellsFirst (⟦<Service<'s, R, A, C, Q, J> as Watches<D::Conn>>⟧.watched service.now) service.now.board.now.id
         (desk_value (D.state desk.old.door.now) desk.old.pass.now (starts_of desk.old.lanes.items))
         (desk_value (D.state desk.new.door.now) desk.new.pass.now (starts_of desk.new.lanes.items))
         (K.held desk.old.out.now) (K.held desk.new.out.now) count result }
     ensures cause { HasCauseTold (K.faults desk.old.out.now) (K.faults desk.new.out.now) result }
-    ensures lanes { AreLanes (⟦<Service<'s, R, A, C, Q> as Watches<D::Conn>>⟧.watched service.now)
+    ensures lanes { AreLanes (⟦<Service<'s, R, A, C, Q, J> as Watches<D::Conn>>⟧.watched service.now)
         service.now.clock.now service.now.cases.now desk.new.lanes.items }
     ensures later { D.faults desk.old.door.now ≤ D.faults desk.new.door.now }
     ensures same { (desk.new.door.ghost_name ≡ desk.old.door.ghost_name) × (desk.new.out.ghost_name ≡ desk.old.out.ghost_name)
         × (desk.new.pass.ghost_name ≡ desk.old.pass.ghost_name) }
 {
     let end = take_in(service, desk);
-    write_line(service.alloc, desk.out, count - desk.lanes.len() as u64, end)
+    write_line(
+        service.alloc,
+        desk.out,
+        count - desk.lanes.len() as u64,
+        end,
+    )
 }
 
 /// Whether the connection that came first was served.
-fn is_first_settled<N: Source + Sink + Peer, A: Admission, C: Clock, Q: Cases + Shows>(
-    lanes: &VecDeque<Worker<N, A, C, Q>>,
+fn is_first_settled<N: Source + Sink + Peer, A: Admission, C: Clock, Q: Cases + Shows, J: Naming>(
+    lanes: &VecDeque<Worker<N, A, C, Q, J>>,
 ) -> bool {
     match lanes.front() {
         Some(lane) => is_settled(lane),
@@ -110,24 +123,25 @@ pub(crate) fn tell_ended<
     A: Admission,
     C: Clock,
     Q: Cases + Shows,
+    J: Naming,
 >(
-    service: &Service<'s, R, A, C, Q>,
-    desk: &mut Desk<'_, '_, '_, D, K, A, C, Q>,
+    service: &Service<'s, R, A, C, Q, J>,
+    desk: &mut Desk<'_, '_, '_, D, K, A, C, Q, J>,
     count: u64,
 ) -> Result<(), TextFault>
 where
     D::Conn: Drop,
-    requires orderly { IsOrderly (⟦<Service<'s, R, A, C, Q> as Watches<D::Conn>>⟧.watched service.now) service.now.board.now.id
+    requires orderly { IsOrderly (⟦<Service<'s, R, A, C, Q, J> as Watches<D::Conn>>⟧.watched service.now) service.now.board.now.id
         (desk_value (D.state desk.old.door.now) desk.old.pass.now (starts_of desk.old.lanes.items)) }
-    requires lanes { AreLanes (⟦<Service<'s, R, A, C, Q> as Watches<D::Conn>>⟧.watched service.now)
+    requires lanes { AreLanes (⟦<Service<'s, R, A, C, Q, J> as Watches<D::Conn>>⟧.watched service.now)
         service.now.clock.now service.now.cases.now desk.old.lanes.items }
     requires count { deque_len desk.old.lanes ≤ count }
-    ensures tells { TellsSome (⟦<Service<'s, R, A, C, Q> as Watches<D::Conn>>⟧.watched service.now) service.now.board.now.id
+    ensures tells { TellsSome (⟦<Service<'s, R, A, C, Q, J> as Watches<D::Conn>>⟧.watched service.now) service.now.board.now.id
         (desk_value (D.state desk.old.door.now) desk.old.pass.now (starts_of desk.old.lanes.items))
         (desk_value (D.state desk.new.door.now) desk.new.pass.now (starts_of desk.new.lanes.items))
         (K.held desk.old.out.now) (K.held desk.new.out.now) count result }
     ensures cause { HasCauseTold (K.faults desk.old.out.now) (K.faults desk.new.out.now) result }
-    ensures lanes { AreLanes (⟦<Service<'s, R, A, C, Q> as Watches<D::Conn>>⟧.watched service.now)
+    ensures lanes { AreLanes (⟦<Service<'s, R, A, C, Q, J> as Watches<D::Conn>>⟧.watched service.now)
         service.now.clock.now service.now.cases.now desk.new.lanes.items }
     ensures later { D.faults desk.old.door.now ≤ D.faults desk.new.door.now }
     ensures same { (desk.new.door.ghost_name ≡ desk.old.door.ghost_name) × (desk.new.out.ghost_name ≡ desk.old.out.ghost_name)
@@ -151,24 +165,25 @@ pub(crate) fn tell_all<
     A: Admission,
     C: Clock,
     Q: Cases + Shows,
+    J: Naming,
 >(
-    service: &Service<'s, R, A, C, Q>,
-    desk: &mut Desk<'_, '_, '_, D, K, A, C, Q>,
+    service: &Service<'s, R, A, C, Q, J>,
+    desk: &mut Desk<'_, '_, '_, D, K, A, C, Q, J>,
     count: u64,
 ) -> Result<(), TextFault>
 where
     D::Conn: Drop,
-    requires orderly { IsOrderly (⟦<Service<'s, R, A, C, Q> as Watches<D::Conn>>⟧.watched service.now) service.now.board.now.id
+    requires orderly { IsOrderly (⟦<Service<'s, R, A, C, Q, J> as Watches<D::Conn>>⟧.watched service.now) service.now.board.now.id
         (desk_value (D.state desk.old.door.now) desk.old.pass.now (starts_of desk.old.lanes.items)) }
-    requires lanes { AreLanes (⟦<Service<'s, R, A, C, Q> as Watches<D::Conn>>⟧.watched service.now)
+    requires lanes { AreLanes (⟦<Service<'s, R, A, C, Q, J> as Watches<D::Conn>>⟧.watched service.now)
         service.now.clock.now service.now.cases.now desk.old.lanes.items }
     requires count { deque_len desk.old.lanes ≤ count }
-    ensures tells { TellsAll (⟦<Service<'s, R, A, C, Q> as Watches<D::Conn>>⟧.watched service.now) service.now.board.now.id
+    ensures tells { TellsAll (⟦<Service<'s, R, A, C, Q, J> as Watches<D::Conn>>⟧.watched service.now) service.now.board.now.id
         (desk_value (D.state desk.old.door.now) desk.old.pass.now (starts_of desk.old.lanes.items))
         (desk_value (D.state desk.new.door.now) desk.new.pass.now (starts_of desk.new.lanes.items))
         (K.held desk.old.out.now) (K.held desk.new.out.now) count result }
     ensures cause { HasCauseTold (K.faults desk.old.out.now) (K.faults desk.new.out.now) result }
-    ensures lanes { AreLanes (⟦<Service<'s, R, A, C, Q> as Watches<D::Conn>>⟧.watched service.now)
+    ensures lanes { AreLanes (⟦<Service<'s, R, A, C, Q, J> as Watches<D::Conn>>⟧.watched service.now)
         service.now.clock.now service.now.cases.now desk.new.lanes.items }
     ensures later { D.faults desk.old.door.now ≤ D.faults desk.new.door.now }
     ensures same { (desk.new.door.ghost_name ≡ desk.old.door.ghost_name) × (desk.new.out.ghost_name ≡ desk.old.out.ghost_name)
@@ -181,17 +196,23 @@ where
 }
 
 /// Takes in all connections that are being served, where no line is written any more.
-pub(crate) fn take_all<'s, R: Threads + Wait, D: Door, K: Sink, A: Admission, C: Clock, Q: Cases + Shows>(
-    service: &Service<'s, R, A, C, Q>,
-    desk: &mut Desk<'_, '_, '_, D, K, A, C, Q>,
-)
+pub(crate) fn take_all<
+    's,
+    R: Threads + Wait,
+    D: Door,
+    K: Sink,
+    A: Admission,
+    C: Clock,
+    Q: Cases + Shows,
+    J: Naming,
+>(service: &Service<'s, R, A, C, Q, J>, desk: &mut Desk<'_, '_, '_, D, K, A, C, Q, J>)
 where
     D::Conn: Drop,
-    requires orderly { IsOrderly (⟦<Service<'s, R, A, C, Q> as Watches<D::Conn>>⟧.watched service.now) service.now.board.now.id
+    requires orderly { IsOrderly (⟦<Service<'s, R, A, C, Q, J> as Watches<D::Conn>>⟧.watched service.now) service.now.board.now.id
         (desk_value (D.state desk.old.door.now) desk.old.pass.now (starts_of desk.old.lanes.items)) }
-    requires lanes { AreLanes (⟦<Service<'s, R, A, C, Q> as Watches<D::Conn>>⟧.watched service.now)
+    requires lanes { AreLanes (⟦<Service<'s, R, A, C, Q, J> as Watches<D::Conn>>⟧.watched service.now)
         service.now.clock.now service.now.cases.now desk.old.lanes.items }
-    ensures takes { TakesAll (⟦<Service<'s, R, A, C, Q> as Watches<D::Conn>>⟧.watched service.now) service.now.board.now.id
+    ensures takes { TakesAll (⟦<Service<'s, R, A, C, Q, J> as Watches<D::Conn>>⟧.watched service.now) service.now.board.now.id
         (desk_value (D.state desk.old.door.now) desk.old.pass.now (starts_of desk.old.lanes.items))
         (desk_value (D.state desk.new.door.now) desk.new.pass.now (starts_of desk.new.lanes.items)) }
     ensures later { D.faults desk.old.door.now ≤ D.faults desk.new.door.now }

@@ -1,23 +1,26 @@
 ghost use Rattle.judge_server.specs.Exchanges.{around_of};
-ghost use Rattle.contest_server.specs.Visits.{Watch, watch, with_cases};
+ghost use Rattle.contest_server.specs.Visits.{Watch, watch, on_board};
 
 use crate::bell::Bell;
+use crate::public::Public;
 use case_run::Cases;
 use contest_page::Shows;
 use farm_board::{Admission, Anyone, Board};
 use farm_io::{Clock, Peer, Sink, Source};
+use judge_feed::Naming;
 use judge_server::Paths;
 use std::alloc::Global;
 
 /// What stays the same while a contest is served.
 #[derive(Clone, Copy)]
-pub(crate) struct Service<'s, R, A: Admission, C, Q> {
+pub(crate) struct Service<'s, R, A: Admission, C, Q, J: Naming> {
     pub rt: &'s R,
     pub alloc: Global,
     pub paths: &'s Paths,
     pub board: &'s Board<Anyone, A>,
     pub clock: &'s C,
     pub cases: &'s Q,
+    pub public: &'s Public<A, J>,
     pub bell: &'s Bell,
     /// How many connections are served at the same time at the most.
     pub workers: u16,
@@ -30,8 +33,8 @@ pub(crate) trait Watches<N: Source + Sink + Peer> {
     ghost watched: { Self → Watch N };
 }
 
-impl<'s, R, A: Admission, C: Clock, Q: Cases + Shows, N: Source + Sink + Peer> Watches<N>
-    for Service<'s, R, A, C, Q> {
-    ghost watched = { λ service. with_cases (Q.case_at service.cases.now) (Q.shown service.cases.now)
+impl<'s, R, A: Admission, C: Clock, Q: Cases + Shows, J: Naming, N: Source + Sink + Peer> Watches<N>
+    for Service<'s, R, A, C, Q, J> {
+    ghost watched = { λ service. on_board J.start (Q.case_at service.cases.now) (Q.shown service.cases.now)
         (watch N.left N.held N.Source.faults N.Sink.faults (around_of (C.shows service.clock.now) N.Peer.asks)) };
 }

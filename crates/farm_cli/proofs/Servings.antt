@@ -13,7 +13,7 @@ use Rattle.contest_folder.specs.JudgingCases.{case_at}
 use Rattle.contest_server.specs.declared.ends.ServeEnd.{ServeEnd}
 use Rattle.contest_server.specs.declared.ends.ServeEnd.TheVariants as end
 use Rattle.contest_server.specs.Contest.{entering_events, seats, view_of}
-use Rattle.contest_server.specs.Visits.{with_cases}
+use Rattle.contest_server.specs.Visits.{on_board}
 use Rattle.contest_server.specs.Serving.{HasCauseEnd}
 use Rattle.contest_server.specs.Served.{Serves}
 use Rattle.exit_status.specs.declared.exit.Exit.{Exit}
@@ -89,13 +89,13 @@ does_listen old new at same = subst (λ d. DoesListen d) (sym same) refl
 -- a contest that was served where the door was to listen
 pub served : {N : Type 0} (files : Option (List TreeFile)) (folder : List ℕ) (at : Listening) (lanes connections : ℕ) (door : DoorUse N) (listening : DoorState N) (held held' : Option (List ℕ)) (unwritten : Type 0) (roster : RosterValue) (ended : ServeEnd) (e : Exit)
     → e ≡ exit_of ended → ContestIs files folder (Ok roster) → listening ≡ listening_at door.old at
-    → Serves (with_cases (case_at roster) (view_of roster) door.watch) (opening_board (start roster.settings) (seats lanes) false) (entering_events roster) listening door.new held held' connections ended
+    → Serves (on_board (opening_board (start roster.settings) (seats lanes) false) (case_at roster) (view_of roster) door.watch) (opening_board (start roster.settings) (seats lanes) false) (entering_events roster) listening door.new held held' connections ended
     → ServeEnds files folder at lanes connections door held held' unwritten e
 served {N} files folder at lanes connections door listening held held' unwritten roster ended e is read same serves =
     let whole : IsServed files folder at lanes connections door held held' ended = record {
       roster = roster;
       read = read;
-      serves = subst (λ (d : DoorState N). Serves (with_cases (case_at roster) (view_of roster) door.watch) (opening_board (start roster.settings) (seats lanes) false) (entering_events roster) d door.new held held' connections ended) same serves;
+      serves = subst (λ (d : DoorState N). Serves (on_board (opening_board (start roster.settings) (seats lanes) false) (case_at roster) (view_of roster) door.watch) (opening_board (start roster.settings) (seats lanes) false) (entering_events roster) d door.new held held' connections ended) same serves;
     } in
     subst (λ (z : Exit). ServeEnds files folder at lanes connections door held held' unwritten z) (sym is)
     (by_end files folder at lanes connections door held held' unwritten ended whole)

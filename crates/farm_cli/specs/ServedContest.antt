@@ -11,7 +11,7 @@ use Rattle.contest_folder.specs.JudgingCases.{case_at}
 use Rattle.contest_server.specs.declared.ends.ServeEnd.{ServeEnd}
 use Rattle.contest_server.specs.declared.ends.ServeEnd.TheVariants as end
 use Rattle.contest_server.specs.Contest.{entering_events, seats, view_of}
-use Rattle.contest_server.specs.Visits.{Watch, with_cases}
+use Rattle.contest_server.specs.Visits.{Watch, on_board}
 use Rattle.contest_server.specs.Served.{Serves}
 use Rattle.exit_status.specs.declared.exit.Exit.{Exit}
 use Rattle.exit_status.specs.declared.exit.Exit.TheVariants as exit
@@ -30,7 +30,7 @@ pub record IsServed {N : Type 0} (files : Option (List TreeFile)) (folder : List
     (lanes connections : ℕ) (door : DoorUse N) (held held' : Option (List ℕ)) (e : ServeEnd) : Type 0 where
   pub roster : RosterValue
   pub read : ContestIs files folder (Ok roster)
-  pub serves : Serves (with_cases (case_at roster) (view_of roster) door.watch) (opening_board (start roster.settings) (seats lanes) false)
+  pub serves : Serves (on_board (opening_board (start roster.settings) (seats lanes) false) (case_at roster) (view_of roster) door.watch) (opening_board (start roster.settings) (seats lanes) false)
       (entering_events roster) (listening_at door.old at) door.new held held' connections e
 
 -- where a door is to listen, and how patient it is to be, by the words of the command

@@ -1,21 +1,18 @@
+use Rattle.std.proofs.Common.{sym, ◌∙◌}
 use Rattle.judge_server.specs.Exchanges.{around_of}
-use Rattle.contest_server.specs.Visits.{watch, with_cases}
-use Rattle.contest_server.proofs.Finishing.{opening_of, tells_none, served_without, served_with}
+use Rattle.contest_server.specs.Visits.{watch, on_board}
+use Rattle.contest_server.proofs.Finishing.{opening_of, tells_none, finished, finished_cause}
 use Rattle.contest_server.proofs.boards.serve_board.Goals as goal
 
 pub returns-clause-served : goal.returns-clause-served
-returns-clause-served g c start events o h =
-    let w = with_cases (g.Q.Cases.case_at c.args.service.now.cases.now) (g.Q.Shows.shown c.args.service.now.cases.now) (watch g.D.Conn.Source.left g.D.Conn.Sink.held g.D.Conn.Source.faults g.D.Conn.Sink.faults (around_of (g.C.Clock.shows c.args.service.now.clock.now) g.D.Conn.Peer.asks)) in
+returns-clause-served g c start events own o number h =
+    let w = on_board g.J.Naming.start (g.Q.Cases.case_at c.args.cases.now) (g.Q.Shows.shown c.args.cases.now) (watch g.D.Conn.Source.left g.D.Conn.Sink.held g.D.Conn.Source.faults g.D.Conn.Sink.faults (around_of (g.C.Clock.shows c.args.clock.now) g.D.Conn.Peer.asks)) in
     let door = g.D.Door.state c.args.door.now in
     let held = g.K.Sink.held c.args.out.now in
-    served_without w start events door (g.D.Door.state c.serve_in_scope-pass.new.door) c.args.pass c.serve_in_scope-pass.result.0 held (g.K.Sink.held c.serve_in_scope-pass.new.out) c.args.connections c.serve_in_scope-pass.result.1
-    c.if-is_done.ensures.other o h (c.serve_in_scope-pass.ensures.serves.rests (opening_of door held start events c.args.pass h) (tells_none w door held start events c.args.pass o h))
+    finished w start events door (g.D.Door.state c.serve_in_scope-pass.new.door) c.args.pass own c.serve_in_scope-pass.result.0 c.end-own.result held (g.K.Sink.held c.serve_in_scope-pass.new.out) (g.K.Sink.held c.finish.new.out)
+    _ _ c.args.connections c.serve_in_scope-pass.result.1 c.finish.result o h
+    (c.serve_in_scope-pass.ensures.serves.rests (opening_of door held start events c.args.pass own h) (tells_none w door held start events c.args.pass own o h))
+    (c.end-own.ensures.kept.numbered ∙ sym number) c.end-own.ensures.kept.looks c.finish.ensures.finishes
 
-pub returns-then-is_done-clause-served : goal.returns-then-is_done-clause-served
-returns-then-is_done-clause-served g c start events o h =
-    let w = with_cases (g.Q.Cases.case_at c.args.service.now.cases.now) (g.Q.Shows.shown c.args.service.now.cases.now) (watch g.D.Conn.Source.left g.D.Conn.Sink.held g.D.Conn.Source.faults g.D.Conn.Sink.faults (around_of (g.C.Clock.shows c.args.service.now.clock.now) g.D.Conn.Peer.asks)) in
-    let door = g.D.Door.state c.args.door.now in
-    let held = g.K.Sink.held c.args.out.now in
-    served_with w start events door (g.D.Door.state c.serve_in_scope-pass.new.door) c.args.pass c.serve_in_scope-pass.result.0 c.show_board.new.pass held (g.K.Sink.held c.serve_in_scope-pass.new.out) (g.K.Sink.held c.show_board.new.out)
-    _ _ c.args.connections c.serve_in_scope-pass.result.1 c.show_board.result
-    c.if-is_done.ensures.done o h (c.serve_in_scope-pass.ensures.serves.rests (opening_of door held start events c.args.pass h) (tells_none w door held start events c.args.pass o h)) c.show_board.ensures.shows
+pub returns-clause-cause : goal.returns-clause-cause
+returns-clause-cause g c = finished_cause _ _ _ _ _ _ _ _ _ _ _ c.serve_in_scope-pass.ensures.cause c.finish.ensures.finishes

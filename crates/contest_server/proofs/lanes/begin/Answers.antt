@@ -13,15 +13,15 @@ use Rattle.farm_board.specs.contracts.trust.Anyone as anyone
 use Rattle.farm_board.proofs.Sending.{pass_sends, board_sync}
 use Rattle.contest_server.specs.contracts.bell.Bell as bell
 use Rattle.contest_server.specs.contracts.lanes.Served as served
-use Rattle.contest_server.proofs.Sending.{paths_sync}
+use Rattle.contest_server.proofs.Sending.{paths_sync, public_sync}
 use Rattle.contest_server.proofs.lanes.begin.Goals as goal
 
 -- what a worker holds goes to a thread with it
-ten_send : (name : List ℕ) (P Q R S T U V W X Y : RattleType) → IsSend P → IsSend Q → IsSend R → IsSend S → IsSend T → IsSend U → IsSend V → IsSend W → IsSend X → IsSend Y
-    → IsSend (TupleAt name (P ∷ Q ∷ R ∷ S ∷ T ∷ U ∷ V ∷ W ∷ X ∷ Y ∷ []))
-ten_send name P Q R S T U V W X Y p q r s t u v w x y =
-    recorded_send _ _ _ (type_at name (P ∷ Q ∷ R ∷ S ∷ T ∷ U ∷ V ∷ W ∷ X ∷ Y ∷ [])).to_one
-    (struct_send (declared.shape (type_at name (P ∷ Q ∷ R ∷ S ∷ T ∷ U ∷ V ∷ W ∷ X ∷ Y ∷ []))) (p, (q, (r, (s, (t, (u, (v, (w, (x, (y, tt)))))))))))
+all_send : (name : List ℕ) (O P Q R S T U V W X Y : RattleType) → IsSend O → IsSend P → IsSend Q → IsSend R → IsSend S → IsSend T → IsSend U → IsSend V → IsSend W → IsSend X → IsSend Y
+    → IsSend (TupleAt name (O ∷ P ∷ Q ∷ R ∷ S ∷ T ∷ U ∷ V ∷ W ∷ X ∷ Y ∷ []))
+all_send name O P Q R S T U V W X Y o p q r s t u v w x y =
+    recorded_send _ _ _ (type_at name (O ∷ P ∷ Q ∷ R ∷ S ∷ T ∷ U ∷ V ∷ W ∷ X ∷ Y ∷ [])).to_one
+    (struct_send (declared.shape (type_at name (O ∷ P ∷ Q ∷ R ∷ S ∷ T ∷ U ∷ V ∷ W ∷ X ∷ Y ∷ []))) (o, (p, (q, (r, (s, (t, (u, (v, (w, (x, (y, tt))))))))))))
 
 heap_send : IsSend heap.the_row
 heap_send = search (sendable, crosses) depth 60 fits 100000
@@ -40,9 +40,9 @@ served_send N P n p = search (sendable, crosses) depth 60 fits 100000
 
 pub spawn_with-started-requires-send-F : goal.spawn_with-started-requires-send-F
 spawn_with-started-requires-send-F g c κs within =
-    param_send _ _ (arg_send _ no _ (ten_send _ _ _ _ _ _ _ _ _ _ _ (shr_send _ _ _ c.type_bounds.sync-W) heap_send (shr_send _ _ _ paths_sync)
+    param_send _ _ (arg_send _ no _ (all_send _ _ _ _ _ _ _ _ _ _ _ _ (shr_send _ _ _ c.type_bounds.sync-W) heap_send (shr_send _ _ _ paths_sync)
     (shr_send _ _ _ (board_sync _ (param 2 g.row.A) _ g.A.Admission anyone_sync c.type_bounds.sync-A c.type_bounds.send-A))
-    (shr_send _ _ _ c.type_bounds.sync-C) (shr_send _ _ _ c.type_bounds.sync-Q) (shr_send _ _ _ bell_sync) place_send (pass_sends (param 2 g.row.A) g.A.Admission c.type_bounds.send-A) c.type_bounds.send-N))
+    (shr_send _ _ _ c.type_bounds.sync-C) (shr_send _ _ _ c.type_bounds.sync-Q) (shr_send _ _ _ (public_sync (param 2 g.row.A) (param 6 g.row.J) g.A.Admission g.J.Naming c.type_bounds.send-A)) (shr_send _ _ _ bell_sync) place_send (pass_sends (param 2 g.row.A) g.A.Admission c.type_bounds.send-A) c.type_bounds.send-N))
 
 pub spawn_with-started-requires-send-T : goal.spawn_with-started-requires-send-T
 spawn_with-started-requires-send-T g c κs within =

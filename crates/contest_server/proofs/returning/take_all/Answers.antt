@@ -1,14 +1,14 @@
 use Rattle.std.proofs.lemmas.Grind.{common_steps}
 use Rattle.std.proofs.Common.{[], refl, sym, subst, arith, append-nil}
 use Rattle.judge_server.specs.Exchanges.{around_of}
-use Rattle.contest_server.specs.Visits.{watch, with_cases}
+use Rattle.contest_server.specs.Visits.{watch, on_board}
 use Rattle.contest_server.specs.Lanes.{starts_of}
 use Rattle.contest_server.specs.Serving.{desk_value, Stands}
 use Rattle.contest_server.proofs.returning.take_all.Goals as goal
 
 pub loop-init : goal.loop-init
 loop-init g c =
-    let w = with_cases (g.Q.Cases.case_at c.args.service.now.cases.now) (g.Q.Shows.shown c.args.service.now.cases.now) (watch g.D.Conn.Source.left g.D.Conn.Sink.held g.D.Conn.Source.faults g.D.Conn.Sink.faults (around_of (g.C.Clock.shows c.args.service.now.clock.now) g.D.Conn.Peer.asks)) in
+    let w = on_board g.J.Naming.start (g.Q.Cases.case_at c.args.service.now.cases.now) (g.Q.Shows.shown c.args.service.now.cases.now) (watch g.D.Conn.Source.left g.D.Conn.Sink.held g.D.Conn.Source.faults g.D.Conn.Sink.faults (around_of (g.C.Clock.shows c.args.service.now.clock.now) g.D.Conn.Peer.asks)) in
     record {
       stays = record { orderly = c.requires.orderly; seats = refl };
       count = omega arith;

@@ -3,7 +3,7 @@ use Rattle.std.proofs.lemmas.List.{length-map}
 use Rattle.contest_server.specs.declared.ends.ServeEnd.TheVariants as end
 use Rattle.contest_server.specs.declared.accepting.Coming.TheVariants as coming
 use Rattle.judge_server.specs.Exchanges.{around_of}
-use Rattle.contest_server.specs.Visits.{watch, with_cases}
+use Rattle.contest_server.specs.Visits.{watch, on_board}
 use Rattle.contest_server.specs.Lanes.{start_of, starts_of}
 use Rattle.contest_server.specs.Serving.{desk_value, with_coming, ServesNext, ServesAll}
 use Rattle.contest_server.proofs.Ending.{ends, before_all, before_end, before_fault, ends_broken}
@@ -33,7 +33,7 @@ end_with-requires-in-Ok-Failed-clause-count g c =
 
 pub returns-in-Ok-End-clause-serves : goal.returns-in-Ok-End-clause-serves
 returns-in-Ok-End-clause-serves g c =
-    let w = with_cases (g.Q.Cases.case_at c.args.service.now.cases.now) (g.Q.Shows.shown c.args.service.now.cases.now) (watch g.D.Conn.Source.left g.D.Conn.Sink.held g.D.Conn.Source.faults g.D.Conn.Sink.faults (around_of (g.C.Clock.shows c.args.service.now.clock.now) g.D.Conn.Peer.asks)) in
+    let w = on_board g.J.Naming.start (g.Q.Cases.case_at c.args.service.now.cases.now) (g.Q.Shows.shown c.args.service.now.cases.now) (watch g.D.Conn.Source.left g.D.Conn.Sink.held g.D.Conn.Source.faults g.D.Conn.Sink.faults (around_of (g.C.Clock.shows c.args.service.now.clock.now) g.D.Conn.Peer.asks)) in
     let came : ServesNext w c.args.service.now.board.now.id
     (desk_value (g.D.Door.state c.loop-i.desk.door.now) c.loop-i.desk.pass.now (starts_of c.loop-i.desk.lanes.items)) (desk_value (g.D.Door.state c.serve_next.new.desk.door.now) c.serve_next.new.desk.pass.now (starts_of c.serve_next.new.desk.lanes.items))
     (g.K.Sink.held c.loop-i.desk.out.now) (g.K.Sink.held c.serve_next.new.desk.out.now) c.loop-i.i (Ok coming.End) =
@@ -45,7 +45,7 @@ returns-in-Ok-End-clause-serves g c =
 
 pub returns-in-Ok-Failed-clause-serves : goal.returns-in-Ok-Failed-clause-serves
 returns-in-Ok-Failed-clause-serves g c =
-    let w = with_cases (g.Q.Cases.case_at c.args.service.now.cases.now) (g.Q.Shows.shown c.args.service.now.cases.now) (watch g.D.Conn.Source.left g.D.Conn.Sink.held g.D.Conn.Source.faults g.D.Conn.Sink.faults (around_of (g.C.Clock.shows c.args.service.now.clock.now) g.D.Conn.Peer.asks)) in
+    let w = on_board g.J.Naming.start (g.Q.Cases.case_at c.args.service.now.cases.now) (g.Q.Shows.shown c.args.service.now.cases.now) (watch g.D.Conn.Source.left g.D.Conn.Sink.held g.D.Conn.Source.faults g.D.Conn.Sink.faults (around_of (g.C.Clock.shows c.args.service.now.clock.now) g.D.Conn.Peer.asks)) in
     let came : ServesNext w c.args.service.now.board.now.id
     (desk_value (g.D.Door.state c.loop-i.desk.door.now) c.loop-i.desk.pass.now (starts_of c.loop-i.desk.lanes.items)) (desk_value (g.D.Door.state c.serve_next.new.desk.door.now) c.serve_next.new.desk.pass.now (starts_of c.serve_next.new.desk.lanes.items))
     (g.K.Sink.held c.loop-i.desk.out.now) (g.K.Sink.held c.serve_next.new.desk.out.now) c.loop-i.i (Ok coming.Failed) =
@@ -57,7 +57,7 @@ returns-in-Ok-Failed-clause-serves g c =
 
 pub returns-in-Err-clause-serves : goal.returns-in-Err-clause-serves
 returns-in-Err-clause-serves g c =
-    let w = with_cases (g.Q.Cases.case_at c.args.service.now.cases.now) (g.Q.Shows.shown c.args.service.now.cases.now) (watch g.D.Conn.Source.left g.D.Conn.Sink.held g.D.Conn.Source.faults g.D.Conn.Sink.faults (around_of (g.C.Clock.shows c.args.service.now.clock.now) g.D.Conn.Peer.asks)) in
+    let w = on_board g.J.Naming.start (g.Q.Cases.case_at c.args.service.now.cases.now) (g.Q.Shows.shown c.args.service.now.cases.now) (watch g.D.Conn.Source.left g.D.Conn.Sink.held g.D.Conn.Source.faults g.D.Conn.Sink.faults (around_of (g.C.Clock.shows c.args.service.now.clock.now) g.D.Conn.Peer.asks)) in
     let old = desk_value (g.D.Door.state c.args.desk.now.door.now) c.args.desk.now.pass.now (starts_of c.args.desk.now.lanes.items) in
     let new = desk_value (g.D.Door.state c.serve_next.new.desk.door.now) c.serve_next.new.desk.pass.now (starts_of c.serve_next.new.desk.lanes.items) in
     subst (λ e. ServesAll w c.args.service.now.board.now.id old new (g.K.Sink.held c.args.desk.now.out.now) (g.K.Sink.held c.serve_next.new.desk.out.now) c.args.connections e) (sym c.end_of.ensures)
@@ -65,7 +65,7 @@ returns-in-Err-clause-serves g c =
 
 pub returns-clause-serves : goal.returns-clause-serves
 returns-clause-serves g c =
-    let w = with_cases (g.Q.Cases.case_at c.args.service.now.cases.now) (g.Q.Shows.shown c.args.service.now.cases.now) (watch g.D.Conn.Source.left g.D.Conn.Sink.held g.D.Conn.Source.faults g.D.Conn.Sink.faults (around_of (g.C.Clock.shows c.args.service.now.clock.now) g.D.Conn.Peer.asks)) in
+    let w = on_board g.J.Naming.start (g.Q.Cases.case_at c.args.service.now.cases.now) (g.Q.Shows.shown c.args.service.now.cases.now) (watch g.D.Conn.Source.left g.D.Conn.Sink.held g.D.Conn.Source.faults g.D.Conn.Sink.faults (around_of (g.C.Clock.shows c.args.service.now.clock.now) g.D.Conn.Peer.asks)) in
     let within = c.loop-i.auto.i-end in
     let over = c.loop-i-test.false in
     let b = before_all w c.args.service.now.board.now.id _ _ _ _ c.loop-i.i c.args.connections (omega (arith, within, over)) c.loop-i.invariant.under_way in

@@ -1,6 +1,6 @@
 use Rattle.std.proofs.Common.{ℕ, List, [], Option, ap, sym, subst, arith}
 use Rattle.judge_server.specs.Exchanges.{around_of}
-use Rattle.contest_server.specs.Visits.{watch, with_cases}
+use Rattle.contest_server.specs.Visits.{watch, on_board}
 use Rattle.contest_server.specs.Lanes.{starts_of}
 use Rattle.contest_server.specs.Serving.{desk_value, ServesLanes}
 use Rattle.contest_server.proofs.Ending.{serves_lanes}
@@ -9,7 +9,7 @@ use Rattle.contest_server.proofs.serving.serve_desk.Goals as goal
 
 pub returns-clause-serves : goal.returns-clause-serves
 returns-clause-serves g c =
-    let w = with_cases (g.Q.Cases.case_at c.args.service.now.cases.now) (g.Q.Shows.shown c.args.service.now.cases.now) (watch g.D.Conn.Source.left g.D.Conn.Sink.held g.D.Conn.Source.faults g.D.Conn.Sink.faults (around_of (g.C.Clock.shows c.args.service.now.clock.now) g.D.Conn.Peer.asks)) in
+    let w = on_board g.J.Naming.start (g.Q.Cases.case_at c.args.service.now.cases.now) (g.Q.Shows.shown c.args.service.now.cases.now) (watch g.D.Conn.Source.left g.D.Conn.Sink.held g.D.Conn.Source.faults g.D.Conn.Sink.faults (around_of (g.C.Clock.shows c.args.service.now.clock.now) g.D.Conn.Peer.asks)) in
     let board = c.args.service.now.board.now.id in
     let door = g.D.Door.state c.args.desk.now.door.now in
     let held = g.K.Sink.held c.args.desk.now.out.now in
