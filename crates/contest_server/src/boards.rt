@@ -14,7 +14,7 @@ use crate::bell::Bell;
 use crate::ends::ServeEnd;
 use crate::lines::put_text;
 use crate::public::Public;
-use crate::service::{Service, Watches};
+use crate::service::{Ground, Service, Watches};
 use crate::serving::{end_of, serve_lanes};
 use case_run::Cases;
 use command_text::push_reply;
@@ -23,7 +23,6 @@ use farm_board::{Admission, Anyone, Board, Pass};
 use farm_io::{Clock, Door, Sink};
 use farm_kinds::{Event, Reply};
 use judge_feed::Naming;
-use judge_server::Paths;
 use std::alloc::Global;
 use std::sync::Wait;
 use std::thread;
@@ -156,15 +155,8 @@ pub(crate) fn serve_board<
     Q: Cases + Shows + Sync,
     J: Naming + Send + Sync,
 >(
-    rt: &R,
-    alloc: Global,
-    paths: &Paths,
-    board: &Board<Anyone, A>,
-    clock: &C,
-    cases: &Q,
+    ground: &Ground<'_, R, A, C, Q>,
     public: Public<A, J>,
-    workers: u16,
-    most: u16,
     door: &mut D,
     out: &mut K,
     pass: Pass<A>,
@@ -172,18 +164,28 @@ pub(crate) fn serve_board<
 ) -> ServeEnd
 where
     D::Conn: Drop,
-    requires named { board.now.id ≡ J.board }
-    requires orderly { IsOrderly (on_board J.start (Q.case_at cases.now) (Q.shown cases.now)
-        (watch D.Conn.left D.Conn.held D.Conn.Source.faults D.Conn.Sink.faults (around_of (C.shows clock.now) D.Conn.Peer.asks)))
-        board.now.id (desk_value (D.state door.old) pass []) }
-    requires some { 0 < most }
-    requires seats { pass.spare ≡ most }
+    requires named { ground.now.board.now.id ≡ J.board }
+    requires orderly { IsOrderly (on_board J.start (Q.case_at ground.now.cases.now) (Q.shown ground.now.cases.now)
+        (watch D.Conn.left D.Conn.held D.Conn.Source.faults D.Conn.Sink.faults (around_of (C.shows ground.now.clock.now) D.Conn.Peer.asks)))
+        ground.now.board.now.id (desk_value (D.state door.old) pass []) }
+    requires some { 0 < ground.now.most }
+    requires seats { pass.spare ≡ ground.now.most }
     ensures served { (start : BoardState) (events : List EventValue) (own : PassValue) → IsOpening start → own.number ≡ J.number → HasSplit start events pass own
-        → HasServed (on_board J.start (Q.case_at cases.now) (Q.shown cases.now)
-        (watch D.Conn.left D.Conn.held D.Conn.Source.faults D.Conn.Sink.faults (around_of (C.shows clock.now) D.Conn.Peer.asks)))
+        → HasServed (on_board J.start (Q.case_at ground.now.cases.now) (Q.shown ground.now.cases.now)
+        (watch D.Conn.left D.Conn.held D.Conn.Source.faults D.Conn.Sink.faults (around_of (C.shows ground.now.clock.now) D.Conn.Peer.asks)))
         start events (D.state door.old) (D.state door.new) (K.held out.old) (K.held out.new) connections result }
     ensures cause { HasCauseEnd (D.faults door.old) (D.faults door.new) (K.faults out.old) (K.faults out.new) result }
 {
+    let Ground {
+        rt,
+        alloc,
+        paths,
+        board,
+        clock,
+        cases,
+        workers,
+        most,
+    } = *ground;
     let bell = Bell::new();
     let service = Service {
         rt,

@@ -1,8 +1,9 @@
-ghost use Rattle.std.specs.Prelude.{◌≡◌, ◌≤◌, ◌⊎◌, ◌+◌, ◌*◌, ◌^◌, IfOk, true, false};
+ghost use Rattle.std.specs.Prelude.{◌≡◌, ◌<◌, ◌≤◌, ◌⊎◌, ◌+◌, ◌*◌, ◌^◌, IfOk, List, true, false};
 ghost use Rattle.farm_io.specs.Doors.{DoesListen};
 ghost use Rattle.farm_io.specs.Streams.{Rose};
 ghost use Rattle.farm_model.specs.State.{start};
-ghost use Rattle.farm_board.specs.Histories.{opening_board};
+ghost use Rattle.farm_kinds.specs.declared.events.Event.{Event as EventValue};
+ghost use Rattle.farm_board.specs.Histories.{opening_board, IsOpening};
 ghost use Rattle.judge_feed.specs.Refreshing.{IsFresh};
 ghost use Rattle.contest_server.specs.Beside.{HasSplit};
 ghost use Rattle.contest_server.specs.Contest.{entering_events, open_limit, seats, view_of};
@@ -15,6 +16,7 @@ ghost use Rattle.contest_server.specs.Served.{Serves};
 use crate::boards::serve_board;
 use crate::ends::ServeEnd;
 use crate::public::Public;
+use crate::service::Ground;
 use crate::shown::Shown;
 use contest_folder::Roster;
 use farm_board::{Admission, Anyone, Board, Pass};
@@ -83,21 +85,17 @@ where
     let Ok((board, pass, own)) = open_board::<R, Brand>(rt, alloc, roster, lanes) else {
         return ServeEnd::NoMemory;
     };
-    let end = serve_named::<R, D, K, Brand, C, Brand>(
+    let ground = Ground {
         rt,
         alloc,
-        &paths,
-        &board,
-        roster,
-        &shown,
-        lanes,
-        connections,
+        paths: &paths,
+        board: &board,
         clock,
-        door,
-        out,
-        pass,
-        own,
-    );
+        cases: &shown,
+        workers: lanes,
+        most: UNTOLD + lanes,
+    };
+    let end = serve_named::<R, D, K, Brand, C, Brand>(&ground, door, out, pass, own, connections);
     drop(board);
     end
 }
@@ -111,51 +109,36 @@ fn serve_named<
     C: Clock + Sync,
     J: Naming + Send + Sync,
 >(
-    rt: &R,
-    alloc: Global,
-    paths: &Paths,
-    board: &Board<Anyone, A>,
-    roster: &Roster,
-    shown: &Shown<'_>,
-    lanes: u16,
-    connections: u32,
-    clock: &C,
+    ground: &Ground<'_, R, A, C, Shown<'_>>,
     door: &mut D,
     out: &mut K,
     pass: Pass<A>,
     own: Pass<A>,
+    connections: u32,
 ) -> ServeEnd
 where
     D::Conn: Drop,
-    requires lanes { (1 ≤ lanes) × (lanes ≤ 16) }
+    requires lanes { (1 ≤ ground.now.workers) × (ground.now.workers ≤ 16) }
     requires door { (D.state door.old).returned ≤ (D.state door.old).accepted }
     requires listens { DoesListen (D.state door.old) }
-    requires shown { shown.now.roster.now ≡ roster.now }
-    requires view { shown.now.view ≡ view_of roster.now }
-    requires named { board.now.id ≡ J.board }
-    requires begins { J.start ≡ opening_board (start roster.now.settings) (seats lanes) false }
+    requires named { ground.now.board.now.id ≡ J.board }
+    requires opening { IsOpening J.start }
     requires fresh { IsFresh J.board J.start J.number own }
-    requires board { pass.board ≡ board.now.id }
-    requires spare { pass.spare ≡ open_limit lanes }
+    requires board { pass.board ≡ ground.now.board.now.id }
+    requires some { 0 < ground.now.most }
+    requires spare { pass.spare ≡ ground.now.most }
     requires left { 2 ^ 62 ≤ pass.left + 2 ^ 61 }
-    requires entered { HasSplit J.start (entering_events roster.now) pass own }
-    ensures serves { Serves (on_board J.start (case_at roster.now) (view_of roster.now)
-        (watch D.Conn.left D.Conn.held D.Conn.Source.faults D.Conn.Sink.faults (around_of (C.shows clock.now) D.Conn.Peer.asks)))
-        J.start (entering_events roster.now) (D.state door.old) (D.state door.new) (K.held out.old) (K.held out.new) connections result }
+    ensures serves { (events : List EventValue) → HasSplit J.start events pass own
+        → Serves (on_board J.start (case_at ground.now.cases.now.roster.now) ground.now.cases.now.view
+        (watch D.Conn.left D.Conn.held D.Conn.Source.faults D.Conn.Sink.faults (around_of (C.shows ground.now.clock.now) D.Conn.Peer.asks)))
+        J.start events (D.state door.old) (D.state door.new) (K.held out.old) (K.held out.new) connections result }
     ensures cause { HasCauseEnd (D.faults door.old) (D.faults door.new) (K.faults out.old) (K.faults out.new) result }
 {
-    match Feed::<A, J>::open(rt, alloc, board, own, lanes) {
+    match Feed::<A, J>::open(ground.rt, ground.alloc, ground.board, own, ground.workers) {
         Err(_own) => ServeEnd::NoMemory,
         Ok((feed, readers)) => serve_board(
-            rt,
-            alloc,
-            paths,
-            board,
-            clock,
-            shown,
+            ground,
             Public::new(feed, readers),
-            lanes,
-            UNTOLD + lanes,
             door,
             out,
             pass,

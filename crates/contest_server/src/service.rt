@@ -11,7 +11,22 @@ use judge_feed::Naming;
 use judge_server::Paths;
 use std::alloc::Global;
 
-/// What stays the same while a contest is served.
+/// What stays the same while a contest is served, but for what shows it to the public.
+#[derive(Clone, Copy)]
+pub(crate) struct Ground<'s, R, A: Admission, C, Q> {
+    pub rt: &'s R,
+    pub alloc: Global,
+    pub paths: &'s Paths,
+    pub board: &'s Board<Anyone, A>,
+    pub clock: &'s C,
+    pub cases: &'s Q,
+    /// How many connections are served at the same time at the most.
+    pub workers: u16,
+    /// How many that came may not be given back yet.
+    pub most: u16,
+}
+
+/// What stays the same while connections are served.
 #[derive(Clone, Copy)]
 pub(crate) struct Service<'s, R, A: Admission, C, Q, J: Naming> {
     pub rt: &'s R,

@@ -6,7 +6,7 @@ use Rattle.contest_server.proofs.contest.serve_contest.Given as goal
 
 abbrev pub ghosts-serve_named : goal.ghosts-serve_named
 ghosts-serve_named g a = record {
-  board = a.board.now.id;
-  start = opening_board (start a.roster.now.settings) (seats a.lanes) false;
+  board = a.ground.now.board.now.id;
+  start = opening_board (start a.ground.now.cases.now.roster.now.settings) (seats a.ground.now.workers) false;
   number = a.own.number;
 }
