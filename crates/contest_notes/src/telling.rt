@@ -12,9 +12,9 @@ use farm_tree::Tree;
 use people::Person;
 use std::alloc::Global;
 
-/// Reads the contest in the folder at the path, as `read_contest` does, and tells the person first what of the folder is
-/// skipped, and then, where it is no contest, why, and what comes of it: `end`. What no memory is left to say, and what cannot
-/// be read, is left out.
+/// Reads the contest in the folder at the path, as `read_contest` does, and then tells the person what of the folder is
+/// skipped, and behind that, where it is no contest, why, and what comes of it: `end`. What no memory is left to say, and what
+/// cannot be read, is left out.
 pub fn read_told_contest<T: Tree, P: Person>(
     alloc: Global,
     tree: &mut T,
@@ -27,9 +27,10 @@ pub fn read_told_contest<T: Tree, P: Person>(
     ensures later { T.faults tree.old ≤ T.faults tree.new }
     ensures cause { result ≡ Err ContestFault.Tree → Rose (T.faults tree.old) (T.faults tree.new) }
 {
+    // The contest is read first, so that a tree that fails then is not asked in vain for notes.
+    let answer = read_contest(alloc, tree, path);
     // Where no memory is left for a note, those behind it are left out.
     let _ = tell_notes(alloc, tree, path, person);
-    let answer = read_contest(alloc, tree, path);
     tell_answer(alloc, tree, path, &answer, end, person);
     answer
 }
