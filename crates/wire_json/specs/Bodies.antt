@@ -84,7 +84,9 @@ in_object fields (Some d) = fields d
 
 -- what the fields of a body say, unless it has too many values or too long strings
 abbrev pub in_body : (Data → Result Body BodyFault) → List ℕ → Result Body BodyFault
-in_body fields bytes = if has_too_many_values bytes then Err TooManyValues else (if has_too_long_strings bytes then Err TooLongStrings else in_object fields (object_of bytes))
+in_body fields bytes =
+    if has_too_many_values bytes then Err TooManyValues
+    else (if has_too_long_strings bytes then Err TooLongStrings else in_object fields (object_of bytes))
 
 -- what the body of a route says, or its first fault; a body without fields is not looked at
 abbrev pub body_of : Route → List ℕ → Result Body BodyFault
