@@ -94,8 +94,8 @@ pub record Breaks (who : Caller) (start now : Line) (claims : ℕ) (w : Option W
   pub wronged : IfWronged who w claims answers now
 
 -- a request was asked from where the talk stood, and its response taken
-abbrev pub Asked : Caller → Line → Line → ℕ → ℕ → ℕ → (ℕ → Answer → List Answer → Talk) → Option Wrong → List ℕ
-    → Result (Unit {0}) BenchFault → Type 0
+abbrev pub Asked : Caller → Line → Line → ℕ → ℕ → ℕ → (ℕ → Answer → List Answer → Talk) → Option Wrong
+    → List ℕ → Result (Unit {0}) BenchFault → Type 0
 Asked who start now claims fetched posted f w body (Ok u) =
     (r : Answer) × (r.body ≡ body) × Stands who start now claims fetched posted (λ n more. f n r more)
 Asked who start now claims fetched posted f w body (Err e) = Breaks who start now claims w
@@ -141,7 +141,8 @@ GoesOnAt who start now claims fetched posted (Some p) =
     Stands who start now claims fetched posted (λ n more. job_next (turns who n) p.0 more (Ok p.1))
 
 -- how the talk stands, by what the host has heard
-abbrev pub IsAt : Caller → Line → Line → (claims posts : ℕ) → Option (Task × TestCase) → Option Wrong → Option Heard → Type 0
+abbrev pub IsAt : Caller → Line → Line → (claims posts : ℕ) → Option (Task × TestCase) → Option Wrong
+    → Option Heard → Type 0
 IsAt who start now claims posts pending w None = (w ≡ None) × GoesOnAt who start now claims claims posts pending
 IsAt who start now claims posts pending w (Some Nothing) =
     (w ≡ None) × (pending ≡ None) × Stands who start now claims claims posts (λ n more. idle_next who (turns who n) more)
