@@ -28,8 +28,8 @@ use Rattle.judge_server.specs.Exchanges.{Exchange, Around, IsCaseOf, IsGiven, Is
 -- One request
 
 -- what was put of a job, or of what stands in its place
-abbrev pub PutsJob : Gives → Bool → ℕ → ℕ → Reply → Option (List ℕ) → Option (List ℕ) → Result (Unit {0}) ResponseFault
-    → Type 0
+abbrev pub PutsJob : Gives → Bool → ℕ → ℕ → Reply → Option (List ℕ) → Option (List ℕ)
+    → Result (Unit {0}) ResponseFault → Type 0
 PutsJob gives closing judging test r held held' (Ok u) =
     (given : Given) × IsCaseOf gives test (owner_in r) given
     × Appends held held' (job_or_reply closing judging test (owner_in r) r given.case)
