@@ -33,5 +33,6 @@ pub record IsLane {N C Q J : Type 0} (w : Watch N) (clock : C) (cases : Q) (lane
   pub here : IfSome lane.served (λ served. IsAnswered w (visit_of (start_of lane) served))
   pub known : lane.worker ≡ None → IsSome lane.served
 
-abbrev pub AreLanes : {N C Q J : Type 0} → Watch N → C → Q → List (Lane (Served N PassValue) (Promised N PassValue C Q J)) → Type 0
+abbrev pub AreLanes : {N C Q J : Type 0} → Watch N → C → Q → List (Lane (Served N PassValue) (Promised N PassValue C Q J))
+    → Type 0
 AreLanes w clock cases lanes = All (IsLane w clock cases) lanes
