@@ -30,7 +30,9 @@ pub record IsServed {N : Type 0} (files : Option (List TreeFile)) (folder : List
     (lanes connections : ℕ) (door : DoorUse N) (held held' : Option (List ℕ)) (e : ServeEnd) : Type 0 where
   pub roster : RosterValue
   pub read : ContestIs files folder (Ok roster)
-  pub serves : Serves (on_board (opening_board (start roster.settings) (seats lanes) false) (case_at roster) (view_of roster) door.watch) (opening_board (start roster.settings) (seats lanes) false)
+  pub serves : Serves
+      (on_board (opening_board (start roster.settings) (seats lanes) false) (case_at roster) (view_of roster) door.watch)
+      (opening_board (start roster.settings) (seats lanes) false)
       (entering_events roster) (listening_at door.old at) door.new held held' connections e
 
 -- where a door is to listen, and how patient it is to be, by the words of the command
