@@ -1,10 +1,11 @@
 -- Words whose bits change.
-use Rattle.std.proofs.Common.{ℕ, zero, suc, ◌≡◌, ◌≢◌, ◌+◌, ◌*◌, ◌/◌, ◌%◌, ◌<◌, ◌≤◌, List, [], ◌∷◌, ◌++◌, length, get_or, set, refl, sym, ap, ◌∙◌, arith, inl, inr, length-set, get_or-set_same, get_or-set_other, subst}
+use Rattle.std.proofs.Common.{ℕ, zero, suc, ◌≡◌, ◌≢◌, ◌+◌, ◌*◌, ◌/◌, ◌%◌, ◌-◌, ◌^◌, ◌<◌, ◌≤◌, List, [], ◌∷◌, ◌++◌, length, get_or, set, refl, sym, ap, ◌∙◌, arith, inl, inr, length-set, get_or-set_same, get_or-set_other, subst}
 use Rattle.std.specs.Int.{bit_at}
 use Rattle.std.proofs.lemmas.Bool.{cases_eq, cases_lt}
 use Rattle.std.proofs.lemmas.List.{get_or_read, get_or_past}
-use Rattle.std.proofs.lemmas.Nat.Bits.{bit_at-zero}
-use Rattle.task_tree.specs.Bits.{word, bit, IsInserted, IsRemoved, IsLeast, IsLeastAt, IsEmpty}
+use Rattle.std.proofs.lemmas.Nat.{div-add-mod', mod_below, pow_pos}
+use Rattle.std.proofs.lemmas.Nat.Bits.{bit_at-zero, bit_at_cat_low, bit_at_above}
+use Rattle.task_tree.specs.Bits.{word, bit, IsInserted, IsRemoved, IsCut, IsLeast, IsLeastAt, IsEmpty}
 
 -- the bits of a list where one word is another
 other_bits : (old : List ℕ) (k v : ℕ) → k / 64 < length old → ((i : ℕ) → i < 64 → i ≢ k % 64 → bit_at v i ≡ bit_at (word old (k / 64)) i) → (i : ℕ) → i ≢ k → bit (set old (k / 64) v) i ≡ bit old i
@@ -88,3 +89,59 @@ all_zero words n h z = record {
     | inr past ↦ get_or_past words (i / 64) 0 (omega arith)
   ]);
 }
+
+-- ---- the numbers from one on are taken out
+
+pub low_kept : (word place i : ℕ) → i < place → bit_at (word % 2 ^ place) i ≡ bit_at word i
+low_kept word place i l =
+    sym (bit_at_cat_low (word / 2 ^ place) place (word % 2 ^ place) i l) ∙ ap (λ w. bit_at w i) (div-add-mod' word (2 ^ place))
+
+pub high_cleared : (word place i : ℕ) → place ≤ i → bit_at (word % 2 ^ place) i ≡ 0
+high_cleared word place i l = bit_at_above (word % 2 ^ place) place i (mod_below word (2 ^ place) (pow_pos place)) l
+
+-- the numbers from `from` on are taken out of the words before a place
+pub record IsCutTo (old new : List ℕ) (from place : ℕ) : Type 0 where
+  pub size : length new ≡ length old
+  pub below : (i : ℕ) → i < from → bit new i ≡ bit old i
+  pub above : (i : ℕ) → from ≤ i → i / 64 < place → bit new i ≡ 0
+
+pub cut_none : (old : List ℕ) (from : ℕ) → IsCutTo old old from (from / 64)
+cut_none old from = record {
+  size = refl;
+  below = λ i l. refl;
+  above = λ i l s. absurd (omega (arith, l, s));
+}
+
+-- the same behind the last word
+pub cut_whole : (old new : List ℕ) (from place : ℕ) → length old ≤ place → IsCutTo old new from place → IsCut old new from
+cut_whole old new from place past h = record {
+  size = h.size;
+  below = h.below;
+  above = λ i l. elim (cases_lt (i / 64) place) [
+    | inl under ↦ h.above i l under
+    | inr over ↦ none_in new i (get_or_past new (i / 64) 0 (omega (arith, past, over, h.size)))
+  ];
+}
+
+pub cut_word : (old xs : List ℕ) (from place w v : ℕ) → place < length xs → from / 64 ≤ place → IsCutTo old xs from place → w ≡ get_or xs place w
+    → ((i : ℕ) → i < from - place * 64 → bit_at v i ≡ bit_at w i) → ((i : ℕ) → from - place * 64 ≤ i → bit_at v i ≡ 0) → IsCutTo old (set xs place v) from (place + 1)
+unfolding bit
+cut_word old xs from place w v within start h r low high =
+    let read : w ≡ word xs place = get_or_read xs place w within r 0 in
+    let new : (i : ℕ) → i / 64 ≡ place → bit (set xs place v) i ≡ bit_at v (i % 64) = λ i same.
+    ap (λ p. bit_at (word (set xs place v) p) (i % 64)) same ∙ ap (λ u. bit_at u (i % 64)) (get_or-set_same xs place v 0 within) in
+    let was : (i : ℕ) → i / 64 ≡ place → bit xs i ≡ bit_at w (i % 64) = λ i same.
+    ap (λ p. bit_at (word xs p) (i % 64)) same ∙ ap (λ u. bit_at u (i % 64)) (sym read) in
+    let kept : (i : ℕ) → i / 64 ≢ place → bit (set xs place v) i ≡ bit xs i = λ i other.
+    ap (λ u. bit_at u (i % 64)) (get_or-set_other xs place (i / 64) v 0 other) in
+    record {
+      size = length-set xs place v ∙ h.size;
+      below = λ i l. elim (cases_eq (i / 64) place) [
+        | inl same ↦ new i same ∙ low (i % 64) (omega (arith, same, l)) ∙ sym (was i same) ∙ h.below i l
+        | inr other ↦ kept i other ∙ h.below i l
+      ];
+      above = λ i l s. elim (cases_eq (i / 64) place) [
+        | inl same ↦ new i same ∙ high (i % 64) (omega (arith, same, l))
+        | inr other ↦ kept i other ∙ h.above i l (omega (arith, s, other))
+      ];
+    }

@@ -2,14 +2,14 @@
 use Rattle.std.proofs.Common.{ℕ, zero, suc, ◌≡◌, ◌≢◌, ◌+◌, ◌-◌, ◌<◌, ◌≤◌, List, [], ◌∷◌, length, get_or, set, Bool, true, false, refl, sym, ap, ◌∙◌, arith, inl, inr, length-set, get_or-set_same, get_or-set_other, slice_get, Option, Some, unwrap_or}
 use Rattle.std.specs.Prelude.{◌==◌, replicate, nat_lt}
 use Rattle.std.specs.Option.{option_map_or}
-use Rattle.std.proofs.lemmas.Bool.{cases_eq}
+use Rattle.std.proofs.lemmas.Bool.{cases_eq, cases_lt}
 use Rattle.std.proofs.lemmas.Bool.Decides.{nat_tests}
 use Rattle.std.proofs.lemmas.List.{ext_get_or}
 use Rattle.farm_kinds.specs.declared.outcomes.Task.{Task}
-use Rattle.task_tree.specs.Bits.{bit, IsInserted, IsRemoved, IsEmpty}
+use Rattle.task_tree.specs.Bits.{bit, IsInserted, IsRemoved, IsCut, IsEmpty}
 use Rattle.farm_model.specs.Numbered.{item_of}
 use Rattle.farm_model.specs.Judgings.{task_of}
-use Rattle.task_tree.specs.Shown.{JudgingTasks, tests_listed, is_shown, HasTask}
+use Rattle.task_tree.specs.Shown.{JudgingTasks, hidden_behind, tests_listed, is_shown, HasTask}
 use Rattle.task_tree.specs.TreeLayout.{shown_from, tasks_value, tasks_values, kept_at, IsSized}
 use Rattle.task_tree.specs.declared.tree.KeptTasks.{KeptTasks}
 
@@ -44,6 +44,18 @@ pub shown_empty : (w : List ℕ) (i n : ℕ) → IsEmpty w → shown_from w i n 
 shown_empty w i zero e = refl
 shown_empty w i (suc n) e = ap (λ b. b ∷ shown_from w (i + 1) n) (ap (λ m. m == 1) (e.none i)) ∙ ap (λ xs. false ∷ xs) (shown_empty w (i + 1) n e)
 
+-- the numbers from one on are taken out
+shown_none : (v : List ℕ) (m i n : ℕ) → ((k : ℕ) → m ≤ k → bit v k ≡ 0) → m ≤ i → shown_from v i n ≡ replicate n false
+shown_none v m i zero h l = refl
+shown_none v m i (suc n) h l = ap (λ b. b ∷ shown_from v (i + 1) n) (ap (λ k. k == 1) (h i l)) ∙ ap (λ xs. false ∷ xs) (shown_none v m (i + 1) n h (omega (arith, l)))
+
+pub shown_cut : (w v : List ℕ) (m i n k : ℕ) → IsCut w v m → i + k ≡ m → shown_from v i n ≡ hidden_behind k (shown_from w i n)
+shown_cut w v m i n zero d e = shown_none v m i n d.above (omega (arith, e)) ∙ ap (λ l. replicate l false) (sym (length_shown w i n))
+shown_cut w v m i zero (suc k) d e = refl
+shown_cut w v m i (suc n) (suc k) d e =
+    ap (λ b. (b == 1) ∷ shown_from v (i + 1) n) (d.below i (omega (arith, e)))
+    ∙ ap (λ xs. (bit w i == 1) ∷ xs) (shown_cut w v m (i + 1) n k d (omega (arith, e)))
+
 -- ---- a task that is there
 
 pub record InRange (judgings : List KeptTasks) (task : Task) : Type 0 where
@@ -69,6 +81,15 @@ in_range ks task h = let r = tests_at ks task.judging task.test h.low h.high in 
 
 -- ---- sizes
 
+-- what is left was in before
+pub cut_part : (w v : List ℕ) (k : ℕ) → IsCut w v k → (i : ℕ) → bit v i ≡ 1 → bit w i ≡ 1
+cut_part w v k d i b = elim (cases_lt i k) [
+  | inl under ↦ sym (d.below i under) ∙ b
+  | inr over ↦ absurd (clash (bit v i) (d.above i over) b)
+] where
+  clash : (n : ℕ) → n ≡ 0 → n ≡ 1 → ⊥
+  clash n a b = omega arith
+
 pub sized_inserted : (x y : KeptTasks) (k : ℕ) → IsSized x → y.tests ≡ x.tests → k < x.tests → IsInserted x.shown y.shown k → IsSized y
 sized_inserted x y k s t h d = record {
   tests = omega (arith, s.tests, t);
@@ -83,6 +104,14 @@ sized_removed x y k s t h d = record {
   words = omega (arith, s.words, d.size);
   room = omega (arith, s.room, t, d.size);
   bound = λ i b. elim (cases_eq i k) [ inl same ↦ omega (arith, same, t, h) | inr other ↦ let u = s.bound i (sym (d.others i other) ∙ b) in omega (arith, t, u) ];
+}
+
+pub sized_cut : (x y : KeptTasks) (k : ℕ) → IsSized x → y.tests ≡ x.tests → IsCut x.shown y.shown k → IsSized y
+sized_cut x y k s t d = record {
+  tests = omega (arith, s.tests, t);
+  words = omega (arith, s.words, d.size);
+  room = omega (arith, s.room, t, d.size);
+  bound = λ i b. let u = s.bound i (cut_part x.shown y.shown k d i b) in omega (arith, t, u);
 }
 
 tests_there : (ks : List KeptTasks) (i t : ℕ) → i < length ks → t ≤ (kept_at ks i).tests → t ≤ option_map_or (λ (j : JudgingTasks). length j.shown) (slice_get (tasks_values ks) i) 0

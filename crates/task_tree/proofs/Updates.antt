@@ -3,18 +3,18 @@ use Rattle.std.proofs.Common.{ℕ, zero, suc, ◌≡◌, ◌≢◌, ◌+◌, ◌
 use Rattle.std.proofs.lemmas.Bool.{cases_eq}
 use Rattle.std.proofs.lemmas.Bool.Decides.{nat_tests}
 use Rattle.std.specs.Prelude.{◌==◌, replicate}
-use Rattle.std.proofs.lemmas.List.{get_or_read, map_push, length-replicate}
+use Rattle.std.proofs.lemmas.List.{get_or_read, map_push, length-map, length-replicate}
 use Rattle.farm_kinds.specs.declared.outcomes.Class.{Class}
 use Rattle.farm_kinds.specs.declared.outcomes.Task.{Task}
 use Rattle.farm_model.specs.Numbered.{with_item}
-use Rattle.task_tree.specs.Bits.{word, bit, IsRemoved, IsEmpty}
-use Rattle.task_tree.specs.Shown.{JudgingTasks, hidden, with_shown, widened, with_room}
+use Rattle.task_tree.specs.Bits.{word, bit, IsRemoved, IsCut, IsEmpty}
+use Rattle.task_tree.specs.Shown.{JudgingTasks, hidden, hidden_behind, with_shown, with_hidden_behind, widened, with_room}
 use Rattle.task_tree.specs.Tree.{of_class}
 use Rattle.task_tree.specs.TreeLayout.{shown_from, tasks_value, tasks_values, no_tasks, kept_at, IsSized, AreSized, IsIndexed}
 use Rattle.task_tree.specs.declared.tree.KeptTasks.{KeptTasks}
 use Rattle.task_tree.specs.declared.classes.Classes.{Classes}
 use Rattle.task_tree.proofs.Bitwise.{none_in}
-use Rattle.task_tree.proofs.ShownTests.{InRange, length_shown, shown_empty}
+use Rattle.task_tree.proofs.ShownTests.{InRange, length_shown, shown_empty, shown_cut}
 use Rattle.task_tree.proofs.Changed.{changed}
 
 pub read : (ks : List KeptTasks) (task : Task) (x : KeptTasks) → InRange ks task → x ≡ get_or ks (task.judging - 1) x → x ≡ kept_at ks (task.judging - 1)
@@ -39,6 +39,18 @@ value_changed ks task x v b r e h =
     let made : List Bool → JudgingTasks = λ s. record { class = x.class; shown = s } in
     changed tasks_value ks task.judging x (record { class = x.class; tests = x.tests; shown = v }) (λ j. record j { shown = with_item j.shown task.test b })
     (omega (arith, r.numbered)) r.known e (ap made h)
+
+-- a judging that is seen is one that is kept
+pub known_value : (ks : List KeptTasks) (seen : List JudgingTasks) (n : ℕ) → tasks_values ks ≡ seen → n ≤ length seen → n ≤ length ks
+known_value ks seen n e h = omega (arith, h, ap length e, length-map ks tasks_value)
+
+-- the tasks of a judging are hidden behind a rank
+pub value_cut : (ks : List KeptTasks) (n rank : ℕ) (x : KeptTasks) (v : List ℕ) → 1 ≤ n → n ≤ length ks → x ≡ get_or ks (n - 1) x → IsCut x.shown v rank
+    → tasks_values (set ks (n - 1) (record { class = x.class; tests = x.tests; shown = v })) ≡ with_hidden_behind (tasks_values ks) n rank
+value_cut ks n rank x v low high e d =
+    let made : List Bool → JudgingTasks = λ s. record { class = x.class; shown = s } in
+    changed tasks_value ks n x (record { class = x.class; tests = x.tests; shown = v }) (λ j. record j { shown = hidden_behind rank j.shown })
+    (omega (arith, low)) high e (ap made (shown_cut x.shown v rank 0 x.tests rank d (omega arith)))
 
 zero_words : (n p : ℕ) → word (replicate n 0) p ≡ 0
 zero_words zero zero = refl

@@ -1,5 +1,5 @@
 -- Sets of numbers, kept as words of 64 bits.
-use Rattle.std.specs.Prelude.{◌≡◌, ◌≢◌, ℕ, ◌<◌, ◌/◌, ◌%◌, List, length, get_or}
+use Rattle.std.specs.Prelude.{◌≡◌, ◌≢◌, ℕ, ◌<◌, ◌≤◌, ◌/◌, ◌%◌, List, length, get_or}
 use Rattle.std.specs.Int.{bit_at}
 
 -- the word at a place, 0 behind the last
@@ -24,6 +24,12 @@ pub record IsRemoved (old new : List ℕ) (k : ℕ) : Type 0 where
   pub others : (i : ℕ) → i ≢ k → bit new i ≡ bit old i
   pub words : (p : ℕ) → p ≢ k / 64 → word new p ≡ word old p
   pub zero : word old (k / 64) ≡ 0 → word new (k / 64) ≡ 0
+
+-- the numbers from k on are taken out, and nothing else changes
+pub record IsCut (old new : List ℕ) (k : ℕ) : Type 0 where
+  pub size : length new ≡ length old
+  pub below : (i : ℕ) → i < k → bit new i ≡ bit old i
+  pub above : (i : ℕ) → k ≤ i → bit new i ≡ 0
 
 -- the least number of the set
 pub record IsLeast (words : List ℕ) (k : ℕ) : Type 0 where

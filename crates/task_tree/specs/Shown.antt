@@ -1,5 +1,5 @@
 -- Tasks that are shown, of judgings that are numbered from 1, and their order: by class, judging and test.
-use Rattle.std.specs.Prelude.{ℕ, ◌-◌, ◌≤◌, List, ◌++◌, length, map, filter, flat_map, slice_get, slice_index_or, unwrap_or, Option, Bool, false, [], replicate}
+use Rattle.std.specs.Prelude.{ℕ, zero, suc, ◌-◌, ◌≤◌, List, ◌∷◌, ◌++◌, length, map, filter, flat_map, slice_get, slice_index_or, unwrap_or, Option, Bool, false, [], replicate}
 use Rattle.std.specs.List.{enumerate_from}
 use Rattle.std.specs.Option.{option_map_or}
 use Rattle.farm_kinds.specs.declared.outcomes.Class.{Class}
@@ -43,6 +43,16 @@ widened tests j = record j { shown = j.shown ++ replicate (tests - length j.show
 -- the judging, and those of its tasks that are shown, with at least this many tests
 abbrev pub with_room : List JudgingTasks → ℕ → ℕ → List JudgingTasks
 with_room judgings n tests = with_change judgings n (widened tests)
+
+-- the tests up to this rank as they are, and those behind it hidden
+abbrev pub hidden_behind : ℕ → List Bool → List Bool
+hidden_behind zero shown = replicate (length shown) false
+hidden_behind (suc rank) [] = []
+hidden_behind (suc rank) (first ∷ shown) = first ∷ hidden_behind rank shown
+
+-- the tasks of the judging of this number are hidden behind this rank
+abbrev pub with_hidden_behind : List JudgingTasks → ℕ → ℕ → List JudgingTasks
+with_hidden_behind judgings n rank = with_change judgings n (λ j. record j { shown = hidden_behind rank j.shown })
 
 -- for each test of the judging of this number whether its task is shown
 abbrev pub shown_of : List JudgingTasks → ℕ → List Bool

@@ -1,4 +1,4 @@
-ghost use Rattle.std.specs.Prelude.{◌≡◌, ◌≢◌, ℕ, ◌<◌, ◌^◌};
+ghost use Rattle.std.specs.Prelude.{◌≡◌, ◌≢◌, ℕ, ◌<◌, ◌≤◌, ◌^◌};
 ghost use Rattle.std.specs.Int.{bit_at};
 
 /// The word with the bit at this place set.
@@ -20,6 +20,16 @@ pub fn without_bit(word: u64, place: u32) -> u64
     ensures zero { word ≡ 0 → result ≡ 0 }
 {
     word & !(1 << place)
+}
+
+/// The word's bits below this place, without the others.
+#[inline(always)]
+pub fn bits_below(word: u64, place: u32) -> u64
+    requires { place < 64 }
+    ensures below { (i : ℕ) → i < place → bit_at result i ≡ bit_at word i }
+    ensures above { (i : ℕ) → place ≤ i → bit_at result i ≡ 0 }
+{
+    word % (1 << place)
 }
 
 /// The place of the lowest bit that is set.

@@ -3,7 +3,7 @@ ghost use Rattle.farm_model.specs.Judgings.{task_of};
 ghost use Rattle.farm_model.specs.Limits.{max_judgings, max_tests};
 ghost use Rattle.task_tree.specs.Bits.{bit, IsInserted, IsRemoved, IsEmpty, IsLeast};
 ghost use Rattle.task_tree.specs.Tree.{of_class};
-ghost use Rattle.task_tree.specs.Shown.{hidden, HasTask, with_shown, with_class, with_room, is_shown, shown_in_class, shown_tasks, first_shown};
+ghost use Rattle.task_tree.specs.Shown.{hidden, HasTask, with_shown, with_hidden_behind, with_class, with_room, is_shown, shown_in_class, shown_tasks, first_shown};
 ghost use Rattle.task_tree.specs.TreeLayout.{tasks_values, kept_at, AreSized, IsIndexed};
 
 use crate::classes::Classes;
@@ -154,6 +154,22 @@ impl TaskTree {
         let place = task.judging as usize - 1;
         let kept = &mut self.judgings[place];
         let _ = kept.shown.remove(task.test as usize - 1);
+        if !kept.shown.is_empty() {
+            return;
+        }
+        self.classes.remove(kept.class, place);
+    }
+
+    /// Hides the judging's tasks behind this rank, so that `first` does not find them: a word of 64 tests at a time,
+    /// however many of them are shown.
+    pub fn hide_behind(&mut self, judging: u32, last: u16)
+        requires numbered { 1 ≤ judging }
+        requires known { judging ≤ length self.old }
+        ensures { self.new ≡ with_hidden_behind self.old judging last }
+    {
+        let place = judging as usize - 1;
+        let kept = &mut self.judgings[place];
+        kept.shown.cut(last as usize);
         if !kept.shown.is_empty() {
             return;
         }

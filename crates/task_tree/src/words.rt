@@ -1,7 +1,7 @@
 ghost use Rattle.std.specs.Prelude.{◌≡◌, ◌≢◌, ℕ, ◌+◌, ◌/◌, ◌^◌, ◌<◌, ◌⊎◌, ◌≤◌, ◌++◌, ◌∷◌, [], length, replicate, IfOk, IfSome, IfNone, OnOk, OnErr, ◌↔◌, true, false};
-ghost use Rattle.task_tree.specs.Bits.{word, bit, IsInserted, IsRemoved, IsLeast, IsLeastAt, IsEmpty};
+ghost use Rattle.task_tree.specs.Bits.{word, bit, IsInserted, IsRemoved, IsCut, IsLeast, IsLeastAt, IsEmpty};
 
-use crate::bits::{lowest_bit, with_bit, without_bit};
+use crate::bits::{bits_below, lowest_bit, with_bit, without_bit};
 use crate::steps::Steps;
 use std::alloc::{AllocError, Global};
 use std::marker::{Brand, Model};
@@ -102,6 +102,16 @@ impl Words {
         let left = without_bit(word, (number % 64) as u32);
         self.words[place] = left;
         left == 0
+    }
+
+    /// Takes out this number and all behind it, a word at a time.
+    pub fn cut(&mut self, from: usize)
+        ensures { IsCut self.old self.new from }
+    {
+        for place in from / 64..self.words.len() {
+            let below = from.saturating_sub(place * 64);
+            self.words[place] = bits_below(self.words[place], below as u32);
+        }
     }
 
     /// Whether no number is in.
