@@ -6,8 +6,10 @@ use crate::rows::{
 use farm_kinds::{
     AskEnd, Claim, Class, Count, Fetched, Kind, Mode, NoMemory, Numbers, Renewed, Rule, Task,
 };
-use judging_core::Judge;
+use judging_core::{Judge, Steps};
 use std::alloc::Global;
+use std::marker::Brand;
+use std::sync::ledger::{Blank, Ledger};
 use std::test::Fail;
 
 /// Judges with leases of a minute, a row each: what is shown of the judge, behind `|` its rule, behind the next `|` in
@@ -45,6 +47,20 @@ const ROWS: &str = concat!(
     "claim 1 = handed 1 2 60~",
     "result 1 2 correct = counted~",
     "answer 1 = final run-error~",
+    "\n",
+    "what cannot change a verdict is not before the next judging|standard|lazy|",
+    "set-up 1000~",
+    "add 1000 = 2~",
+    "add 1 = 3~",
+    "claim 1 = handed 1 1 60~",
+    "result 1 1 run-error = counted~",
+    "answer 1 = final run-error~",
+    // of the second judging the first two tests still matter
+    "enter 2 3 run-error = counted~",
+    "claim 1 = handed 2 1 60~",
+    "claim 2 = handed 2 2 60~",
+    "claim 2 = handed 3 1 60~",
+    "claim 2 = nothing~",
     "\n",
     "a tie waits for an earlier rank|standard|lazy|",
     "set-up 3~",
@@ -378,7 +394,7 @@ fn claims(judge: &mut Judge, hosts: u32, host: u32, wanted: &str) -> bool
     if host == 0 || host > hosts {
         return false;
     }
-    is_claim(judge.claim(host), wanted)
+    is_claim(claim(judge, host), wanted)
 }
 
 /// Whether a host that is one of these claims once for each of these tests, and is handed them in turn.
@@ -391,7 +407,7 @@ fn claims_each(judge: &mut Judge, hosts: u32, host: u32, first: u16, last: u16) 
     }
     for test in first..=last {
         let task = Task { judging: 1, test };
-        if judge.claim(host) != (Claim::Handed { task, until: 60 }) {
+        if claim(judge, host) != (Claim::Handed { task, until: 60 }) {
             return false;
         }
     }
@@ -409,7 +425,58 @@ fn fetches(judge: &mut Judge, hosts: u32, host: u32, most: &str, wanted: &str) -
     let Ok(most) = most.parse::<u8>() else {
         return false;
     };
-    is_fetched(&judge.fetch(host, most), wanted)
+    is_fetched(&fetch(judge, host, most), wanted)
+}
+
+/// Claims a task for a host that is one of these.
+fn claim(judge: &mut Judge, host: u32) -> Claim
+    requires numbered { 1 ≤ host }
+    requires known { host ≤ judge.old.hosts }
+    ensures { judge.new.hosts ≡ judge.old.hosts }
+{
+    claim_by::<Brand>(judge, host, Blank::new(1))
+}
+
+/// The claim takes at most 58 steps of a counter that begins at nothing, which nobody is told of.
+fn claim_by<L: Ledger>(judge: &mut Judge, host: u32, blank: Blank) -> Claim
+    requires name { blank.name ≡ L.name }
+    requires parts { blank.parts ≡ L.parts }
+    requires one { blank.parts ≡ 1 }
+    requires numbered { 1 ≤ host }
+    requires known { host ≤ judge.old.hosts }
+    ensures { judge.new.hosts ≡ judge.old.hosts }
+{
+    let mut steps = Steps::<L>::new(blank);
+    let claim = judge.claim(host, &mut steps);
+    few_steps(&steps);
+    claim
+}
+
+/// A count of at most 58 steps.
+fn few_steps<L: Ledger>(_steps: &Steps<L>)
+    requires { _steps.now ≤ 58 }
+{
+}
+
+/// Fetches tasks for a host that is one of these.
+fn fetch(judge: &mut Judge, host: u32, most: u8) -> Fetched
+    requires numbered { 1 ≤ host }
+    requires known { host ≤ judge.old.hosts }
+    ensures { judge.new.hosts ≡ judge.old.hosts }
+{
+    fetch_by::<Brand>(judge, host, most, Blank::new(1))
+}
+
+fn fetch_by<L: Ledger>(judge: &mut Judge, host: u32, most: u8, blank: Blank) -> Fetched
+    requires name { blank.name ≡ L.name }
+    requires parts { blank.parts ≡ L.parts }
+    requires one { blank.parts ≡ 1 }
+    requires numbered { 1 ≤ host }
+    requires known { host ≤ judge.old.hosts }
+    ensures { judge.new.hosts ≡ judge.old.hosts }
+{
+    let mut steps = Steps::<L>::new(blank);
+    judge.fetch(host, most, &mut steps)
 }
 
 /// Adds a host where there are not too many, and counts it.

@@ -1,6 +1,6 @@
 -- The open tasks are those of the listed ones that are open.
 use Rattle.std.proofs.Common.{ℕ, zero, suc, ◌≡◌, ◌+◌, ◌-◌, ◌<◌, ◌≤◌, List, [], ◌∷◌, ◌++◌, Option, Some, None, Bool, true, false, cond, ltb, ◌&&◌, refl, sym, ap, subst, ◌∙◌, arith, length, map, slice_get, unwrap_or}
-use Rattle.std.specs.Prelude.{slice_index_or}
+use Rattle.std.specs.Prelude.{slice_index_or, IfSome}
 use Rattle.std.specs.Option.{is_none}
 use Rattle.std.specs.List.{filter, flat_map, range_with_len, enumerate_from}
 use Rattle.std.proofs.lemmas.Bool.Decides.{nat_tests}
@@ -265,3 +265,14 @@ pub none_is_open : (rule : RuleValue) (judgings : List Judging) (leases : List L
     → None ≡ first_shown tasks → None ≡ slice_get (open_tasks rule judgings leases) 0
 none_is_open rule judgings leases tasks h e =
     sym (ap (λ xs. slice_get xs 0) (all_open rule judgings leases tasks h ∙ ap (filter (is_open rule judgings leases)) (no_first (shown_tasks tasks) (sym e))))
+
+-- the first listed task is the first open one
+pub first_listed : (rule : RuleValue) (judgings : List Judging) (leases : List Lease) (tasks : List JudgingTasks) (first : Option Task) → IsListed rule judgings leases tasks
+    → first ≡ first_shown tasks → IfSome first (λ task. is_shown tasks task ≡ true) → first ≡ slice_get (open_tasks rule judgings leases) 0
+first_listed rule judgings leases tasks None h e s = none_is_open rule judgings leases tasks h e
+first_listed rule judgings leases tasks (Some task) h e s = first_is_open rule judgings leases tasks task h e (h.open_ task s)
+
+pub listed_open : (rule : RuleValue) (judgings : List Judging) (leases : List Lease) (tasks : List JudgingTasks) (first : Option Task) → IsListed rule judgings leases tasks
+    → IfSome first (λ task. is_shown tasks task ≡ true) → IfSome first (λ task. is_open rule judgings leases task ≡ true)
+listed_open rule judgings leases tasks None h s = tt
+listed_open rule judgings leases tasks (Some task) h s = h.open_ task s

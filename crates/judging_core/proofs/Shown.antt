@@ -1,19 +1,19 @@
 -- Listed tasks that are shown or hidden, and judgings that are added to the list or get room for more tests.
-use Rattle.std.proofs.Common.{ℕ, zero, suc, ◌≡◌, ◌≢◌, ◌+◌, ◌-◌, ◌<◌, ◌≤◌, List, [], ◌∷◌, ◌++◌, Option, Some, None, Bool, true, false, ltb, refl, sym, ap, subst, ◌∙◌, arith, inl, inr, length, map, set, slice_get, unwrap_or, length-set}
+use Rattle.std.proofs.Common.{ℕ, zero, suc, ◌≡◌, ◌≢◌, ◌+◌, ◌-◌, ◌<◌, ◌≤◌, List, [], ◌∷◌, ◌++◌, Option, Some, None, Bool, true, false, ltb, refl, sym, ap, subst, ◌∙◌, arith, inl, inr, length, map, slice_get, unwrap_or, length-set}
 use Rattle.std.specs.Prelude.{replicate}
 use Rattle.std.specs.Option.{option_map, option_map_or}
-use Rattle.std.proofs.lemmas.Bool.{cases_eq}
+use Rattle.std.proofs.lemmas.Bool.{cases_eq, cases_lt}
 use Rattle.std.proofs.lemmas.Bool.Decides.{nat_tests}
 use Rattle.std.proofs.lemmas.List.{length-append, length-replicate, length-map}
 use Rattle.farm_kinds.specs.declared.outcomes.Class.{Class}
 use Rattle.farm_kinds.specs.declared.outcomes.Task.{Task}
 use Rattle.farm_model.specs.Numbered.{item_of, with_item}
 use Rattle.farm_model.specs.Leases.{same_task}
-use Rattle.farm_model.specs.Judgings.{Judging}
-use Rattle.task_tree.specs.Shown.{JudgingTasks, hidden, tests_listed, is_shown, with_shown, with_class, with_room, widened, HasTask}
+use Rattle.farm_model.specs.Judgings.{Judging, task_of}
+use Rattle.task_tree.specs.Shown.{JudgingTasks, hidden, hidden_behind, tests_listed, is_shown, with_shown, with_hidden_behind, with_class, with_room, widened, HasTask}
 use Rattle.judging_core.specs.Listed.{listed_classes, widths, tests_judged}
 use Rattle.judging_core.specs.JudgeShape.{row_length}
-use Rattle.judging_core.proofs.Items.{item_seen, item_at, item_by, with_same, with_other, change_same, change_other, kept_seen, pushed_other, pushed_last, none_past, item_some}
+use Rattle.judging_core.proofs.Items.{item_seen, item_by, with_same, with_other, change_same, change_other, kept_seen, pushed_other, pushed_last, none_past, item_some}
 
 -- another task of the same judging is of another test
 pub apart : (a b : Task) → same_task a b ≡ false → a.judging ≡ b.judging → a.test ≢ b.test
@@ -204,44 +204,85 @@ room_widened tasks n tests low high = here (item_of tasks n) refl where
       let new : tests_listed (with_room tasks n tests) n ≡ length j.shown + (tests - length j.shown) = ap width_in (change_same tasks n _ j e) ∙ width_is j tests in
       omega (arith, new)
 
--- ---- how many tasks are shown
+-- ---- the tasks of a judging are hidden behind a rank
 
-abbrev pub count_shown : List Bool → ℕ
-count_shown [] = 0
-count_shown (true ∷ bits) = suc (count_shown bits)
-count_shown (false ∷ bits) = count_shown bits
+kept_bit : (rank : ℕ) (xs : List Bool) (i : ℕ) → i < rank → slice_get (hidden_behind rank xs) i ≡ slice_get xs i
+kept_bit zero xs i l = absurd (omega (arith, l))
+kept_bit (suc rank) [] i l = refl
+kept_bit (suc rank) (x ∷ xs) zero l = refl
+kept_bit (suc rank) (x ∷ xs) (suc i) l = kept_bit rank xs i (omega (arith, l))
 
-abbrev pub count_all : List JudgingTasks → ℕ
-count_all [] = 0
-count_all (j ∷ tasks) = count_shown j.shown + count_all tasks
+gone_bit : (rank : ℕ) (xs : List Bool) (i : ℕ) → rank ≤ i → unwrap_or (slice_get (hidden_behind rank xs) i) false ≡ false
+gone_bit zero xs i l = none_shown (length xs) i
+gone_bit (suc rank) [] i l = refl
+gone_bit (suc rank) (x ∷ xs) zero l = absurd (omega (arith, l))
+gone_bit (suc rank) (x ∷ xs) (suc i) l = gone_bit rank xs i (omega (arith, l))
 
-one_less : (bits : List Bool) (i : ℕ) → slice_get bits i ≡ Some true → count_shown (set bits i false) + 1 ≡ count_shown bits
-one_less [] i h = cc
-one_less (true ∷ bits) zero h = omega arith
-one_less (false ∷ bits) zero h = cc
-one_less (true ∷ bits) (suc i) h = let r = one_less bits i h in omega (arith, r)
-one_less (false ∷ bits) (suc i) h = one_less bits i h
+kept_test : (rank : ℕ) (xs : List Bool) (test : ℕ) → test ≤ rank → item_of (hidden_behind rank xs) test ≡ item_of xs test
+kept_test rank xs zero l = refl
+kept_test rank xs (suc test) l =
+    let yes : ltb 0 (suc test) ≡ true = grind (arith, nat_tests) in
+    rw yes (kept_bit rank xs (suc test - 1) (omega (arith, l)))
 
-less_in : (tasks : List JudgingTasks) (i : ℕ) (x y : JudgingTasks) → slice_get tasks i ≡ Some x → count_shown y.shown + 1 ≡ count_shown x.shown → count_all (set tasks i y) + 1 ≡ count_all tasks
-less_in [] i x y h e = cc
-less_in (z ∷ tasks) zero x y h e = let s : z ≡ x = cc in let t : count_shown z.shown ≡ count_shown x.shown = ap (λ (j : JudgingTasks). count_shown j.shown) s in omega (arith, t, e)
-less_in (z ∷ tasks) (suc i) x y h e = let r = less_in tasks i x y h e in omega (arith, r)
+gone_test : (rank : ℕ) (xs : List Bool) (test : ℕ) → rank < test → unwrap_or (item_of (hidden_behind rank xs) test) false ≡ false
+gone_test rank xs zero l = absurd (omega (arith, l))
+gone_test rank xs (suc test) l =
+    let yes : ltb 0 (suc test) ≡ true = grind (arith, nat_tests) in
+    rw yes (gone_bit rank xs (suc test - 1) (omega (arith, l)))
 
-bit_true : (o : Option Bool) → unwrap_or o false ≡ true → o ≡ Some true
-bit_true None h = cc
-bit_true (Some true) h = refl
-bit_true (Some false) h = cc
+width_behind : (rank : ℕ) (xs : List Bool) → length (hidden_behind rank xs) ≡ length xs
+width_behind zero xs = length-replicate (length xs) false
+width_behind (suc rank) [] = refl
+width_behind (suc rank) (x ∷ xs) = ap suc (width_behind rank xs)
 
--- each task that is hidden is one less
-pub hidden_less : (tasks : List JudgingTasks) (task : Task) → is_shown tasks task ≡ true → count_all (with_shown tasks task false) < count_all tasks
-hidden_less tasks task h = at (item_of tasks task.judging) refl where
-  at : (o : Option JudgingTasks) → item_of tasks task.judging ≡ o → count_all (with_shown tasks task false) < count_all tasks
-  at None e = let z : is_shown tasks task ≡ false = ap (λ o. shown_by o task.test) e ∙ nothing_in task.test in let f = h in cc
-  at (Some j) e =
-      let bit : item_of j.shown task.test ≡ Some true = bit_true (item_of j.shown task.test) (sym (ap (λ o. shown_by o task.test) e) ∙ h) in
-      let less = one_less j.shown (task.test - 1) (item_at j.shown task.test true bit).1 in
-      let y : JudgingTasks = record { class = j.class; shown = set j.shown (task.test - 1) false } in
-      let all : count_all (set tasks (task.judging - 1) y) + 1 ≡ count_all tasks = less_in tasks (task.judging - 1) j y (item_at tasks task.judging j e).1 less in
-      let is : with_shown tasks task false ≡ set tasks (task.judging - 1) y = rw e refl in
-      let n : count_all (with_shown tasks task false) ≡ count_all (set tasks (task.judging - 1) y) = ap count_all is in
-      omega (arith, all, n)
+-- a task of another judging, or of a rank before it, stays as it was
+pub behind_other : (tasks : List JudgingTasks) (n rank : ℕ) (task : Task) → task.judging ≢ n → is_shown (with_hidden_behind tasks n rank) task ≡ is_shown tasks task
+behind_other tasks n rank task other = ap (λ o. shown_by o task.test) (change_other tasks n task.judging _ (λ e. other (sym e)))
+
+pub behind_kept : (tasks : List JudgingTasks) (n rank : ℕ) (task : Task) → task.test ≤ rank → is_shown (with_hidden_behind tasks n rank) task ≡ is_shown tasks task
+behind_kept tasks n rank task l = elim (cases_eq n task.judging) [
+  | inr other ↦ behind_other tasks n rank task (λ e. other (sym e))
+  | inl same ↦ here (item_of tasks n) refl same
+] where
+  here : (o : Option JudgingTasks) → item_of tasks n ≡ o → n ≡ task.judging → is_shown (with_hidden_behind tasks n rank) task ≡ is_shown tasks task
+  here None e same = rw e refl
+  here (Some j) e same =
+      ap (λ o. shown_by o task.test) (ap (item_of (with_hidden_behind tasks n rank)) (sym same) ∙ change_same tasks n _ j e)
+      ∙ ap (λ (o : Option Bool). unwrap_or o false) (kept_test rank j.shown task.test l)
+      ∙ sym (ap (λ o. shown_by o task.test) (ap (item_of tasks) (sym same) ∙ e))
+
+pub behind_hidden : (tasks : List JudgingTasks) (n rank test : ℕ) → rank < test → is_shown (with_hidden_behind tasks n rank) (task_of n test) ≡ false
+behind_hidden tasks n rank test l = here (item_of tasks n) refl where
+  here : (o : Option JudgingTasks) → item_of tasks n ≡ o → is_shown (with_hidden_behind tasks n rank) (task_of n test) ≡ false
+  here None e = rw (e, e) (nothing_in test)
+  here (Some j) e = ap (λ o. shown_by o test) (change_same tasks n _ j e) ∙ gone_test rank j.shown test l
+
+-- none is shown that was not shown before
+pub behind_before : (tasks : List JudgingTasks) (n rank : ℕ) (task : Task) → is_shown (with_hidden_behind tasks n rank) task ≡ true → is_shown tasks task ≡ true
+behind_before tasks n rank task e = elim (cases_eq task.judging n) [
+  | inr other ↦ sym (behind_other tasks n rank task other) ∙ e
+  | inl same ↦ elim (cases_lt rank task.test) [
+    | inl behind ↦
+        let gone : is_shown (with_hidden_behind tasks n rank) task ≡ false = ap (λ m. is_shown (with_hidden_behind tasks n rank) (task_of m task.test)) same ∙ behind_hidden tasks n rank task.test behind in
+        cc
+    | inr within ↦ sym (behind_kept tasks n rank task (omega (arith, within))) ∙ e
+  ]
+]
+
+pub classes_behind : (tasks : List JudgingTasks) (n rank : ℕ) → listed_classes (with_hidden_behind tasks n rank) ≡ listed_classes tasks
+classes_behind tasks n rank = kept_seen (λ j. j.class) tasks n (λ j. record j { shown = hidden_behind rank j.shown }) (λ j. refl)
+
+pub widths_behind : (tasks : List JudgingTasks) (n rank : ℕ) → widths (with_hidden_behind tasks n rank) ≡ widths tasks
+widths_behind tasks n rank = kept_seen (λ j. length j.shown) tasks n (λ j. record j { shown = hidden_behind rank j.shown }) (λ j. width_behind rank j.shown)
+
+-- ---- a list of nothing
+
+pub nothing_shown : (task : Task) → is_shown [] task ≡ false
+nothing_shown task = ap (λ o. shown_by o task.test) (none_at task.judging) ∙ nothing_in task.test where
+  none_at : (n : ℕ) → item_of {X = JudgingTasks} [] n ≡ None
+  none_at zero = refl
+  none_at (suc n) = let yes : ltb 0 (suc n) ≡ true = grind (arith, nat_tests) in rw yes refl
+
+-- no test has the rank 0
+pub none_at_0 : (tasks : List JudgingTasks) (n : ℕ) → is_shown tasks (task_of n 0) ≡ false
+none_at_0 tasks n = refl

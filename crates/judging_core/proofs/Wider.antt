@@ -53,9 +53,9 @@ either_wider (Err e) ts us n tests made kept = subst (λ (vs : List JudgingTasks
 pub wider_listed : (rule : RuleValue) (js : List Judging) (ls : List Lease) (ts us : List JudgingTasks) → IsWider ts us → IsListed rule js ls ts → IsListed rule js ls us
 wider_listed rule js ls ts us w h = record {
   shown = λ t e. w.shown t ∙ h.shown t e;
+  open_ = λ t e. h.open_ t (sym (w.shown t) ∙ e);
   classes = w.classes (judging_classes js) h.classes;
   wide = record { each = λ n. omega (arith, h.wide.each n, w.wide n) };
-  rest = λ t l. w.shown t ∙ h.rest t l;
 }
 
 -- ---- room for judgings to come

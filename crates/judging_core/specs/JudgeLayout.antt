@@ -45,7 +45,7 @@ pub record IsJudgeLayout (a : Inside) : Type 0 where
   -- room for all that is made ahead
   pub spare : vec_len a.judgings + vec_len a.prepared ≤ vec_capacity a.judgings
   pub spare_answers : vec_len a.answers + vec_len a.prepared ≤ vec_capacity a.answers
-  -- each open task is listed
+  -- the open tasks are listed, and no others
   pub listed : IsListed a.rule (judging_values a.judgings.items) a.leases.leases a.tasks
   -- the list has room for the tests of all that is made ahead, as far as there can be judgings
   pub ahead : HasRoom (length a.judgings.items) (reserved_of a.prepared.items) a.tasks

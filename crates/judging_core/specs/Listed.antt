@@ -1,13 +1,16 @@
--- Which tasks a judge lists for claims: at least each open one.
-use Rattle.std.specs.Prelude.{◌≡◌, ◌≢◌, ℕ, ◌+◌, ◌<◌, ◌≤◌, List, [], ◌∷◌, map, length, get_or, Option, Some, None, Bool, true, false, ◌&&◌}
+-- Which tasks a judge lists for claims: the open ones.
+use Rattle.std.specs.Prelude.{◌≡◌, ◌≢◌, ℕ, ◌+◌, ◌-◌, ◌<◌, ◌≤◌, ◌⊎◌, nat_le, List, [], ◌∷◌, map, length, get_or, slice_get, Option, Some, None, Bool, true, false, ◌&&◌}
 use Rattle.std.specs.Option.{option_map_or}
 use Rattle.farm_kinds.specs.declared.kinds.Kind.{Kind}
 use Rattle.farm_kinds.specs.declared.outcomes.Class.{Class}
+use Rattle.farm_kinds.specs.declared.outcomes.Mode.{Mode}
 use Rattle.farm_kinds.specs.declared.outcomes.Task.{Task}
 use Rattle.farm_kinds.specs.RuleValue.{RuleValue}
 use Rattle.farm_model.specs.Limits.{max_judgings}
 use Rattle.farm_model.specs.declared.records.Lease.{Lease}
 use Rattle.farm_model.specs.Numbered.{item_of}
+use Rattle.farm_model.specs.Leases.{same_task}
+use Rattle.farm_model.specs.Rows.{Row}
 use Rattle.farm_model.specs.Judgings.{Judging, task_of}
 use Rattle.farm_model.specs.Open.{is_free, is_wanted, is_active}
 use Rattle.task_tree.specs.Shown.{JudgingTasks, tests_listed, is_shown}
@@ -51,17 +54,48 @@ Begins [] others = Unit {0}
 Begins (class ∷ classes) [] = ⊥
 Begins (class ∷ classes) (other ∷ others) = (other ≡ class) × Begins classes others
 
--- each open task is listed, by the class of its judging; behind the judgings nothing is
+-- the open tasks are listed and no others, by the classes of their judgings
 pub record IsListed (rule : RuleValue) (judgings : List Judging) (leases : List Lease)
     (tasks : List JudgingTasks) : Type 0 where
   pub shown : (task : Task) → is_open rule judgings leases task ≡ true → is_shown tasks task ≡ true
+  pub open_ : (task : Task) → is_shown tasks task ≡ true → is_open rule judgings leases task ≡ true
   pub classes : Begins (judging_classes judgings) (listed_classes tasks)
   pub wide : AreWide judgings tasks
-  pub rest : (task : Task) → length (judging_classes judgings) < task.judging → is_shown tasks task ≡ false
+
+-- up to this rank the row's empty cells are to be judged, and behind it none is
+abbrev pub IsWantedUpTo : RuleValue → Mode → Row → ℕ → Type 0
+IsWantedUpTo rule mode row last =
+    (rank : ℕ) → 1 ≤ rank → slice_get row (rank - 1) ≡ Some None → is_wanted rule mode row rank ≡ nat_le rank last
+
+-- the same of the judging of this number
+pub record IsLastWanted (rule : RuleValue) (judgings : List Judging) (n last : ℕ) : Type 0 where
+  pub each : (judging : Judging) → item_of judgings n ≡ Some judging → IsWantedUpTo rule judging.mode judging.row last
+
+-- the task is listed if it is open; what else is listed, the classes and the room are as they were
+pub record IsShownIfOpen (rule : RuleValue) (judgings : List Judging) (leases : List Lease) (task : Task)
+    (old new : List JudgingTasks) : Type 0 where
+  pub shown : is_open rule judgings leases task ≡ true → is_shown new task ≡ true
+  pub open_ : is_shown new task ≡ true → (is_shown old task ≡ true) ⊎ (is_open rule judgings leases task ≡ true)
+  pub others : (t : Task) → same_task t task ≡ false → is_shown new t ≡ is_shown old t
+  pub classes : listed_classes new ≡ listed_classes old
+  pub widths : widths new ≡ widths old
+
+-- of the judging the open tasks of the first tests are listed and no others; what else is listed, the classes and the
+-- room are as they were
+pub record AreOpenShown (rule : RuleValue) (judgings : List Judging) (leases : List Lease) (judging tests : ℕ)
+    (old new : List JudgingTasks) : Type 0 where
+  pub shown : (test : ℕ) → 1 ≤ test → test ≤ tests → is_open rule judgings leases (task_of judging test) ≡ true
+      → is_shown new (task_of judging test) ≡ true
+  pub open_ : (test : ℕ) → is_shown new (task_of judging test) ≡ true
+      → is_open rule judgings leases (task_of judging test) ≡ true
+  pub others : (task : Task) → task.judging ≢ judging → is_shown new task ≡ is_shown old task
+  pub classes : listed_classes new ≡ listed_classes old
+  pub widths : widths new ≡ widths old
 
 -- the first tests of a judging are listed; what else is listed, the classes and the room are as they were
 pub record AreTestsShown (judging tests : ℕ) (old new : List JudgingTasks) : Type 0 where
   pub shown : (test : ℕ) → 1 ≤ test → test ≤ tests → is_shown new (task_of judging test) ≡ true
+  pub rest : (test : ℕ) → tests < test → is_shown new (task_of judging test) ≡ is_shown old (task_of judging test)
   pub others : (task : Task) → task.judging ≢ judging → is_shown new task ≡ is_shown old task
   pub classes : listed_classes new ≡ listed_classes old
   pub widths : widths new ≡ widths old

@@ -1,4 +1,4 @@
-ghost use Rattle.std.specs.Prelude.{◌≡◌, Some, None, true, ◌+◌, ◌≤◌, ◌<◌, ◌++◌, length, take, slice_get, All, IfOk, IfSome, OnOk, OnErr, IsOk, IsTrue};
+ghost use Rattle.std.specs.Prelude.{◌≡◌, Some, None, true, ◌+◌, ◌*◌, ◌≤◌, ◌<◌, ◌++◌, length, take, slice_get, All, IfOk, IfSome, OnOk, OnErr, IsOk, IsTrue};
 ghost use Rattle.farm_kinds.specs.Rules.{remap_of};
 ghost use Rattle.farm_model.specs.Leases.{is_held_by, held_count};
 ghost use Rattle.farm_model.specs.Limits.{max_tests, max_hosts, max_judgings, max_held, max_batch};
@@ -14,10 +14,9 @@ use crate::judgings::{
     mark_dropped, mark_handed, result_refusal, test_count,
 };
 use crate::listing::{
-    end_counted, end_due, end_host, list_judging, make_room, make_room_ahead, show_tests,
-    unlist_judging,
+    end_counted, end_due, end_host, list_judging, make_room, make_room_ahead, show_open_tests,
 };
-use crate::open::first_open;
+use crate::open::{last_wanted, wanted_up_to};
 use crate::prepared::{is_next, prepared_judgings, take_prepared};
 use crate::room::{make_lease_room, tests_with};
 use farm_kinds::{
@@ -29,7 +28,8 @@ use lazy_stop::remapped_is_possible;
 use lease_book::LeaseBook;
 use std::alloc::Global;
 use std::marker::Model;
-use task_tree::TaskTree;
+use std::sync::ledger::Ledger;
+use task_tree::{Steps, TaskTree};
 
 /// The moment past which time does not go on, in seconds: 10^18 - 1.
 const LAST_MOMENT: u64 = 999_999_999_999_999_999;
@@ -50,7 +50,7 @@ pub struct Judge {
     cells: u32,
     hosts: u32,
     leases: LeaseBook,
-    /// Each open task is shown here, so that claims need not look at the judgings.
+    /// The open tasks are shown here and no others, so that a claim takes the first and looks at no judging.
     tasks: TaskTree,
 }
 
@@ -139,11 +139,12 @@ impl Judge {
         make_answer_room(&mut self.answers, 1)?;
         let judging = empty_judging(self.alloc, self.rule, class, tests, mode, asked)?;
         let answer = answer_of(&judging);
+        let wanted = wanted_up_to(&judging);
         self.judgings.push(judging).map_err(|_| NoMemory)?;
         self.answers.push_reserved(answer);
         self.prepared = Vec::new(self.alloc);
         self.cells = cells;
-        list_judging(&mut self.tasks, class, number as u32, tests, asked);
+        list_judging(&mut self.tasks, class, number as u32, wanted, asked);
         Ok(number as u32)
     }
 
@@ -159,11 +160,12 @@ impl Judge {
             return 0;
         };
         let answer = answer_of(&judging);
+        let wanted = wanted_up_to(&judging);
         self.judgings.push_reserved(judging);
         self.answers.push_reserved(answer);
         self.cells += u32::from(tests);
         let number = self.judgings.len() as u32;
-        list_judging(&mut self.tasks, class, number, tests, asked);
+        list_judging(&mut self.tasks, class, number, wanted, asked);
         number
     }
 
@@ -185,17 +187,19 @@ impl Judge {
     /// Gives the host the least open task by class, judging and test, and a lease on it.
     ///
     /// A task is open where its cell is empty and no lease is held on it, in a judging that was asked for and
-    /// takes results, and lazily only where its result can change the verdict.
-    pub fn claim(&mut self, host: u32) -> Claim
+    /// takes results, and lazily only where its result can change the verdict. It is found in at most 58 steps,
+    /// whatever became of the judgings before it; a step is a reading of a word of the list.
+    pub fn claim<L: Ledger>(&mut self, host: u32, steps: &mut Steps<L>) -> Claim
         requires numbered { 1 ≤ host }
         requires known { host ≤ self.old.hosts }
         ensures state { self.new ≡ in_state self.old (judge_claim self.old.state host).0 }
         ensures answer { result ≡ (judge_claim self.old.state host).1 }
+        ensures cost { steps.new ≤ steps.old + 58 }
     {
         if self.held(host) >= MAX_HELD {
             return Claim::Holding;
         }
-        let Some(task) = self.first_open() else {
+        let Some(task) = self.first_open(steps) else {
             return Claim::Nothing;
         };
         let until = self.hand_out(host, task);
@@ -205,24 +209,25 @@ impl Judge {
     /// Gives the host the least open task by class, judging and test, and the next open tasks of its judging:
     /// as many as it asks for, but at least one and at most 16, and not more than 64 with those that it holds.
     ///
-    /// Each of them costs what a claim costs, however many tests the judging has.
-    pub fn fetch(&mut self, host: u32, most: u8) -> Fetched
+    /// Each of them is found in as many steps as that of a claim, however many tests the judging has.
+    pub fn fetch<L: Ledger>(&mut self, host: u32, most: u8, steps: &mut Steps<L>) -> Fetched
         requires numbered { 1 ≤ host }
         requires known { host ≤ self.old.hosts }
         ensures state { self.new ≡ in_state self.old (judge_fetch self.old.state host most).0 }
         ensures answer { result ≡ (judge_fetch self.old.state host most).1 }
+        ensures cost { steps.new ≤ steps.old + 58 * max_batch }
     {
         let held = self.held(host);
         if held >= MAX_HELD {
             return Fetched::Holding;
         }
-        let Some(first) = self.first_open() else {
+        let Some(first) = self.first_open(steps) else {
             return Fetched::Nothing;
         };
         let until = self.hand_out(host, first);
         let mut tests = Few::of(first.test);
         let more = batch_size(most, held) - 1;
-        self.hand_out_more(host, first.judging, more, &mut tests);
+        self.hand_out_more(host, first.judging, more, &mut tests, steps);
         Fetched::Batch {
             judging: first.judging,
             tests,
@@ -232,7 +237,14 @@ impl Judge {
 
     /// Hands out the next open tasks of the judging, at most so many, and adds their tests. No other judging has
     /// open tasks before it.
-    fn hand_out_more(&mut self, host: u32, judging: u32, more: u32, tests: &mut Few)
+    fn hand_out_more<L: Ledger>(
+        &mut self,
+        host: u32,
+        judging: u32,
+        more: u32,
+        tests: &mut Few,
+        steps: &mut Steps<L>,
+    )
         requires numbered { 1 ≤ host }
         requires known { host ≤ self.old.hosts }
         requires held { held_count self.old.state.leases host + more ≤ max_held }
@@ -241,9 +253,10 @@ impl Judge {
         ensures state { self.new
             ≡ in_state self.old (hand_out_all self.old.state host (take more (open_of self.old.state judging))) }
         ensures tests { tests.new ≡ tests.old ++ ranks_of (take more (open_of self.old.state judging)) }
+        ensures cost { steps.new ≤ steps.old + 58 * more }
     {
         for _ in 0..more {
-            let Some(task) = self.next_open(judging) else {
+            let Some(task) = self.next_open(judging, steps) else {
                 return;
             };
             self.hand_out(host, task);
@@ -252,13 +265,13 @@ impl Judge {
     }
 
     /// The next open task of the judging, before which no other has open tasks.
-    fn next_open(&mut self, judging: u32) -> Option<Task>
-        requires { ComesFirst self.old.state judging }
-        ensures next { result ≡ slice_get (open_of self.old.state judging) 0 }
-        ensures same { self.new ≡ self.old }
-        ensures open_ { IfSome result (λ task. is_open_task self.old.state task ≡ true) }
+    fn next_open<L: Ledger>(&self, judging: u32, steps: &mut Steps<L>) -> Option<Task>
+        requires { ComesFirst self.now.state judging }
+        ensures next { result ≡ slice_get (open_of self.now.state judging) 0 }
+        ensures open_ { IfSome result (λ task. is_open_task self.now.state task ≡ true) }
+        ensures cost { steps.new ≤ steps.old + 58 }
     {
-        let Some(task) = self.first_open() else {
+        let Some(task) = self.first_open(steps) else {
             return None;
         };
         if task.judging != judging {
@@ -275,12 +288,12 @@ impl Judge {
     }
 
     /// The least open task by class, judging and test.
-    fn first_open(&mut self) -> Option<Task>
-        ensures first { result ≡ first_open self.old.state }
-        ensures same { self.new ≡ self.old }
-        ensures open_ { IfSome result (λ task. is_open_task self.old.state task ≡ true) }
+    fn first_open<L: Ledger>(&self, steps: &mut Steps<L>) -> Option<Task>
+        ensures first { result ≡ first_open self.now.state }
+        ensures open_ { IfSome result (λ task. is_open_task self.now.state task ≡ true) }
+        ensures cost { steps.new ≤ steps.old + 58 }
     {
-        first_open(&self.judgings, &self.leases, &mut self.tasks)
+        self.tasks.first(steps)
     }
 
     /// Hands the open task out to the host, which holds fewer than 64 leases, and answers until when.
@@ -327,8 +340,8 @@ impl Judge {
     }
 
     /// Fills the empty cell of the task, ends the lease on it, and takes it off the list. Lazily the leases on
-    /// the judging's cells that do not matter any more end too: their tasks are not open, and so they need not be
-    /// listed again.
+    /// the judging's cells that do not matter any more end too, and their tasks leave the list: all of them where it
+    /// is settled.
     fn count(&mut self, judging: u32, test: u32, given: Kind) -> Count
         requires numbered { 1 ≤ judging }
         requires known { judging ≤ length self.old.state.judgings }
@@ -344,8 +357,10 @@ impl Judge {
             judging,
             test: test as u16,
         };
-        end_counted(&self.judgings, &mut self.leases, task);
+        let last = last_wanted(&self.judgings, judging);
+        end_counted(&mut self.leases, task, last);
         self.tasks.hide_task(task);
+        self.tasks.hide_behind(judging, last);
         Count::Counted
     }
 
@@ -392,7 +407,7 @@ impl Judge {
     {
         let now = self.moment.max(moment.min(LAST_MOMENT));
         self.moment = now;
-        end_due(&mut self.leases, &mut self.tasks, self.judgings.len(), now)
+        end_due(&self.judgings, &mut self.leases, &mut self.tasks, now)
     }
 
     /// Ends the leases of the host, and counts them.
@@ -400,7 +415,7 @@ impl Judge {
         ensures state { self.new ≡ in_state self.old (judge_down self.old.state host).0 }
         ensures count { result ≡ (judge_down self.old.state host).1 }
     {
-        end_host(&mut self.leases, &mut self.tasks, self.judgings.len(), host)
+        end_host(&self.judgings, &mut self.leases, &mut self.tasks, host)
     }
 
     /// Asks for a judging: hosts are given its tasks from now on.
@@ -413,7 +428,13 @@ impl Judge {
         }
         mark_asked(&mut self.judgings, judging);
         let tests = test_count(&self.judgings, judging);
-        show_tests(&mut self.tasks, judging, tests);
+        show_open_tests(
+            &self.judgings,
+            &self.leases,
+            &mut self.tasks,
+            judging,
+            tests,
+        );
         AskEnd::Done
     }
 
@@ -434,8 +455,7 @@ impl Judge {
     {
         mark_dropped(&mut self.judgings, judging);
         self.leases.end_judging(judging);
-        let tests = test_count(&self.judgings, judging);
-        unlist_judging(&mut self.tasks, judging, tests);
+        self.tasks.hide_behind(judging, 0);
     }
 
     /// Whether a judging was dropped.

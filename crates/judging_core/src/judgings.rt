@@ -1,9 +1,9 @@
 ghost use Rattle.farm_model.specs.Limits.{max_tests};
-ghost use Rattle.std.specs.Prelude.{◌≡◌, ◌≤◌, ◌-◌, length, slice_get, slice_set, vec_len, vec_capacity, IfOk, IfNone, IfSome, OnSome, None, Some, IsSome};
+ghost use Rattle.std.specs.Prelude.{◌≡◌, ◌≤◌, ◌-◌, length, slice_get, slice_set, vec_len, vec_capacity, IfOk, IfNone, IfSome, OnSome, None, Some, IsSome, false};
 ghost use Rattle.farm_kinds.specs.RuleValue.{RuleValue};
 ghost use Rattle.farm_model.specs.Numbered.{item_of};
 ghost use Rattle.farm_model.specs.Judge.{ask_refusal};
-ghost use Rattle.farm_model.specs.Judgings.{kept_count, cell_of, entry_refusal, result_refusal, with_result, with_handed, with_asked, with_dropped, empty_judging};
+ghost use Rattle.farm_model.specs.Judgings.{kept_count, cell_of, is_asked, entry_refusal, result_refusal, with_result, with_handed, with_asked, with_dropped, empty_judging};
 ghost use Rattle.lazy_stop.specs.Matters.{IsPossible};
 ghost use Rattle.judging_core.specs.Refusals.{cell_refusal, is_never_handed};
 ghost use Rattle.std.specs.Option.{option_map};
@@ -216,6 +216,7 @@ pub fn ask_refusal(judgings: &[KeptJudging], judging: u32) -> Option<AskEnd>
     ensures refusal { result ≡ ask_refusal (judging_values judgings.now) judging }
     ensures numbered { IfNone result (1 ≤ judging) }
     ensures known { IfNone result (judging ≤ length judgings.now) }
+    ensures waits { IfNone result (is_asked (judging_values judgings.now) judging ≡ false) }
 {
     let Some(kept) = judging_at(judgings, judging) else {
         return Some(AskEnd::NoJudging);

@@ -1,72 +1,17 @@
-ghost use Rattle.farm_model.specs.Judgings.{Judging};
-ghost use Rattle.std.specs.Prelude.{◌≡◌, ◌≤◌, ◌-◌, length, slice_get, true, IfSome, Some, None};
+ghost use Rattle.std.specs.Prelude.{◌≡◌, ◌≤◌, ◌-◌, length, slice_get, Some, None};
 ghost use Rattle.farm_kinds.specs.RuleValue.{RuleValue};
-ghost use Rattle.farm_model.specs.Open.{is_wanted, open_tasks};
-ghost use Rattle.task_tree.specs.Shown.{HasTask, first_shown, is_shown};
-ghost use Rattle.judging_core.specs.Listed.{is_open, widths, IsListed};
+ghost use Rattle.farm_model.specs.Open.{is_wanted};
+ghost use Rattle.judging_core.specs.Listed.{is_open, IsWantedUpTo, IsLastWanted};
 ghost use Rattle.judging_core.specs.JudgeShape.{judging_values, IsWellKept, AreWellKept, AreRuledBy};
 
 use crate::judgings::{KeptJudging, cell_at, judging_at};
 use farm_kinds::{Mode, Task};
 use lazy_stop::Row;
 use lease_book::LeaseBook;
-use std::marker::Brand;
-use std::sync::ledger::{Blank, Ledger};
-use task_tree::{Steps, TaskTree};
-
-/// The least open task by class, judging and test: one on an empty cell, which lazily can change the
-/// verdict, with no lease, in a judging that was asked for. Tasks that are listed and not open are taken off the list on the way, so that
-/// each is looked at once for each time it was listed.
-pub fn first_open(
-    judgings: &[KeptJudging],
-    leases: &LeaseBook,
-    tasks: &mut TaskTree,
-) -> Option<Task>
-    requires short { AreWellKept judgings.now }
-    ensures first { (rule : RuleValue) → AreRuledBy rule judgings.now
-        → IsListed rule (judging_values judgings.now) leases.now.leases tasks.old
-        → result ≡ slice_get (open_tasks rule (judging_values judgings.now) leases.now.leases) 0 }
-    ensures listed { (rule : RuleValue) → AreRuledBy rule judgings.now
-        → IsListed rule (judging_values judgings.now) leases.now.leases tasks.old
-        → IsListed rule (judging_values judgings.now) leases.now.leases tasks.new }
-    ensures widths { widths tasks.new ≡ widths tasks.old }
-    ensures open_ { (rule : RuleValue) → AreRuledBy rule judgings.now
-        → IfSome result (λ task. is_open rule (judging_values judgings.now) leases.now.leases task ≡ true) }
-{
-    while let Some(task) = first_listed(tasks) {
-        if is_open(judgings, leases, task) {
-            return Some(task);
-        }
-        tasks.hide_task(task);
-    }
-    None
-}
-
-/// The least listed task.
-fn first_listed(tasks: &TaskTree) -> Option<Task>
-    ensures first { result ≡ first_shown tasks.now }
-    ensures there { IfSome result (HasTask tasks.now) }
-    ensures shown { IfSome result (λ task. is_shown tasks.now task ≡ true) }
-{
-    first_listed_from::<Brand>(tasks, Blank::new(1))
-}
-
-/// The least listed task. It counts its steps from nothing, and nobody is told how many they are.
-fn first_listed_from<L: Ledger>(tasks: &TaskTree, blank: Blank) -> Option<Task>
-    requires name { blank.name ≡ L.name }
-    requires parts { blank.parts ≡ L.parts }
-    requires one { blank.parts ≡ 1 }
-    ensures first { result ≡ first_shown tasks.now }
-    ensures there { IfSome result (HasTask tasks.now) }
-    ensures shown { IfSome result (λ task. is_shown tasks.now task ≡ true) }
-{
-    let mut steps = Steps::<L>::new(blank);
-    tasks.first(&mut steps)
-}
 
 /// Whether the task is there, its cell is empty and wanted, its judging was asked for and takes results, and
 /// no lease is held on it.
-fn is_open(judgings: &[KeptJudging], leases: &LeaseBook, task: Task) -> bool
+pub fn is_open(judgings: &[KeptJudging], leases: &LeaseBook, task: Task) -> bool
     requires short { AreWellKept judgings.now }
     ensures open_ { (rule : RuleValue) → AreRuledBy rule judgings.now
         → result ≡ is_open rule (judging_values judgings.now) leases.now.leases task }
@@ -92,5 +37,30 @@ fn is_wanted(mode: Mode, row: &Row, test: u16) -> bool
     match mode {
         Mode::Full => true,
         Mode::Lazy => row.matters(test),
+    }
+}
+
+/// The rank up to which the judging's empty cells are to be judged: lazily those up to the last one that matters.
+pub fn wanted_up_to(kept: &KeptJudging) -> u16
+    requires { IsWellKept kept.now }
+    ensures wanted { IsWantedUpTo kept.now.row.rule kept.now.mode kept.now.row.cells result }
+    ensures within { result ≤ length kept.now.row.cells }
+{
+    let tests = kept.handed.len();
+    match kept.mode {
+        Mode::Full => tests,
+        Mode::Lazy => kept.row.matters_up_to().min(tests as usize) as u16,
+    }
+}
+
+/// The same of the judging of this number, where there is one.
+pub fn last_wanted(judgings: &[KeptJudging], judging: u32) -> u16
+    requires { AreWellKept judgings.now }
+    ensures { (rule : RuleValue) → AreRuledBy rule judgings.now
+        → IsLastWanted rule (judging_values judgings.now) judging result }
+{
+    match judging_at(judgings, judging) {
+        Some(kept) => wanted_up_to(kept),
+        None => 0,
     }
 }

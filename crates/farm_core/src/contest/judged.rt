@@ -1,9 +1,15 @@
 ghost use Rattle.farm_kinds.specs.declared.events.Event.TheVariants as events;
 ghost use Rattle.farm_model.specs.Farm.{Stepped};
+ghost use Rattle.farm_model.specs.Judge.{judge_claim, judge_fetch};
+ghost use Rattle.judging_core.specs.JudgeValue.{in_state};
+ghost use Rattle.std.specs.Prelude.{◌≡◌, ◌≤◌};
 
 use super::Contest;
 use crate::replies::{claim_reply, count_reply, fetch_reply, renewed_reply};
-use farm_kinds::{Kind, Name, Reply};
+use farm_kinds::{Claim, Fetched, Kind, Name, Reply};
+use judging_core::{Judge, Steps};
+use std::marker::Brand;
+use std::sync::ledger::{Blank, Ledger};
 
 impl Contest {
     /// A host asks for a task, which it then holds for as long as the settings say.
@@ -11,7 +17,7 @@ impl Contest {
         ensures { Stepped self.old (events.Claim host) self.new result }
     {
         match self.up_number(&host) {
-            Some(number) => claim_reply(self.judge.claim(number)),
+            Some(number) => claim_reply(claim_by::<Brand>(&mut self.judge, number, Blank::new(1))),
             None => Reply::NoHost { name: host },
         }
     }
@@ -21,7 +27,12 @@ impl Contest {
         ensures { Stepped self.old (events.Fetch host most) self.new result }
     {
         match self.up_number(&host) {
-            Some(number) => fetch_reply(self.judge.fetch(number, most)),
+            Some(number) => fetch_reply(fetch_by::<Brand>(
+                &mut self.judge,
+                number,
+                most,
+                Blank::new(1),
+            )),
             None => Reply::NoHost { name: host },
         }
     }
@@ -61,4 +72,32 @@ impl Contest {
             count: self.judge.tick(moment),
         }
     }
+}
+
+/// The judge's claim with a counter of its own, which nobody is told of.
+fn claim_by<L: Ledger>(judge: &mut Judge, host: u32, blank: Blank) -> Claim
+    requires name { blank.name ≡ L.name }
+    requires parts { blank.parts ≡ L.parts }
+    requires one { blank.parts ≡ 1 }
+    requires numbered { 1 ≤ host }
+    requires known { host ≤ judge.old.hosts }
+    ensures state { judge.new ≡ in_state judge.old (judge_claim judge.old.state host).0 }
+    ensures answer { result ≡ (judge_claim judge.old.state host).1 }
+{
+    let mut steps = Steps::<L>::new(blank);
+    judge.claim(host, &mut steps)
+}
+
+/// The judge's fetch with a counter of its own.
+fn fetch_by<L: Ledger>(judge: &mut Judge, host: u32, most: u8, blank: Blank) -> Fetched
+    requires name { blank.name ≡ L.name }
+    requires parts { blank.parts ≡ L.parts }
+    requires one { blank.parts ≡ 1 }
+    requires numbered { 1 ≤ host }
+    requires known { host ≤ judge.old.hosts }
+    ensures state { judge.new ≡ in_state judge.old (judge_fetch judge.old.state host most).0 }
+    ensures answer { result ≡ (judge_fetch judge.old.state host most).1 }
+{
+    let mut steps = Steps::<L>::new(blank);
+    judge.fetch(host, most, &mut steps)
 }

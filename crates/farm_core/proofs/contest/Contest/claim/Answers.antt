@@ -4,5 +4,5 @@ use Rattle.farm_core.proofs.contest.Contest.claim.Goals as goal
 
 pub returns-in-Some : goal.returns-in-Some
 returns-in-Some c =
-    claim_stepped c.args.self.now c.args.host c.in-Some.number _ c.claim.result c.claim_reply.result
+    claim_stepped c.args.self.now c.args.host c.in-Some.number _ c.claim_by.result c.claim_reply.result
     (sym c.up_number.ensures.number ∙ c.in-Some.is) (search rules) (search rules) c.claim_reply.ensures

@@ -17,7 +17,7 @@ use Rattle.judging_core.specs.declared.judgings.KeptJudging.{KeptJudging}
 use Rattle.judging_core.specs.JudgeShape.{judging_value, judging_values, answers_by, IsWellKept, AreWellKept, IsRuledBy, AreRuledBy, cells_in, reserved_of}
 use Rattle.judging_core.specs.Holding.{IsHeldWell, AreOnEmptyCells, most_held}
 use Rattle.judging_core.specs.Listed.{IsListed, HasRoom}
-use Rattle.judging_core.proofs.Listed.{count_is}
+use Rattle.judging_core.proofs.Listed.{count_is, none_listed_past, row_size, wanted_of_new}
 use Rattle.judging_core.proofs.Shown.{same_size}
 use Rattle.judging_core.proofs.Wider.{wider_listed, wider_ahead, room_none}
 use Rattle.judging_core.proofs.MadeAhead.{none_left}
@@ -41,7 +41,7 @@ small judgings judge e few = omega (arith, few, count_is judgings, ap length e)
 -- of a judging to come no task is listed
 hidden_next : (at : Inside) (n test : ℕ) → IsListed at.rule (judging_values at.judgings.items) at.leases.leases at.tasks → n ≡ length at.judgings.items → is_shown at.tasks (task_of (n + 1) test) ≡ false
 hidden_next at n test h e =
-    h.rest (task_of (n + 1) test) (omega (arith, e, count_is at.judgings.items, length-map (judging_values at.judgings.items) (λ (j : Judging). j.class)))
+    none_listed_past at.rule (judging_values at.judgings.items) at.leases.leases at.tasks (task_of (n + 1) test) h (omega (arith, e, count_is at.judgings.items))
 
 pub make_room-requires-clause-next : goal.make_room-requires-clause-next
 make_room-requires-clause-next c =
@@ -223,7 +223,8 @@ pub list_judging-requires-clause-known : goal.list_judging-requires-clause-known
 list_judging-requires-clause-known c = c.in_ok-make_room.ensures.known
 
 pub list_judging-requires-clause-wide : goal.list_judging-requires-clause-wide
-list_judging-requires-clause-wide c = c.in_ok-make_room.ensures.wide
+list_judging-requires-clause-wide c =
+    omega (arith, c.in_ok-make_room.ensures.wide, c.wanted_up_to-wanted.ensures.within, row_size c.in_ok-judging.judging c.args.class c.args.tests c.args.mode c.args.asked c.in_ok-judging.ensures.value)
 
 pub list_judging-requires-clause-hidden : goal.list_judging-requires-clause-hidden
 list_judging-requires-clause-hidden c = λ test.
@@ -249,8 +250,11 @@ invariant_of-self-2 c =
     let leases = c.make_lease_room.new.leases in
     let same = c.make_lease_room.ensures.leases in
     let held : IsHeldWell inside.hosts leases.leases = rw same c.self.invariant.held in
+    let size = row_size judging c.args.class c.args.tests c.args.mode c.args.asked c.in_ok-judging.ensures.value in
+    let within : c.wanted_up_to-wanted.result ≤ c.args.tests = omega (arith, size, c.wanted_up_to-wanted.ensures.within) in
+    let upto = wanted_of_new inside.rule judging c.args.class c.args.tests c.args.mode c.args.asked c.wanted_up_to-wanted.result c.in_ok-judging.ensures.ruled c.in_ok-judging.ensures.value c.wanted_up_to-wanted.ensures.wanted in
     let listed : IsListed inside.rule (judging_values c.push.new.self.items) leases.leases c.list_judging.new.tasks =
-    rw (value, same) (c.list_judging.ensures.listed inside.rule c.args.mode (judging_values at) inside.leases.leases here (wider_listed inside.rule (judging_values at) inside.leases.leases inside.tasks c.make_room.new.tasks c.make_room.ensures.wider c.self.invariant.listed)) in
+    rw (value, same) (c.list_judging.ensures.listed inside.rule c.args.mode c.args.tests (judging_values at) inside.leases.leases here c.in_ok-make_room.ensures.wide within upto c.self.invariant.cells (wider_listed inside.rule (judging_values at) inside.leases.leases inside.tasks c.make_room.new.tasks c.make_room.ensures.wider c.self.invariant.listed)) in
     let cells : AreOnEmptyCells (judging_values c.push.new.self.items) leases.leases =
     rw (value, same) (added_cells (judging_values at) (empty_judging c.args.class c.args.tests c.args.mode c.args.asked) inside.leases.leases c.self.invariant.cells) in
     let counted : inside.cells + c.from.result ≡ cells_in c.push.new.self.items =

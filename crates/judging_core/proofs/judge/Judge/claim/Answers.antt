@@ -2,13 +2,13 @@ use Rattle.std.proofs.Common.{rules}
 use Rattle.judging_core.proofs.judge.Judge.claim.Goals as goal
 
 pub returns-in_default-clause-answer : goal.returns-in_default-clause-answer
-returns-in_default-clause-answer c = search rules
+returns-in_default-clause-answer g c = search rules
 
 pub hand_out-until-requires-clause-few : goal.hand_out-until-requires-clause-few
-hand_out-until-requires-clause-few c = search rules
+hand_out-until-requires-clause-few g c = search rules
 
 pub returns-clause-state : goal.returns-clause-state
-returns-clause-state c = search rules
+returns-clause-state g c = search rules
 
 pub returns-clause-answer : goal.returns-clause-answer
-returns-clause-answer c = search rules
+returns-clause-answer g c = search rules

@@ -5,20 +5,21 @@ use Rattle.farm_model.specs.Leases.{same_task, without_task}
 use Rattle.farm_model.specs.Judgings.{task_of}
 use Rattle.judging_core.specs.Holding.{IsHeldWell, AreOnEmptyCells}
 use Rattle.farm_model.specs.Judgings.{Judging, cell_of, with_result, fill_cell}
-use Rattle.task_tree.specs.Shown.{HasTask}
 use Rattle.judging_core.specs.declared.judgings.KeptJudging.{KeptJudging}
-use Rattle.judging_core.proofs.Shown.{widths_shown}
+use Rattle.judging_core.proofs.Shown.{widths_shown, widths_behind, same_size}
 use Rattle.lazy_stop.specs.Matters.{IsPossible}
 use Rattle.judging_core.specs.JudgeValue.{JudgeValue, in_state}
 use Rattle.judging_core.specs.JudgeLayout.{judge_value}
 use Rattle.judging_core.specs.JudgeShape.{judging_values, answers_by, AreRuledBy, cells_in, reserved_of}
-use Rattle.judging_core.specs.Listed.{widths, IsListed, HasRoom}
-use Rattle.judging_core.proofs.Listed.{cell_there, cell_room, result_listed, result_closed, closed_hidden}
+use Rattle.lease_book.specs.Behind.{without_behind}
+use Rattle.farm_kinds.specs.declared.kinds.Kind.{Kind}
+use Rattle.judging_core.specs.Listed.{widths, IsListed, IsLastWanted, HasRoom}
+use Rattle.judging_core.proofs.Listed.{cell_there, cell_room, count_is}
 use Rattle.judging_core.proofs.Wider.{ahead_kept}
-use Rattle.judging_core.proofs.Items.{item_within}
+use Rattle.judging_core.proofs.Items.{item_within, change_same}
 use Rattle.judging_core.proofs.Cells.{filled_cells}
 use Rattle.judging_core.proofs.CellCount.{cells_changed}
-use Rattle.judging_core.proofs.Vain.{vain_held, vain_cells, vain_listed}
+use Rattle.judging_core.proofs.Vain.{vain_held, vain_cells, vain_behind, result_listed}
 use Rattle.farm_kinds.specs.RuleValue.{RuleValue}
 use Rattle.farm_model.specs.declared.records.Lease.{Lease}
 use Rattle.farm_model.specs.Numbered.{item_of}
@@ -41,19 +42,26 @@ hide_task-requires c =
     (seen_empty at.judgings.items c.args.self.now c.args.judging c.args.test (ap (λ (v : JudgeValue). v.state.judgings) c.self.view_is) c.requires.empty)
 
 -- the judgings are seen through a slice
-ended_in_vain : (rule : RuleValue) (seen js : List KeptJudging) (values : List Judging) (old left new : List Lease) (j : ℕ) → seen ≡ js → judging_values js ≡ values → old ≡ left
-    → ((r : RuleValue) → AreRuledBy r seen → new ≡ without_vain r (judging_values seen) j old) → AreRuledBy rule js → new ≡ without_vain rule values j left
-ended_in_vain rule seen js values old left new j e v l ended ruled =
-    ended rule (subst (AreRuledBy rule) (sym e) ruled)
-    ∙ ap (λ (xs : List KeptJudging). without_vain rule (judging_values xs) j old) e
-    ∙ ap (λ (xs : List Judging). without_vain rule xs j old) v
-    ∙ ap (without_vain rule values j) l
+last_seen : (rule : RuleValue) (seen js : List KeptJudging) (values : List Judging) (j last : ℕ) → seen ≡ js → judging_values js ≡ values
+    → ((r : RuleValue) → AreRuledBy r seen → IsLastWanted r (judging_values seen) j last) → AreRuledBy rule js → IsLastWanted rule values j last
+last_seen rule seen js values j last e v wanted ruled =
+    subst (λ (xs : List Judging). IsLastWanted rule xs j last) (ap judging_values e ∙ v) (wanted rule (subst (AreRuledBy rule) (sym e) ruled))
 
-pub end_counted-requires-clause-cells : goal.end_counted-requires-clause-cells
-end_counted-requires-clause-cells c =
+-- the leases that end are those in vain
+vain_ended : (rule : RuleValue) (js : List Judging) (ls new : List Lease) (j test last : ℕ) (kind : Kind) → cell_of js j test ≡ Some None → AreOnEmptyCells js ls
+    → IsLastWanted rule (with_result js j test kind) j last → new ≡ without_behind (without_task ls (task_of j test)) j last → new ≡ without_vain rule (with_result js j test kind) j (without_task ls (task_of j test))
+vain_ended rule js ls new j test last kind empty cells upto e =
+    let at = cell_there js j test (item_of js j) refl empty in
+    e ∙ sym (vain_behind rule (with_result js j test kind) j last (fill_cell test kind at.0) (without_task ls (task_of j test)) (change_same js j (fill_cell test kind) at.0 at.1) upto
+    (filled_cells js ls j test kind (test_from_1 js j test empty) cells))
+
+pub hide_behind-requires-clause-known : goal.hide_behind-requires-clause-known
+hide_behind-requires-clause-known c =
     let at = c.self.inside in
-    let empty = seen_empty at.judgings.items c.args.self.now c.args.judging c.args.test (ap (λ (v : JudgeValue). v.state.judgings) c.self.view_is) c.requires.empty in
-    rw (c.deref-2.ensures.value, c.fill.ensures.value) (filled_cells (judging_values at.judgings.items) at.leases.leases c.args.judging c.args.test c.args.given (test_from_1 (judging_values at.judgings.items) c.args.judging c.args.test empty) c.self.invariant.cells)
+    let same : length c.hide_task.new.self ≡ length at.tasks = same_size at.tasks c.hide_task.new.self (ap widths c.hide_task.ensures ∙ widths_shown at.tasks (task_of c.args.judging c.args.test) false) in
+    let known : c.args.judging ≤ length at.judgings.items = omega (arith, c.requires.known, count_is at.judgings.items, ap (λ (v : JudgeValue). length v.state.judgings) c.self.view_is) in
+    let there = c.self.invariant.ahead.known c.args.judging (omega (arith, known)) (omega (arith, known, c.self.invariant.few)) in
+    omega (arith, there, same)
 
 pub invariant_of-self : goal.invariant_of-self
 invariant_of-self c =
@@ -65,26 +73,26 @@ invariant_of-self c =
     let empty = seen_empty at.judgings.items c.args.self.now c.args.judging c.args.test (ap (λ (v : JudgeValue). v.state.judgings) c.self.view_is) c.requires.empty in
     let possible : IsPossible at.rule c.args.given = subst (λ (v : JudgeValue). IsPossible v.state.rule c.args.given) (sym c.self.view_is) c.requires.possible in
     let ruled : AreRuledBy at.rule c.fill.new.judgings.items = c.fill.ensures.ruled at.rule c.self.invariant.ruled in
+    let upto : IsLastWanted at.rule new c.args.judging c.last_wanted-last.result =
+    last_seen at.rule c.deref-2.result.now c.fill.new.judgings.items new c.args.judging c.last_wanted-last.result c.deref-2.ensures.value c.fill.ensures.value c.last_wanted-last.ensures ruled in
     let vain : c.end_counted.new.leases.leases ≡ without_vain at.rule new c.args.judging left =
-    ended_in_vain at.rule c.deref-2.result.now c.fill.new.judgings.items new left left c.end_counted.new.leases.leases c.args.judging c.deref-2.ensures.value c.fill.ensures.value refl c.end_counted.ensures.leases
-    (c.fill.ensures.ruled at.rule c.self.invariant.ruled) in
+    vain_ended at.rule js at.leases.leases c.end_counted.new.leases.leases c.args.judging c.args.test c.last_wanted-last.result c.args.given empty c.self.invariant.cells upto c.end_counted.ensures.leases in
     let held : IsHeldWell at.hosts c.end_counted.new.leases.leases =
     rw vain (vain_held at.hosts at.rule new c.args.judging left (some_held at.hosts (λ lease. not (same_task lease.task task)) at.leases.leases c.self.invariant.held)) in
     let cells : AreOnEmptyCells (judging_values c.fill.new.judgings.items) c.end_counted.new.leases.leases =
     rw (c.fill.ensures.value, vain) (vain_cells at.rule new c.args.judging left (filled_cells js at.leases.leases c.args.judging c.args.test c.args.given (test_from_1 js c.args.judging c.args.test empty) c.self.invariant.cells)) in
     let counted : at.cells ≡ cells_in c.fill.new.judgings.items = c.self.invariant.counted ∙ sym (cells_changed at.judgings.items c.fill.new.judgings.items c.args.judging (fill_cell c.args.test c.args.given) c.fill.ensures.value (λ x. length-set x.row (c.args.test - 1) (Some c.args.given))) in
     let room : room c.end_counted.new.leases ≡ room at.leases = c.end_counted.ensures.room in
-    let there : HasTask at.tasks task = cell_room js at.tasks c.args.judging c.args.test c.self.invariant.listed.wide empty in
-    let closed = result_closed at.rule js (without_vain at.rule new c.args.judging left) c.args.judging c.args.test c.args.given empty in
     let seen : AreRuledBy at.rule c.deref.result.now = subst (AreRuledBy at.rule) (sym c.deref.ensures.value) ruled in
     let changed : judging_values c.deref.result.now ≡ new = ap judging_values c.deref.ensures.value ∙ c.fill.ensures.value in
     let answered : c.keep_answer.new.answers.items ≡ answers_by at.rule (judging_values c.fill.new.judgings.items) =
     c.keep_answer.ensures.answers at.rule js (fill_cell c.args.test c.args.given) seen changed c.self.invariant.answered ∙ ap (λ xs. answers_by at.rule (judging_values xs)) c.deref.ensures.value in
-    let same : widths c.hide_task.new.self ≡ widths at.tasks = ap widths c.hide_task.ensures ∙ widths_shown at.tasks task false in
-    let listed : IsListed at.rule (judging_values c.fill.new.judgings.items) c.end_counted.new.leases.leases c.hide_task.new.self =
-    rw (c.fill.ensures.value, vain, c.hide_task.ensures) (closed_hidden at.rule new (without_vain at.rule new c.args.judging left) at.tasks task
-    (vain_listed at.rule new c.args.judging left at.tasks (result_listed at.rule js at.leases.leases at.tasks c.args.judging c.args.test c.args.given c.self.invariant.listed empty possible)) there closed) in
-    let ahead : HasRoom (length c.fill.new.judgings.items) (reserved_of at.prepared.items) c.hide_task.new.self = ahead_kept (length at.judgings.items) (length c.fill.new.judgings.items) (reserved_of at.prepared.items) at.tasks c.hide_task.new.self c.fill.ensures.count same c.self.invariant.ahead in
+    let same : widths c.hide_behind.new.self ≡ widths at.tasks =
+    ap widths c.hide_behind.ensures ∙ widths_behind c.hide_task.new.self c.args.judging c.last_wanted-last.result ∙ ap widths c.hide_task.ensures ∙ widths_shown at.tasks task false in
+    let listed : IsListed at.rule (judging_values c.fill.new.judgings.items) c.end_counted.new.leases.leases c.hide_behind.new.self =
+    rw (c.fill.ensures.value, vain, c.hide_behind.ensures, c.hide_task.ensures)
+    (result_listed at.rule js at.leases.leases at.tasks c.args.judging c.args.test c.last_wanted-last.result c.args.given c.self.invariant.listed empty possible upto) in
+    let ahead : HasRoom (length c.fill.new.judgings.items) (reserved_of at.prepared.items) c.hide_behind.new.self = ahead_kept (length at.judgings.items) (length c.fill.new.judgings.items) (reserved_of at.prepared.items) at.tasks c.hide_behind.new.self c.fill.ensures.count same c.self.invariant.ahead in
     search rules
 
 pub returns-clause-state : goal.returns-clause-state
@@ -93,9 +101,13 @@ returns-clause-state c =
     let new = with_result (judging_values at.judgings.items) c.args.judging c.args.test c.args.given in
     let left = without_task at.leases.leases (task_of c.args.judging c.args.test) in
     let start : JudgeValue = judge_value at in
-    let vain : c.end_counted.new.leases.leases ≡ without_vain at.rule new c.args.judging left =
-    ended_in_vain at.rule c.deref-2.result.now c.fill.new.judgings.items new left left c.end_counted.new.leases.leases c.args.judging c.deref-2.ensures.value c.fill.ensures.value refl c.end_counted.ensures.leases
+    let js = judging_values at.judgings.items in
+    let empty = seen_empty at.judgings.items c.args.self.now c.args.judging c.args.test (ap (λ (v : JudgeValue). v.state.judgings) c.self.view_is) c.requires.empty in
+    let upto : IsLastWanted at.rule new c.args.judging c.last_wanted-last.result =
+    last_seen at.rule c.deref-2.result.now c.fill.new.judgings.items new c.args.judging c.last_wanted-last.result c.deref-2.ensures.value c.fill.ensures.value c.last_wanted-last.ensures
     (c.fill.ensures.ruled at.rule c.self.invariant.ruled) in
+    let vain : c.end_counted.new.leases.leases ≡ without_vain at.rule new c.args.judging left =
+    vain_ended at.rule js at.leases.leases c.end_counted.new.leases.leases c.args.judging c.args.test c.last_wanted-last.result c.args.given empty c.self.invariant.cells upto c.end_counted.ensures.leases in
     ap (λ (js : List Judging). record start { state = record start.state { judgings = js; leases = c.end_counted.new.leases.leases } }) c.fill.ensures.value
     ∙ ap (λ (leases : List Lease). record start { state = record start.state { judgings = new; leases = leases } }) vain
     ∙ ap (λ (v : JudgeValue). in_state v (counted v.state c.args.judging c.args.test c.args.given).0) c.self.view_is

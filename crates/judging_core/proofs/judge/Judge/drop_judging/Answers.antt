@@ -1,14 +1,11 @@
-use Rattle.std.proofs.Common.{ℕ, List, ◌≡◌, ◌≤◌, ◌∙◌, Some, refl, sym, ap, rules, not, eqb, length, map, arith}
-use Rattle.judging_core.specs.JudgeShape.{judging_values, row_length, AreWellKept, AreRuledBy, cells_in, reserved_of}
-use Rattle.judging_core.specs.Listed.{tests_judged, IsListed, HasRoom}
-use Rattle.judging_core.proofs.Listed.{dropped_listed, dropped_closed, count_is}
+use Rattle.std.proofs.Common.{ℕ, List, ◌≡◌, ◌≤◌, ◌∙◌, refl, sym, ap, rules, not, eqb, length, arith}
+use Rattle.judging_core.specs.JudgeShape.{judging_values, AreWellKept, AreRuledBy, cells_in, reserved_of}
+use Rattle.judging_core.specs.Listed.{widths, IsListed, HasRoom}
+use Rattle.judging_core.proofs.Listed.{dropped_listed, count_is}
 use Rattle.judging_core.proofs.Wider.{ahead_kept}
 use Rattle.farm_model.specs.Leases.{without_judging}
-use Rattle.farm_model.specs.Judgings.{mark_dropped, with_dropped}
-use Rattle.farm_model.specs.Numbered.{item_of}
-use Rattle.std.specs.Option.{option_map}
-use Rattle.judging_core.proofs.Items.{kept_seen}
-use Rattle.judging_core.proofs.Shown.{judged_same, judged_is}
+use Rattle.farm_model.specs.Judgings.{mark_dropped}
+use Rattle.judging_core.proofs.Shown.{widths_behind}
 use Rattle.judging_core.specs.JudgeValue.{JudgeValue}
 use Rattle.judging_core.specs.declared.judgings.KeptJudging.{KeptJudging}
 use Rattle.judging_core.specs.Holding.{IsHeldWell, AreOnEmptyCells}
@@ -21,23 +18,11 @@ use Rattle.judging_core.proofs.judge.Judge.drop_judging.Goals as goal
 within : (judgings : List KeptJudging) (judge : JudgeValue) (n : ℕ) → judging_values judgings ≡ judge.state.judgings → n ≤ length judge.state.judgings → n ≤ length judgings
 within judgings judge n e l = omega (arith, l, count_is judgings, ap length e)
 
-pub unlist_judging-requires-clause-known : goal.unlist_judging-requires-clause-known
-unlist_judging-requires-clause-known c =
+pub hide_behind-requires-clause-known : goal.hide_behind-requires-clause-known
+hide_behind-requires-clause-known c =
     let at = c.self.inside in
     let known : c.args.judging ≤ length at.judgings.items = within at.judgings.items c.args.self.now c.args.judging (ap (λ (v : JudgeValue). v.state.judgings) c.self.view_is) c.requires.known in
     c.self.invariant.ahead.known c.args.judging (omega (arith, known)) (omega (arith, known, c.self.invariant.few))
-
-pub unlist_judging-requires-clause-wide : goal.unlist_judging-requires-clause-wide
-unlist_judging-requires-clause-wide c =
-    let at = c.self.inside in
-    let js = judging_values at.judgings.items in
-    let counted : option_map row_length (item_of (judging_values c.mark_dropped.new.judgings.items) c.args.judging) ≡ Some c.test_count-tests.result =
-    ap (λ xs. option_map row_length (item_of (judging_values xs) c.args.judging)) (sym c.deref.ensures.value) ∙ c.test_count-tests.ensures.count in
-    let seen : judging_values c.mark_dropped.new.judgings.items ≡ with_dropped js c.args.judging = c.mark_dropped.ensures.value in
-    let rows : map row_length (judging_values c.mark_dropped.new.judgings.items) ≡ map row_length js = ap (map row_length) seen ∙ kept_seen row_length js c.args.judging mark_dropped (λ x. refl) in
-    let tests : tests_judged js c.args.judging ≡ c.test_count-tests.result =
-    sym (judged_same js (judging_values c.mark_dropped.new.judgings.items) c.args.judging rows) ∙ judged_is (judging_values c.mark_dropped.new.judgings.items) c.args.judging c.test_count-tests.result counted in
-    omega (arith, tests, c.self.invariant.listed.wide.each c.args.judging)
 
 pub invariant_of-self : goal.invariant_of-self
 invariant_of-self c =
@@ -46,13 +31,12 @@ invariant_of-self c =
     let rows : AreWellKept c.mark_dropped.new.judgings.items = c.mark_dropped.ensures.short c.self.invariant.rows in
     let ruled : AreRuledBy at.rule c.mark_dropped.new.judgings.items = c.mark_dropped.ensures.ruled at.rule c.self.invariant.ruled in
     let few : length c.mark_dropped.new.judgings.items ≤ 400000 = rw c.mark_dropped.ensures.count c.self.invariant.few in
-    let listed : IsListed at.rule (judging_values c.mark_dropped.new.judgings.items) c.end_judging.new.self.leases c.unlist_judging.new.tasks =
-    c.unlist_judging.ensures.listed at.rule (judging_values c.mark_dropped.new.judgings.items) c.end_judging.new.self.leases
-    (λ test. rw c.mark_dropped.ensures.value (dropped_closed at.rule (judging_values at.judgings.items) c.end_judging.new.self.leases c.args.judging test))
-    (rw (c.mark_dropped.ensures.value, c.end_judging.ensures.leases) (dropped_listed at.rule (judging_values at.judgings.items) at.leases.leases at.tasks c.args.judging c.self.invariant.listed)) in
+    let listed : IsListed at.rule (judging_values c.mark_dropped.new.judgings.items) c.end_judging.new.self.leases c.hide_behind.new.self =
+    rw (c.mark_dropped.ensures.value, c.end_judging.ensures.leases, c.hide_behind.ensures) (dropped_listed at.rule (judging_values at.judgings.items) at.leases.leases at.tasks c.args.judging c.self.invariant.listed) in
     let cells : AreOnEmptyCells (judging_values c.mark_dropped.new.judgings.items) c.end_judging.new.self.leases =
     rw (c.mark_dropped.ensures.value, c.end_judging.ensures.leases) (dropped_cells (judging_values at.judgings.items) (without_judging at.leases.leases c.args.judging) c.args.judging (some_cells (judging_values at.judgings.items) (λ x. not (eqb x.task.judging c.args.judging)) at.leases.leases c.self.invariant.cells)) in
     let counted : at.cells ≡ cells_in c.mark_dropped.new.judgings.items = c.self.invariant.counted ∙ sym (cells_changed at.judgings.items c.mark_dropped.new.judgings.items c.args.judging mark_dropped c.mark_dropped.ensures.value (λ x. refl)) in
     let answered = answers_kept at.rule (judging_values at.judgings.items) (judging_values c.mark_dropped.new.judgings.items) c.args.judging mark_dropped at.answers.items c.self.invariant.answered c.mark_dropped.ensures.value (λ x. refl) in
-    let ahead : HasRoom (length c.mark_dropped.new.judgings.items) (reserved_of at.prepared.items) c.unlist_judging.new.tasks = ahead_kept (length at.judgings.items) (length c.mark_dropped.new.judgings.items) (reserved_of at.prepared.items) at.tasks c.unlist_judging.new.tasks c.mark_dropped.ensures.count c.unlist_judging.ensures.widths c.self.invariant.ahead in
+    let same : widths c.hide_behind.new.self ≡ widths at.tasks = ap widths c.hide_behind.ensures ∙ widths_behind at.tasks c.args.judging 0 in
+    let ahead : HasRoom (length c.mark_dropped.new.judgings.items) (reserved_of at.prepared.items) c.hide_behind.new.self = ahead_kept (length at.judgings.items) (length c.mark_dropped.new.judgings.items) (reserved_of at.prepared.items) at.tasks c.hide_behind.new.self c.mark_dropped.ensures.count same c.self.invariant.ahead in
     search rules

@@ -12,7 +12,7 @@ use Rattle.judging_core.specs.JudgeShape.{judging_values, AreRuledBy, cells_in, 
 use Rattle.judging_core.specs.Listed.{is_open, widths, IsListed, HasRoom}
 use Rattle.judging_core.specs.Batches.{is_open_task}
 use Rattle.judging_core.proofs.Shown.{widths_shown}
-use Rattle.judging_core.proofs.Listed.{handed_hidden, open_there}
+use Rattle.judging_core.proofs.Listed.{handed_hidden, open_there, count_is}
 use Rattle.judging_core.proofs.Wider.{ahead_kept}
 use Rattle.judging_core.proofs.Held.{one_held, few_in_all, fewer_in_all}
 use Rattle.judging_core.proofs.Cells.{open_cell, open_free, handed_cells}
@@ -38,6 +38,13 @@ pub hide_task-requires : goal.hide_task-requires
 hide_task-requires c =
     let at = c.self.inside in
     has_room at c.args.task c.self.invariant (seen_open at c.args.self.now c.args.task c.self.view_is c.requires.open_)
+
+pub mark_handed-requires-clause-known : goal.mark_handed-requires-clause-known
+mark_handed-requires-clause-known c =
+    let at = c.self.inside in
+    let opened = seen_open at c.args.self.now c.args.task c.self.view_is c.requires.open_ in
+    let known = (open_there at.rule (judging_values at.judgings.items) at.leases.leases at.tasks c.args.task c.self.invariant.listed.wide opened).0 in
+    omega (arith, known, count_is at.judgings.items)
 
 pub grant-requires-clause-spare : goal.grant-requires-clause-spare
 grant-requires-clause-spare c = λ single.

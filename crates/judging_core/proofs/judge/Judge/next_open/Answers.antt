@@ -5,7 +5,7 @@ use Rattle.judging_core.proofs.Batches.{own_first, none_left}
 use Rattle.judging_core.proofs.judge.Judge.next_open.Goals as goal
 
 pub returns-clause-next : goal.returns-clause-next
-returns-clause-next c =
+returns-clause-next g c =
     let s : JudgeState = c.args.self.now.state in
     let task = c.in-Some.task in
     let first : first_open s ≡ Some task = sym c.first_open.ensures.first ∙ c.in-Some.is in
@@ -14,7 +14,7 @@ returns-clause-next c =
     sym (ap (λ j. slice_get (open_of s j) 0) (sym same) ∙ ap (λ xs. slice_get xs 0) own.1)
 
 pub returns-then-task-judging-clause-next : goal.returns-then-task-judging-clause-next
-returns-then-task-judging-clause-next c =
+returns-then-task-judging-clause-next g c =
     let s : JudgeState = c.args.self.now.state in
     let first : first_open s ≡ Some c.in-Some.task = sym c.first_open.ensures.first ∙ c.in-Some.is in
     sym (none_left s c.args.judging c.requires (λ t e same.

@@ -1,11 +1,9 @@
 use Rattle.std.proofs.Common.{◌≡◌, ◌≤◌, ◌+◌, ◌∙◌, rules, refl, sym, ap, arith, length}
-use Rattle.std.proofs.lemmas.List.{length-map}
-use Rattle.farm_model.specs.Judgings.{Judging}
 use Rattle.lease_book.specs.Book.{room}
 use Rattle.judging_core.specs.JudgeShape.{judging_values, answers_by, cells_in, reserved_of}
 use Rattle.judging_core.specs.Holding.{IsHeldWell, AreOnEmptyCells, most_held}
 use Rattle.judging_core.specs.Listed.{IsListed, HasRoom}
-use Rattle.judging_core.proofs.Listed.{count_is}
+use Rattle.judging_core.proofs.Listed.{count_is, none_listed_past}
 use Rattle.judging_core.proofs.Wider.{ahead_kept, wider_listed, wider_ahead}
 use Rattle.judging_core.proofs.judge.Judge.reserve.Goals as goal
 
@@ -23,7 +21,7 @@ make_room_ahead-requires-clause-rest c = λ task behind.
     let n = c.len-3.ensures in
     let same : length c.reserve.new.self.items ≡ length at.judgings.items = ap length c.reserve.ensures.items in
     let count : c.len-3.result ≡ length at.judgings.items = omega (arith, n, same, c.reserve.new.self.ok) in
-    c.self.invariant.listed.rest task (omega (arith, behind, count, count_is at.judgings.items, length-map (judging_values at.judgings.items) (λ (j : Judging). j.class)))
+    none_listed_past at.rule (judging_values at.judgings.items) at.leases.leases at.tasks task c.self.invariant.listed (omega (arith, behind, count, count_is at.judgings.items))
 
 pub invariant_of-self : goal.invariant_of-self
 invariant_of-self c =

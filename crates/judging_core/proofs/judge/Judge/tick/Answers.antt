@@ -1,11 +1,11 @@
-use Rattle.std.proofs.Common.{◌≡◌, ◌∙◌, rules, refl, not, length, arith}
+use Rattle.std.proofs.Common.{rules, refl, not, length}
 use Rattle.farm_model.specs.Leases.{has_ended}
 use Rattle.judging_core.specs.Holding.{IsHeldWell, AreOnEmptyCells}
 use Rattle.judging_core.specs.JudgeShape.{judging_values, reserved_of}
 use Rattle.judging_core.specs.Listed.{IsListed, HasRoom}
 use Rattle.judging_core.proofs.Held.{some_held}
 use Rattle.judging_core.proofs.Cells.{some_cells}
-use Rattle.judging_core.proofs.Listed.{count_is}
+use Rattle.judging_core.proofs.Listed.{listed_seen}
 use Rattle.judging_core.proofs.Wider.{ahead_kept}
 use Rattle.judging_core.proofs.judge.Judge.tick.Goals as goal
 
@@ -14,9 +14,8 @@ invariant_of-self c =
     let at = c.self.inside in
     let held : IsHeldWell at.hosts c.end_due.new.leases.leases = rw c.end_due.ensures.leases (some_held at.hosts (λ lease. not (has_ended c.max-now.result lease)) at.leases.leases c.self.invariant.held) in
     let cells : AreOnEmptyCells (judging_values at.judgings.items) c.end_due.new.leases.leases = rw c.end_due.ensures.leases (some_cells (judging_values at.judgings.items) (λ lease. not (has_ended c.max-now.result lease)) at.leases.leases c.self.invariant.cells) in
-    let fits : length (judging_values at.judgings.items) ≡ c.len.result = count_is at.judgings.items ∙ (let n = c.len.ensures in omega (arith, n, at.judgings.ok)) in
     let listed : IsListed at.rule (judging_values at.judgings.items) c.end_due.new.leases.leases c.end_due.new.tasks =
-    c.end_due.ensures.listed at.rule (judging_values at.judgings.items) fits c.self.invariant.listed in
+    listed_seen at.rule c.deref.result.now at.judgings.items at.leases.leases c.end_due.new.leases.leases at.tasks c.end_due.new.tasks c.deref.ensures.value c.end_due.ensures.listed c.self.invariant.ruled c.self.invariant.listed in
     let ahead : HasRoom (length at.judgings.items) (reserved_of at.prepared.items) c.end_due.new.tasks = ahead_kept (length at.judgings.items) (length at.judgings.items) (reserved_of at.prepared.items) at.tasks c.end_due.new.tasks refl c.end_due.ensures.widths c.self.invariant.ahead in
     search rules
 
