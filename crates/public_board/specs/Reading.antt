@@ -1,7 +1,8 @@
 -- What a read tells of a view.
-use Rattle.std.specs.Prelude.{◌≡◌, ◌≢◌, ℕ, ◌≤◌, List, [], length, slice_index_or}
+use Rattle.std.specs.Prelude.{◌≡◌, ◌≢◌, ℕ, ◌≤◌, Option, Some, None, List, [], length, slice_index_or}
 use mathlib.Core.List.{IsPrefix}
 use Rattle.public_board.specs.Versions.{last_of}
+use Rattle.public_board.specs.declared.readers.Version.{Version}
 use Rattle.public_board.specs.declared.rule.View.{View}
 
 -- the reader has seen all versions so far, or none more
@@ -21,6 +22,12 @@ pub record SeesRows {R : Type 0} (allows : List (List R) → Type 0) (v w : View
   pub long : v.least ≤ length rows
   pub kept_told : w.told ≡ v.told
   pub kept_least : w.least ≡ v.least
+
+-- such rows with their version's number; or no rows, where it is the number that is known
+abbrev pub SeesNewer : {R : Type 0} → (List (List R) → Type 0) → View R → View R → ℕ → ℕ → Option (Version R) → Type 0
+SeesNewer allows v w told known None = SeesRows allows v w told (last_of w.seen) × (known ≡ length w.seen)
+SeesNewer allows v w told known (Some version) =
+    SeesRows allows v w told version.rows.items × (version.number ≡ length w.seen)
 
 -- the row stands at this place in such rows
 pub record SeesRow {R : Type 0} (allows : List (List R) → Type 0) (v w : View R) (told at : ℕ) (row : R) : Type 0 where

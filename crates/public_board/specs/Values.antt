@@ -1,7 +1,8 @@
 -- What contracts see of a publisher and of readers.
-use Rattle.std.specs.Prelude.{◌≡◌, ◌≢◌, ◌⊎◌, ℕ, ◌≤◌, List, [], ◌∷◌, ◌++◌, length, max, slice_index_or}
+use Rattle.std.specs.Prelude.{◌≡◌, ◌≢◌, ◌⊎◌, ℕ, ◌≤◌, Option, Some, None, List, [], ◌∷◌, ◌++◌, length, max, slice_index_or}
 use mathlib.Core.List.{IsPrefix}
 use Rattle.public_board.specs.Versions.{last_of}
+use Rattle.public_board.specs.declared.readers.Version.{Version}
 use Rattle.public_board.specs.declared.rule.View.{View}
 
 -- Publishing
@@ -62,6 +63,14 @@ pub record Gives {R : Type 0} (allows : List (List R) → Type 0) (old new : Rea
   pub some : new.seen ≢ []
   pub last : rows ≡ last_of new.seen
   pub long : old.least ≤ length rows
+
+-- The rows are given with the number of their version. Or the last version is the one of the number that is known: then it
+-- is what the reader gives, and no row of it is read.
+abbrev pub GivesNewer : {R : Type 0} → (List (List R) → Type 0) → ReaderValue R → ReaderValue R → ℕ → Option (Version R)
+    → Type 0
+GivesNewer allows old new known None = Gives allows old new (last_of new.seen) × (known ≡ length new.seen)
+GivesNewer allows old new known (Some version) =
+    Gives allows old new version.rows.items × (version.number ≡ length new.seen)
 
 -- the row stands at this place in such rows
 pub record GivesRow {R : Type 0} (allows : List (List R) → Type 0) (old new : ReaderValue R) (at : ℕ) (row : R) : Type 0 where

@@ -14,6 +14,6 @@ mod rows;
 mod rule;
 
 pub use publisher::{Note, Publisher, open};
-pub use readers::{Reader, Readers};
+pub use readers::{Reader, Readers, Version};
 pub use row::Row;
 pub use rule::Publication;

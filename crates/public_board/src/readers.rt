@@ -1,8 +1,8 @@
 ghost use Rattle.std.specs.Prelude.{◌≡◌, ◌≢◌, ◌⊎◌, ◌≤◌, ◌-◌, ◌++◌, ◌∷◌, [], max, MatchResult, IsNone, IfSome, ◌↔◌, replicate, ℕ};
 ghost use Rattle.std.specs.Option.{option_to_list};
 ghost use Rattle.left_right.specs.Sides.{view};
-ghost use Rattle.public_board.specs.Reading.{LooksAt, SeesRows, SeesRow};
-ghost use Rattle.public_board.specs.Values.{ReaderValue, with_note, Looks, Gives, GivesRow};
+ghost use Rattle.public_board.specs.Reading.{LooksAt, SeesRows, SeesNewer, SeesRow};
+ghost use Rattle.public_board.specs.Values.{ReaderValue, with_note, Looks, Gives, GivesNewer, GivesRow};
 
 use crate::publisher::Note;
 use crate::row::Row;
@@ -10,6 +10,13 @@ use crate::rule::{Look, Publication, RowsReader};
 use farm_kinds::NoMemory;
 use std::alloc::Global;
 use std::marker::Model;
+
+/// A version: its number, of which the first one's is 1, and its rows.
+#[derive(Drop)]
+pub struct Version<R> {
+    pub number: u64,
+    pub rows: Vec<R>,
+}
 
 /// The rows of the last version, where there are at least so many versions.
 fn read_rows<R: Row, J: Publication<R>>(
@@ -28,6 +35,36 @@ fn read_rows<R: Row, J: Publication<R>>(
             match rows {
                 Ok(rows) if told <= count => (reader, Ok(rows)),
                 _ => (reader, Err(NoMemory)),
+            }
+        }
+        Err(reader) => (reader, Err(NoMemory)),
+    }
+}
+
+/// The last version, where there are at least so many, or none where its number is the one that is known.
+fn read_newer<R: Row, J: Publication<R>>(
+    alloc: Global,
+    reader: RowsReader<R, J>,
+    told: u64,
+    known: u64,
+) -> (RowsReader<R, J>, Result<Option<Version<R>>, NoMemory>)
+    requires { (view reader.place).told ≢ [] }
+    ensures { MatchResult result.1 (λ newer. SeesNewer J.allows (view reader.place) (view result.0.place) told known newer) (λ _. LooksAt (view reader.place) (view result.0.place)) }
+{
+    match reader.enter_as::<Look<R, J>>() {
+        Ok(reading) => {
+            let number = reading.get().count;
+            if number < told {
+                return (reading.leave(), Err(NoMemory));
+            }
+            if number == known {
+                return (reading.leave(), Ok(None));
+            }
+            let rows = Vec::from_slice(alloc, reading.get().rows.as_slice());
+            let reader = reading.leave();
+            match rows {
+                Ok(rows) => (reader, Ok(Some(Version { number, rows }))),
+                Err(_) => (reader, Err(NoMemory)),
             }
         }
         Err(reader) => (reader, Err(NoMemory)),
@@ -99,6 +136,19 @@ impl<R: Row, J: Publication<R>> Reader<R, J> {
         let (reader, rows) = read_rows(alloc, reader, self.told);
         self.reader = Some(reader);
         rows
+    }
+
+    /// A version as `rows` gives it, with its number. None where that is the number of the version that the caller has: then
+    /// nothing newer is published, and no row is read.
+    pub fn newer(&mut self, alloc: Global, known: u64) -> Result<Option<Version<R>>, NoMemory>
+        ensures { MatchResult result (λ newer. GivesNewer J.allows self.old self.new known newer) (λ _. Looks self.old self.new) }
+    {
+        let Some(reader) = self.reader.take() else {
+            unreachable!()
+        };
+        let (reader, newer) = read_newer(alloc, reader, self.told, known);
+        self.reader = Some(reader);
+        newer
     }
 
     /// The row of one number, counted from 1, in one published version: as `rows` gives it. The number is one that each
