@@ -10,8 +10,8 @@
 //!
 //! Where things stand: `reader.rt` has `HttpReader`, over `finding.rt` (when a head is looked for, and how a body
 //! is waited for), `heads.rt` (a head, by `httparse`), `fields.rt` (what its fields say of the body and the
-//! connection) and `window.rt` (the bytes that were taken); `responses.rt` is `write_content`, `refusals.rt` the
-//! fixed responses, `ending.rt` why a reader gives no more. `specs/Requests.antt` is the cut of bytes into
+//! connection) and `window.rt` (the bytes that were taken); `responses.rt` is `write_content`, and what makes the bytes
+//! of a response and puts them, `refusals.rt` the fixed responses, `ending.rt` why a reader gives no more. `specs/Requests.antt` is the cut of bytes into
 //! requests, `laws.rt` its laws, `worked.rt` the definitions at examples. The folder `answers` has the same for
 //! responses: its `AnswerReader` shares the window, the fields and how a body is waited for.
 #![tactic(auto)]
@@ -40,5 +40,7 @@ pub use laws::{
 };
 pub use reader::{Head, HttpReader, Next};
 pub use refusals::Refusal;
-pub use responses::{Content, ResponseFault, write_content, write_response};
+pub use responses::{
+    Content, ResponseFault, put_response, response_bytes, write_content, write_response,
+};
 pub use worked::{worked_fields, worked_lengths, worked_responses};

@@ -125,26 +125,36 @@ pub fn write_content<K: Sink>(
     ensures cause { HasCauseWritten (K.faults sink.old) (K.faults sink.new) result }
     ensures beside { K.beside sink.new ≡ K.beside sink.old }
 {
-    match response_bytes(alloc, content, closing, &status, body) {
+    match response_bytes(alloc, content, closing, status, body) {
         Err(_) => Err(ResponseFault::NoMemory),
-        Ok(text) => match sink.put(text.as_slice()) {
-            PutEnd::Failed => Err(ResponseFault::WriteFault),
-            PutEnd::Done => Ok(()),
-        },
+        Ok(response) => put_response(sink, response.as_slice()),
     }
 }
 
-/// The bytes of a response. They are put at once: a second piece may wait until the peer has told that the first one came.
-fn response_bytes(
+/// The bytes of a response, as [`write_content`] puts them.
+pub fn response_bytes(
     alloc: Global,
     content: Content,
     closing: bool,
-    status: &StatusCode,
+    status: StatusCode,
     body: &[u8],
 ) -> Result<Vec<u8>, AllocError>
-    ensures { IfOk result (λ text. text.items ≡ content_response content closing status.now body.now) }
+    ensures { IfOk result (λ text. text.items ≡ content_response content closing status body.now) }
 {
-    let mut text = write_head(alloc, content, closing, status, body.len())?.into_bytes();
+    let mut text = write_head(alloc, content, closing, &status, body.len())?.into_bytes();
     text.extend_from_slice(body)?;
     Ok(text)
+}
+
+/// Puts the bytes of a response that was made before. They are put at once: a second piece may wait until the peer has
+/// told that the first one came.
+pub fn put_response<K: Sink>(sink: &mut K, response: &[u8]) -> Result<(), ResponseFault>
+    ensures writes { Writes (K.held sink.old) (K.held sink.new) response.now result }
+    ensures cause { HasCauseWritten (K.faults sink.old) (K.faults sink.new) result }
+    ensures beside { K.beside sink.new ≡ K.beside sink.old }
+{
+    match sink.put(response) {
+        PutEnd::Failed => Err(ResponseFault::WriteFault),
+        PutEnd::Done => Ok(()),
+    }
 }
