@@ -21,7 +21,9 @@ mod texts;
 mod worked;
 
 pub use faults::ContestFault;
-pub use reading::read_contest;
+pub use lines::{cut, is_comment, is_file_name};
+pub use problems::read_shorts;
+pub use reading::{read_contest, read_contest_settings};
 pub use roster::{Roster, RosterProblem, RosterSubmission};
 pub use texts::{push_contest_fault, push_settings_fault};
 pub use worked::{worked_folder, worked_lines, worked_totals};

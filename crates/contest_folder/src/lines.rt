@@ -99,8 +99,8 @@ fn is_blank(line: &[u8]) -> bool
     line.iter().all(|b| *b == b' ')
 }
 
-/// Whether `#` stands in front.
-fn is_comment(line: &[u8]) -> bool
+/// Whether the line is a comment: `#` stands in front.
+pub fn is_comment(line: &[u8]) -> bool
     ensures { result ≡ is_comment line.now }
 {
     match line {
@@ -185,7 +185,7 @@ fn is_number(word: &[u8], number: u32) -> bool
 
 /// Whether the word is the name of a file of a submission.
 #[tactic(auto, using(crate::proofs::FileNames::text_of_name))]
-fn is_file_name(word: &[u8]) -> bool
+pub fn is_file_name(word: &[u8]) -> bool
     ensures name { result ≡ is_file_name word.now }
     ensures text { result ≡ true → IsUtf8 word.now }
 {
@@ -219,7 +219,7 @@ fn is_file_byte(b: u8) -> bool
 
 /// The part before the first separator, and what stands behind that, where there is one.
 #[tactic(auto, using(problem_settings::proofs::PartLemmas::part_more, problem_settings::proofs::PartLemmas::cut_at, problem_settings::proofs::PartLemmas::uncut))]
-fn cut(sep: u8, text: &[u8]) -> (&[u8], Option<&[u8]>)
+pub fn cut(sep: u8, text: &[u8]) -> (&[u8], Option<&[u8]>)
     ensures parts { parts sep text.now ≡ result.0.now ∷ parts_behind sep result.1 }
     ensures shorter { size_behind result.1 ≤ length text.now }
 {

@@ -43,8 +43,12 @@ pub(crate) fn read_problems<T: Tree>(
     read_packages(alloc, tree, folder.as_str(), ips, shorts.as_slice())
 }
 
-/// The names of the folders in the folder, in the order of their bytes.
-fn read_shorts<T: Tree>(alloc: Global, tree: &mut T, folder: &str) -> Result<Paths, ContestFault>
+/// The names of the folders in the folder, in the order of their bytes. Of the faults only `Tree` and `NoMemory` come.
+pub fn read_shorts<T: Tree>(
+    alloc: Global,
+    tree: &mut T,
+    folder: &str,
+) -> Result<Paths, ContestFault>
     ensures shorts { WhereTold (T.files tree.old) (λ files. IfOk result (λ shorts. shorts ≡ in_order (folders_of (entries_below folder.now files)))) }
     ensures rising { IfOk result IsRising }
     ensures stopped { IfErr result IsStop }

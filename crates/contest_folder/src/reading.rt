@@ -36,8 +36,8 @@ pub fn read_contest<T: Tree>(
     Ok(Roster::new(settings, problems, submissions))
 }
 
-/// The settings that `farm.json` says.
-fn read_contest_settings<T: Tree>(
+/// The settings that `farm.json` says in the folder at the path, or its first fault.
+pub fn read_contest_settings<T: Tree>(
     alloc: Global,
     tree: &mut T,
     path: &str,
