@@ -1,0 +1,2 @@
+mod DueLeases
+mod PackageTests

@@ -1,0 +1,2 @@
+pub mod TaskOrder
+pub mod TestFiles

@@ -1,0 +1,29 @@
+ghost use Rattle.std.specs.Prelude.{◌≡◌, ◌↔◌, ◌++◌, ℕ, List, Some, Ok, codes};
+ghost use Rattle.std.specs.List.{Contains};
+ghost use Rattle.farm_tree.specs.declared.reads.TreeFile.{TreeFile};
+ghost use Rattle.farm_tree.specs.Reading.{file_at};
+ghost use Rattle.package_folder.specs.declared.package.Package.{Package};
+ghost use Rattle.package_folder.specs.declared.package.Test.{Test};
+ghost use Rattle.package_folder.specs.Order.{IsRising};
+ghost use Rattle.package_folder.specs.Package.{package_of};
+ghost use Rattle.definition_laws.specs.TestFiles.{in_data, HasInput, names_of};
+
+/// The tests of a package are its inputs: there is one of each name that has a file `data/NAME.in` below `sample`
+/// or `secret`, and no other; they stand in the order of their names' bytes, each once; and each has the bytes of its
+/// input and of its answer, whatever instructions a second has.
+pub fn each_input_is_one_test()
+    ensures inputs { (files : List TreeFile) (path : List ℕ) (ips : ℕ) (read : Package)
+        → package_of files path ips ≡ Ok read
+        → (name : List ℕ) → Contains (names_of read.tests) name ↔ HasInput files path name }
+    ensures in_order { (files : List TreeFile) (path : List ℕ) (ips : ℕ) (read : Package)
+        → package_of files path ips ≡ Ok read
+        → IsRising (names_of read.tests) }
+    ensures input { (files : List TreeFile) (path : List ℕ) (ips : ℕ) (read : Package)
+        → package_of files path ips ≡ Ok read
+        → (test : Test) → Contains read.tests test
+        → file_at files (in_data path (test.name ++ codes ".in")) ≡ Some test.input }
+    ensures answer { (files : List TreeFile) (path : List ℕ) (ips : ℕ) (read : Package)
+        → package_of files path ips ≡ Ok read
+        → (test : Test) → Contains read.tests test
+        → file_at files (in_data path (test.name ++ codes ".ans")) ≡ Some test.answer }
+{}
