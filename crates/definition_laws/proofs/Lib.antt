@@ -1,2 +1,3 @@
 mod DueLeases
 mod PackageTests
+mod SegmentPages

@@ -1,2 +1,3 @@
 pub mod TaskOrder
 pub mod TestFiles
+pub mod PageSets

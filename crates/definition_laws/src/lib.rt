@@ -1,10 +1,15 @@
 //! What definitions that are loops say, in plain words.
 //!
-//! Each function has an empty body, and its contract is the law.
+//! Each function has an empty body, and its contract is the law. Nothing stands on this crate.
+//!
+//! Where things stand: a file of `src` for each subject; `specs` has the words that a law needs besides those of the
+//! definition, and `proofs` a file for each law.
 #![tactic(auto)]
 
+mod executables;
 mod leases;
 mod packages;
 
+pub use executables::an_executable_fits_by_its_pages;
 pub use leases::the_due_lease_ends_first;
 pub use packages::each_input_is_one_test;
