@@ -1,0 +1,6 @@
+mod Spelling
+mod Seeking
+mod Numerals
+mod Walking
+mod Patterns
+mod RoutedRequests
