@@ -5,7 +5,8 @@
 
 PROGRAM is the built program, `crates/farm/out/farm` of this repository if none is given. Some scripts are played, with
 the n-th allocation refused in the n-th run, until a run asks for fewer. Wanted is status 6 with a prefix of the replies,
-or status 0 with all of them where the program could do with less memory, and nothing else. `refuse.c`, which a C
+or status 0 with all of them where the program could do with less memory, and nothing else; and where nothing can be written
+either, status 6 in the same runs, since memory was wanted first, and 5 in the others. `refuse.c`, which a C
 compiler makes a shared object of, refuses the allocations. Printed are how many allocations each script asks for, and
 each run that ends otherwise.
 """
@@ -88,13 +89,19 @@ def refuse_each(count, end_of):
     return sound
 
 
-def play(program, library, lines, refused):
+def play(program, library, lines, refused, out=subprocess.PIPE):
     """The status, what was written, and how many allocations were asked for."""
     asked = os.path.join(OUT, "asked")
     env = dict(os.environ, LD_PRELOAD=library, REFUSE=str(refused), REFUSE_COUNT=asked)
-    done = subprocess.run([program, "script"], input=lines.encode(), capture_output=True, env=env, check=False)
+    done = subprocess.run([program, "script"], input=lines.encode(), stdout=out, stderr=subprocess.PIPE, env=env, check=False)
     with open(asked) as file:
         return done.returncode, done.stdout, int(file.read())
+
+
+def play_on_a_full_disk(program, library, lines, refused):
+    """The status where nothing can be written."""
+    with open("/dev/full", "w") as full:
+        return play(program, library, lines, refused, full)[0]
 
 
 def measure(program, library, name):
@@ -109,7 +116,10 @@ def measure(program, library, name):
         # A list that is made with room for all that may come is made with less where that was refused.
         done = status == 0 and written == replies
         out = status == 6 and replies.startswith(written)
-        return "done" if done else f"status {status}", None if done or out else (status, written)
+        # The lines come in one piece, so nothing is written before the memory is wanted: that is then the end, not the disk.
+        first = play_on_a_full_disk(program, library, lines, refused)
+        good = (done or out) and first == (5 if done else 6)
+        return "done" if done else f"status {status}", None if good else (status, written, first)
 
     print(f"{name}:")
     sound = status == 0 and refuse_each(asked, end_of)

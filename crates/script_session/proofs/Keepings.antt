@@ -211,10 +211,6 @@ module _ (b : SessionState) (p : Standing) (left : Option (List ℕ)) (reader : 
     kept_all : Kept' (events_in k.under_way.lines) (events_in k.under_way.lines) → KeptFront Kept' (events_in k.under_way.lines) (events_in k.under_way.lines ++ (events_of_line first ++ events_in (lines_of reader.ahead)))
     kept_all kept = kept_front Kept' (events_in k.under_way.lines) (events_in k.under_way.lines) (events_of_line first ++ events_in (lines_of reader.ahead)) kept
 
-    at_write_fault : (n : ℕ) → Appends p.held held (take n p.pending) → Kept' (events_in k.under_way.lines) (events_in k.under_way.lines) → Ends end.WriteFault
-    unfolding Ends
-    at_write_fault n put kept = (memory_wanted b p left held reader first farm n t either put k.under_way, put_some (KeptFront Kept') n put (kept_all kept))
-
     at_no_memory : (n : ℕ) → Appends p.held held (take n p.pending) → Kept' (events_in k.under_way.lines) (events_in k.under_way.lines) → Ends end.NoMemory
     unfolding Ends
     at_no_memory n put kept = (memory_wanted b p left held reader first farm n t either put k.under_way, put_some (KeptFront Kept') n put (kept_all kept))
@@ -230,8 +226,7 @@ module _ (b : SessionState) (p : Standing) (left : Option (List ℕ)) (reader : 
     ends_as : (e r : StoredEnd) → FinishesAs Kept' Lost (events_in k.settled) (events_in k.under_way.lines) p.held held p.pending e r
         → ((n : ℕ) → Appends p.held held (take n p.pending) → Kept' (events_in k.under_way.lines) (events_in k.under_way.lines) → Ends e) → Ends r
     ends_as e r (inl f) at_e = subst Ends (sym f.0) (at_store_fault f.1 f.2)
-    ends_as e r (inr (inl is, front, kept)) at_e = subst Ends (sym is) (at_e front.0 front.1 kept)
-    ends_as e r (inr (inr is, front, kept)) at_e = subst Ends (sym is) (at_write_fault front.0 front.1 kept)
+    ends_as e r (inr (is, front, kept)) at_e = subst Ends (sym is) (at_e front.0 front.1 kept)
 
     pub finished_memory : (r : StoredEnd) → FinishesAs Kept' Lost (events_in k.settled) (events_in k.under_way.lines) p.held held p.pending end.NoMemory r
         → StoredEndsAs r b (record { farm = farm; left = left; held = held }) × WroteOf (EndsKeeping Kept' Lost Full r) b (record { farm = farm; left = left; held = held })
@@ -253,9 +248,3 @@ stopped Kept b p left front took last k =
     wrote_of (KeptFront Kept) b (record { farm = p.farm; left = left; held = p.held }) (u.piece ++ (p.reader.ahead ++ front)) u.lines (lines_of (p.reader.ahead ++ front)) k.settled k.behind u.text k.after
     (took_more b p left u.piece front u.took took) (u.cut (p.reader.ahead ++ front) last) k.parted u.wrote k.prefix
     (kept_front Kept (events_in k.settled) (events_in u.lines) (events_in (lines_of (p.reader.ahead ++ front))) k.kept)
-
--- an end that settling gave is one of two
-pub ended_only : (e other : StoredEnd) → (Some e ≡ None) ⊎ ((Some e ≡ Some end.StoreFault) ⊎ (Some e ≡ Some end.WriteFault)) → (e ≡ other) ⊎ ((e ≡ end.StoreFault) ⊎ (e ≡ end.WriteFault))
-ended_only e other (inl none) = cc
-ended_only e other (inr (inl is)) = inr (inl cc)
-ended_only e other (inr (inr is)) = inr (inr cc)

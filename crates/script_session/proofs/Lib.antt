@@ -3,3 +3,4 @@ pub mod Keepings
 pub mod Storings
 pub mod Endings
 pub mod Completing
+pub mod Firsts

@@ -231,7 +231,7 @@ answers_all b p left bytes u same empty = record {
 }
 
 -- the piece that was read has the lines that were answered
-piece_lines : (b : SessionState) (p : Standing) → (u : IsUnderWay b p) → lines_of u.piece ≡ u.lines
+pub piece_lines : (b : SessionState) (p : Standing) → (u : IsUnderWay b p) → lines_of u.piece ≡ u.lines
 piece_lines b p u = ap lines_of (sym (append-nil u.piece)) ∙ u.cut [] (λ _. refl) ∙ append-nil u.lines
 
 pub all_answered : (b : SessionState) (p : Standing) (left : Option (List ℕ)) (front : List ℕ) → Consumes p.left left front → p.reader.ahead ++ front ≡ [] → IsAtEnd left → p.pending ≡ []

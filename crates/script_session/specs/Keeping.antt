@@ -108,9 +108,9 @@ SettlesAs Kept Lost least es held held' old new (Some end.StoreFault) =
     (held' ≡ held) × ((others : List Event) → Lost least (es ++ others))
 SettlesAs Kept Lost least es held held' old new (Some e) = ⊥
 
--- the same, where the session has this end besides
+-- the same, where the session has this end besides, which came first
 abbrev pub FinishesAs : (List Event → List Event → Type 0) → (List Event → List Event → Type 0) → List Event → List Event
     → Option (List ℕ) → Option (List ℕ) → List ℕ → StoredEnd → StoredEnd → Type 0
-FinishesAs Kept Lost least es held held' old other result =
+FinishesAs Kept Lost least es held held' old first result =
     ((result ≡ end.StoreFault) × (held' ≡ held) × ((others : List Event) → Lost least (es ++ others)))
-    ⊎ (((result ≡ other) ⊎ (result ≡ end.WriteFault)) × ((n : ℕ) × Appends held held' (take n old)) × Kept es es)
+    ⊎ ((result ≡ first) × ((n : ℕ) × Appends held held' (take n old)) × Kept es es)

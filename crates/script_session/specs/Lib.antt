@@ -1,3 +1,4 @@
 pub mod Session
 pub mod Keeping
 pub mod Storing
+pub mod Firsts

@@ -1,6 +1,7 @@
 ghost use Rattle.std.specs.Prelude.{◌≡◌, ◌⊎◌};
 ghost use Rattle.farm_io.specs.Streams.{Rose};
 ghost use Rattle.script_session.specs.Session.{IsShort, EndsAs};
+ghost use Rattle.script_session.specs.Firsts.{ScriptCameFirst};
 
 use crate::end::{ScriptEnd, StoredEnd};
 use crate::keeper::NoKeeper;
@@ -23,6 +24,12 @@ pub fn run_script<S: Source, K: Sink>(
     ensures ends { EndsAs result
         (record { farm = farm.old; left = S.left input.old; held = K.held out.old })
         (record { farm = farm.new; left = S.left input.new; held = K.held out.new }) }
+    // Where several things would end it, the first that happened does.
+    ensures first { ScriptCameFirst result
+        (record { farm = farm.old; left = S.left input.old; held = K.held out.old })
+        (record { farm = farm.new; left = S.left input.new; held = K.held out.new }) }
+
+    // Why it ended.
     ensures read_fault { result ≡ ScriptEnd.ReadFault → Rose (S.faults input.old) (S.faults input.new) }
     ensures write_fault { result ≡ ScriptEnd.WriteFault → Rose (K.faults out.old) (K.faults out.new) }
     ensures complete { IsShort (S.left input.old)

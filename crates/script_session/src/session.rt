@@ -10,8 +10,9 @@ ghost use Rattle.farm_model.specs.State.{State};
 ghost use Rattle.farm_model.specs.Replay.{state_after, reply_to};
 ghost use Rattle.farm_model.specs.Script.{after_line, events_of_line};
 ghost use Rattle.farm_model.specs.Texts.{event_text, reply_text};
-ghost use Rattle.script_session.specs.Session.{IsShort, PutsPending};
-ghost use Rattle.script_session.specs.Keeping.{KeepsOn, SettlesAs, FinishesAs, Turned, StoredEndsAs, WroteOf, EndsKeeping};
+ghost use Rattle.script_session.specs.Session.{SessionState, IsUnderWay, PutsPending};
+ghost use Rattle.script_session.specs.Firsts.{CameFirst};
+ghost use Rattle.script_session.specs.Keeping.{IsKeeping, KeepsOn, SettlesAs, FinishesAs, Turned, StoredEndsAs, WroteOf, EndsKeeping};
 
 use crate::end::StoredEnd;
 use crate::keeper::{KeepFault, Keeper};
@@ -110,6 +111,7 @@ fn settle_and_put<D, E: Keeper<D>, K: Sink>(
         → SettlesAs (E.kept first mark keeper.new device.new s) (E.lost first mark keeper.new device.new s) least es
         (K.held out.old) (K.held out.new) pending.old.items pending.new.items result }
     ensures none { IsNone result → pending.new.items ≡ [] }
+    ensures put { result ≡ Some StoredEnd.WriteFault → (n : ℕ) × Appends (K.held out.old) (K.held out.new) (take n pending.old.items) }
     ensures later { K.faults out.old ≤ K.faults out.new }
     ensures only { (result ≡ None) ⊎ ((result ≡ Some StoredEnd.StoreFault) ⊎ (result ≡ Some StoredEnd.WriteFault)) }
     ensures cause { result ≡ Some StoredEnd.WriteFault → Rose (K.faults out.old) (K.faults out.new) }
@@ -138,6 +140,9 @@ fn settle_before_asking<D, E: Keeper<D>, K: Sink>(
         (record { farm = farm; left = left; held = K.held out.old; reader = reader.now; pending = pending.old.items })
         (record { farm = farm; left = left; held = K.held out.new; reader = reader.now; pending = pending.new.items })
         result }
+    ensures first { (b : SessionState) (farm : State) (left : Option (List ℕ))
+        → IsUnderWay b (record { farm = farm; left = left; held = K.held out.old; reader = reader.now; pending = pending.old.items })
+        → IfSome result (λ e. CameFirst e b (record { farm = farm; left = left; held = K.held out.new })) }
     ensures none { ¬ HasFeed reader.now.ahead → IsNone result → pending.new.items ≡ [] }
     ensures later { K.faults out.old ≤ K.faults out.new }
     ensures only { (result ≡ None) ⊎ ((result ≡ Some StoredEnd.StoreFault) ⊎ (result ≡ Some StoredEnd.WriteFault)) }
@@ -149,7 +154,8 @@ fn settle_before_asking<D, E: Keeper<D>, K: Sink>(
     settle_and_put(keeper, device, pending, out)
 }
 
-/// Settles and puts what is pending, where the session has to end for another reason.
+/// Settles and puts what is pending behind what ends the session. That came first, so it stays the end where the output fails
+/// now.
 fn finish<D, E: Keeper<D>, K: Sink>(
     keeper: &mut E,
     device: &mut D,
@@ -161,14 +167,15 @@ fn finish<D, E: Keeper<D>, K: Sink>(
     ensures finishes { (first : E) (mark : D) (s : State) (least es : List Event) → E.kept first mark keeper.old device.old s least es
         → FinishesAs (E.kept first mark keeper.new device.new s) (E.lost first mark keeper.new device.new s) least es
         (K.held out.old) (K.held out.new) pending.old.items end result }
+    ensures put { (n : ℕ) × Appends (K.held out.old) (K.held out.new) (take n pending.old.items) }
     ensures later { K.faults out.old ≤ K.faults out.new }
-    ensures only { (result ≡ end) ⊎ ((result ≡ StoredEnd.StoreFault) ⊎ (result ≡ StoredEnd.WriteFault)) }
-    ensures cause { result ≡ StoredEnd.WriteFault → (end ≡ StoredEnd.WriteFault) ⊎ Rose (K.faults out.old) (K.faults out.new) }
+    ensures only { (result ≡ end) ⊎ (result ≡ StoredEnd.StoreFault) }
 {
-    match settle_and_put(keeper, device, pending, out) {
-        None => end,
-        Some(other) => other,
+    if keeper.settle(device).is_err() {
+        return StoredEnd::StoreFault;
     }
+    let _put = put_pending(pending, out);
+    end
 }
 
 /// Reads one line and answers it, or says how the session ends. Nothing is pending where the source has to
@@ -191,6 +198,9 @@ fn answer_next<D, E: Keeper<D>, S: Source, K: Sink>(
         (record { farm = farm.old; left = S.left input.old; held = K.held out.old; reader = reader.old; pending = pending.old.items })
         (record { farm = farm.new; left = S.left input.new; held = K.held out.new; reader = reader.new; pending = pending.new.items })
         result }
+    ensures first { (b : SessionState)
+        → IsUnderWay b (record { farm = farm.old; left = S.left input.old; held = K.held out.old; reader = reader.old; pending = pending.old.items })
+        → IfSome result (λ e. CameFirst e b (record { farm = farm.new; left = S.left input.new; held = K.held out.new })) }
     ensures falls { IsNone result → budget reader.new < budget reader.old }
     ensures read_later { S.faults input.old ≤ S.faults input.new }
     ensures write_later { K.faults out.old ≤ K.faults out.new }
@@ -244,6 +254,10 @@ fn turn<D, E: Keeper<D>, S: Source, K: Sink>(
         (record { farm = farm.old; left = S.left input.old; held = K.held out.old; reader = reader.old; pending = pending.old.items })
         (record { farm = farm.new; left = S.left input.new; held = K.held out.new; reader = reader.new; pending = pending.new.items })
         result }
+    ensures first { (first : E) (mark : D) (b : SessionState)
+        → IsKeeping (E.kept first mark keeper.old device.old b.farm) b
+        (record { farm = farm.old; left = S.left input.old; held = K.held out.old; reader = reader.old; pending = pending.old.items })
+        → IfSome result (λ e. CameFirst e b (record { farm = farm.new; left = S.left input.new; held = K.held out.new })) }
     ensures falls { IsNone result → budget reader.new < budget reader.old }
     ensures read_later { S.faults input.old ≤ S.faults input.new }
     ensures write_later { K.faults out.old ≤ K.faults out.new }
@@ -274,6 +288,9 @@ pub(crate) fn run_session<D, E: Keeper<D>, S: Source, K: Sink>(
     ensures keeps { WroteOf
         (EndsKeeping (E.kept keeper.old device.old keeper.new device.new farm.old) (E.lost keeper.old device.old keeper.new device.new farm.old)
         (E.full keeper.old device.old farm.old) result)
+        (record { farm = farm.old; left = S.left input.old; held = K.held out.old })
+        (record { farm = farm.new; left = S.left input.new; held = K.held out.new }) }
+    ensures first { CameFirst result
         (record { farm = farm.old; left = S.left input.old; held = K.held out.old })
         (record { farm = farm.new; left = S.left input.new; held = K.held out.new }) }
     ensures read_fault { result ≡ StoredEnd.ReadFault → Rose (S.faults input.old) (S.faults input.new) }

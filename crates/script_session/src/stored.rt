@@ -5,6 +5,7 @@ ghost use Rattle.record_store.specs.Held.{held, Rests};
 ghost use Rattle.script_session.specs.Session.{IsShort};
 ghost use Rattle.script_session.specs.Keeping.{StoredEndsAs, WroteOf};
 ghost use Rattle.script_session.specs.Storing.{LeavesFront, HasRoom};
+ghost use Rattle.script_session.specs.Firsts.{CameFirst};
 
 use crate::end::StoredEnd;
 use crate::keeper::{KeepFault, Keeper};
@@ -91,6 +92,11 @@ pub fn run_stored<S: Source, K: Sink, Y: Disk>(
     ensures limit { journal.new.limit ≡ journal.old.limit }
     ensures path { Y.opened disk.new ≡ Y.opened disk.old }
     ensures tells { Y.tells disk.new ≡ Y.tells disk.old }
+
+    // Where several things would end it, the first that happened does.
+    ensures first { CameFirst result
+        (record { farm = farm.old; left = S.left input.old; held = K.held out.old })
+        (record { farm = farm.new; left = S.left input.new; held = K.held out.new }) }
 
     // Why it ended.
     ensures read_fault { result ≡ StoredEnd.ReadFault → Rose (S.faults input.old) (S.faults input.new) }

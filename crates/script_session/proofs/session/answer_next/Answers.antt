@@ -1,4 +1,5 @@
-use Rattle.std.proofs.Common.{ℕ, List, ◌++◌, refl, sym, inl, subst, append-nil}
+use Rattle.std.proofs.Common.{ℕ, List, ◌++◌, Option, refl, sym, inl, subst, append-nil, take}
+use Rattle.std.specs.Io.KnownBytes.{Appends}
 use Rattle.farm_io.specs.Lines.{Whole, Long}
 use Rattle.farm_kinds.specs.declared.events.Event.{Event}
 use Rattle.farm_model.specs.Script.{events_of_line}
@@ -7,6 +8,7 @@ use Rattle.script_session.specs.declared.end.StoredEnd.TheVariants as end
 use Rattle.script_session.specs.Keeping.{FinishesAs}
 use Rattle.script_session.proofs.Sessions.{took_text, took_long, at_end, at_fault, at_limit, not_stopped}
 use Rattle.script_session.proofs.Keepings.{keeping_line, line_lost, finished_memory, finished_full, stopped}
+use Rattle.script_session.proofs.Firsts.{memory_first, full_first}
 use Rattle.script_session.proofs.session.answer_next.Goals as goal
 
 pub returns-in-Ok-clause-turned : goal.returns-in-Ok-clause-turned
@@ -118,3 +120,36 @@ returns-in-InputLimit-clause-turned g c first mark b k =
       at_limit b _ _ _ e.reads (λ s h. (e.sticky s h).0) (e.limit refl) (c.requires.none (λ h. (e.held h).0)) k.under_way,
       stopped _ b _ _ e.reads.front e.reads.took (λ ends. let no = (e.sticky _ ends).0 in cc) k,
     )
+
+-- what was put of what was pending before the line
+abbrev Put : Option (List ℕ) → Option (List ℕ) → List ℕ → Type 0
+Put held held' pending = (n : ℕ) × Appends held held' (take n pending)
+
+pub returns-in-Err-Full-clause-first : goal.returns-in-Err-Full-clause-first
+returns-in-Err-Full-clause-first g c b u =
+    let e = c.in-Text.ensures in
+    let text = c.text.result.now in
+    let held = g.K.Sink.held c.finish.new.out in
+    let put : Put (g.K.Sink.held c.args.out.now) held c.args.pending.now.items =
+    subst (λ (q : List ℕ). Put (g.K.Sink.held c.args.out.now) held q) c.in-Err-Full.ensures.kept c.finish.ensures.put in
+    full_first b _ _ held _ (Whole text) _ put.0 (took_text _ _ _ text c.text.ensures.text e.reads (λ s h. (e.sticky s h).0) e.stops e.ended e.readable)
+    c.in-Err-Full.end c.finish.result c.finish.ensures.only c.in-Err-Full.ensures.stands put.1 u
+
+pub returns-in-Err-NoMemory-clause-first : goal.returns-in-Err-NoMemory-clause-first
+returns-in-Err-NoMemory-clause-first g c b u =
+    let e = c.in-Text.ensures in
+    let text = c.text.result.now in
+    let held = g.K.Sink.held c.finish-in-Err-NoMemory.new.out in
+    let put : Put (g.K.Sink.held c.args.out.now) held c.args.pending.now.items =
+    subst (λ (q : List ℕ). Put (g.K.Sink.held c.args.out.now) held q) c.in-Err-NoMemory.ensures.kept c.finish-in-Err-NoMemory.ensures.put in
+    memory_first b _ _ held _ (Whole text) _ put.0 (took_text _ _ _ text c.text.ensures.text e.reads (λ s h. (e.sticky s h).0) e.stops e.ended e.readable)
+    c.finish-in-Err-NoMemory.result c.finish-in-Err-NoMemory.ensures.only c.in-Err-NoMemory.ensures.stands put.1 u
+
+pub returns-in-Err-clause-first : goal.returns-in-Err-clause-first
+returns-in-Err-clause-first g c b u =
+    let e = c.in-TooLong.ensures in
+    let held = g.K.Sink.held c.finish-in-Err.new.out in
+    let put : Put (g.K.Sink.held c.args.out.now) held c.args.pending.now.items =
+    subst (λ (q : List ℕ). Put (g.K.Sink.held c.args.out.now) held q) c.in-Err.ensures.err c.finish-in-Err.ensures.put in
+    memory_first b _ _ held _ (Long c.in-TooLong.len) _ put.0 (took_long _ _ _ c.in-TooLong.len e.reads (λ s h. (e.sticky s h).0) e.stops e.ended e.readable)
+    c.finish-in-Err.result c.finish-in-Err.ensures.only (inl refl) put.1 u

@@ -20,6 +20,9 @@ returns-in-Some-clause-ends g c = (c.in-Some.ensures.turned c.args.keeper.now c.
 pub returns-in-Some-clause-keeps : goal.returns-in-Some-clause-keeps
 returns-in-Some-clause-keeps g c = (c.in-Some.ensures.turned c.args.keeper.now c.args.device.now _ c.lines.invariant.keeping).1
 
+pub returns-in-Some-clause-first : goal.returns-in-Some-clause-first
+returns-in-Some-clause-first g c = c.in-Some.ensures.first c.args.keeper.now c.args.device.now _ c.lines.invariant.keeping
+
 pub lines-preserved : goal.lines-preserved
 lines-preserved g c =
     let left = g.S.Source.left in

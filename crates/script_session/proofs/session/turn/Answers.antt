@@ -12,3 +12,10 @@ returns-in-None-clause-turned g c first mark =
 
 pub returns-in-Some-clause-turned : goal.returns-in-Some-clause-turned
 returns-in-Some-clause-turned g c first mark = c.in-Some.ensures.turned first mark c.args.farm.now (g.S.Source.left c.args.input.now)
+
+pub returns-in-None-clause-first : goal.returns-in-None-clause-first
+returns-in-None-clause-first g c first mark b k =
+    c.answer_next.ensures.first b (c.in-None.ensures.turned first mark c.args.farm.now (g.S.Source.left c.args.input.now) b k).under_way
+
+pub returns-in-Some-clause-first : goal.returns-in-Some-clause-first
+returns-in-Some-clause-first g c first mark b k = c.in-Some.ensures.first b c.args.farm.now (g.S.Source.left c.args.input.now) k.under_way
