@@ -8,7 +8,7 @@ ghost use Rattle.judgehost.specs.Benches.{IsPending, heard_at_claim, heard_at_po
 ghost use Rattle.remote_host.specs.Standing.{IsAt, EnteredAt, IsPlain};
 ghost use Rattle.remote_host.specs.Benches.{pending_job, is_pending, IsFresh, IfFailed, end_heard};
 
-use crate::asks::{Caller, Wrong};
+use crate::asks::{Ask, Caller, Wrong};
 use crate::talker::Talker;
 use case_run::Case;
 use farm_io::{Sink, Source};
@@ -70,6 +70,7 @@ impl<N: Source + Sink> RemoteBench<N> {
                 reader: AnswerReader::new(alloc),
                 wrong: None,
                 wrongs: 0,
+                last: Ask::Enter,
             },
             caller,
             start,
@@ -151,6 +152,13 @@ impl<N: Source + Sink> RemoteBench<N> {
         ensures { result ≡ self.now.talker.wrong }
     {
         self.talker.wrong
+    }
+
+    /// The request that was made last, to tell a person which one a wrong answer was to.
+    pub fn last(&self) -> Ask
+        ensures { result ≡ self.now.talker.last }
+    {
+        self.talker.last
     }
 
     /// How many claims were made in all.

@@ -7,7 +7,7 @@ ghost use Rattle.remote_host.specs.Standing.{IsAt};
 ghost use Rattle.remote_host.specs.Benches.{pending_job, IsFresh, IfFailed};
 ghost use Rattle.remote_host.specs.Ends.{WorkedAs};
 
-use crate::asks::{Caller, Wrong};
+use crate::asks::{Ask, Caller, Wrong};
 use crate::bench::RemoteBench;
 use crate::pause::Pause;
 use farm_io::{Sink, Source};
@@ -144,6 +144,9 @@ pub struct Worked<N> {
     pub end: HostEnd,
     /// The first wrong answer.
     pub wrong: Option<Wrong>,
+    /// The request that was made last, which is the one that a wrong answer was to. It is for people: no contract says which
+    /// it is.
+    pub last: Ask,
     /// How many claims were made.
     pub claims: u64,
     /// How many results were posted.
@@ -177,12 +180,14 @@ pub fn work_over<N: Source + Sink, G: Gate, P: Pause>(
     let mut bench = RemoteBench::new(alloc, conn, caller);
     let end = enter_and_work(runner, &mut bench, gate, pause, fuel);
     let wrong = bench.wrong();
+    let last = bench.last();
     let claims = bench.claims();
     let posts = bench.posts();
     Worked {
         conn: bench.end(),
         end,
         wrong,
+        last,
         claims,
         posts,
     }

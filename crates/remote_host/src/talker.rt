@@ -32,6 +32,8 @@ pub struct Talker<N> {
     pub wrong: Option<Wrong>,
     /// How many wrong answers were met.
     pub wrongs: u64,
+    /// The request that was made last, or is made first. It is for people: no contract says which it is.
+    pub last: Ask,
 }
 
 /// Counts a wrong answer, and keeps it where it is the first.
@@ -86,6 +88,7 @@ impl<N: Source + Sink> Talker<N> {
         ensures failed { result ≡ Err BenchFault.Link → self.new.wrong ≡ None
             → 1 ≤ N.Source.faults self.new.conn + N.Sink.faults self.new.conn }
     {
+        self.last = ask;
         match write_ask(self.alloc, caller, ask) {
             Err(_) => Err(BenchFault::NoMemory),
             Ok(request) => self.send(caller, ask, request.as_slice()),
