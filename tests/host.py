@@ -273,9 +273,15 @@ CUSTOM = {"check": "custom", "flags": "", "validator": base64.b64encode(ECHO).de
 CODED = [({}, "image"), ({}, "input"), ({}, "answer"), (CUSTOM, "flags"), (CUSTOM, "validator")]
 
 
-def is_refused(got, status):
-    """It ended by name, wrote nothing on standard output, and told a person in one line."""
-    return got[0] == status and got[1] == b"" and got[2].count(b"\n") == 1
+# How a person is told of a wrong answer to each request of the talk.
+ASKED = ["POST /judgehosts", "POST /judgehosts/fetch-work", "GET /judgehosts/job/1/1", "POST /judgehosts/add-judging-run of test 1 of judging 1",
+         "POST /judgehosts/fetch-work"]
+
+
+def is_refused(got, status, at=None):
+    """It ended by name, wrote nothing on standard output, and told a person in one line, where it is a wrong answer to which request."""
+    named = at is None or status != 11 or f" to {ASKED[at]}: ".encode() in got[2]
+    return got[0] == status and got[1] == b"" and got[2].count(b"\n") == 1 and named
 
 
 def lies(program):
@@ -283,11 +289,11 @@ def lies(program):
         wrong = []
         for name, bytes_, status in HEADS:
             got, requests = met(program, [*TALK[:at], bytes_])
-            if not is_refused(got, status) or requests != REQUESTS[: at + 1]:
+            if not is_refused(got, status, at) or requests != REQUESTS[: at + 1]:
                 wrong.append((name, got, len(requests)))
         for body in BODIES:
             got, requests = met(program, [*TALK[:at], response(200, "OK", body)])
-            if not is_refused(got, 11) or requests != REQUESTS[: at + 1]:
+            if not is_refused(got, 11, at) or requests != REQUESTS[: at + 1]:
                 wrong.append((body, got, len(requests)))
         yield f"{len(HEADS) + len(BODIES)} wrong answers where it asks for {what}", not wrong, wrong[:3]
     wrong = []

@@ -1,5 +1,5 @@
-//! Why the program ended as it did, on standard error. Why a folder is no contest, and why a file gives no settings, was told
-//! by the command.
+//! Why the program ended as it did, on standard error. Why a folder is no contest, why a file gives no settings,
+//! and which answer of a server was a wrong one, was told by the command.
 //!
 //! Where standard error cannot be written, nobody can be told.
 use crate::stores::{explain_flaw, explain_full, explain_listing, explain_store_fault};
@@ -7,7 +7,6 @@ use command_line::{Command, Login};
 use exit_status::Exit;
 use people::Plain;
 use record_store::Access;
-use remote_host::Wrong;
 use std::alloc::AllocError;
 use std::io;
 use std::net::IpAddr;
@@ -172,7 +171,6 @@ fn explain_hosting(
                 "farm: no connection to port {port} of {address}, or it broke off or was silent for a minute: is 'farm serve' running there, and can it be reached?"
             )
         }
-        Exit::BadAnswer { wrong } => explain_answer(rt, wrong, address, port, login.is_some()),
         _ => Ok(()),
     }
 }
@@ -196,60 +194,6 @@ fn explain_password(rt: &HostRuntime, exit: Exit, login: Option<Login<'_>>) -> i
         None => eprintln!(rt;
             "farm: {file} could not be read, for a reason that is gone by now; nothing was connected"
         ),
-    }
-}
-
-/// Says what a status means that a proxy gives who has no leave.
-fn explain_refusal(rt: &HostRuntime, code: u16, has_login: bool) -> io::Result<()> {
-    if has_login {
-        return eprintln!(rt;
-            "its status is {code}: a proxy there refuses the user or the password"
-        );
-    }
-    eprintln!(rt;
-        "its status is {code}: a proxy there wants a user and a password (--user, --password-file)"
-    )
-}
-
-/// Says which answer of a server was a wrong one.
-fn explain_answer(
-    rt: &HostRuntime,
-    wrong: Wrong,
-    address: &str,
-    port: u16,
-    has_login: bool,
-) -> io::Result<()> {
-    let address = Plain(address);
-    let _ = eprint!(rt; "farm: a wrong answer from port {port} of {address}: ");
-    match wrong {
-        Wrong::Cut => rt.eprintln("the connection was closed before the whole answer came"),
-        Wrong::BadHead => {
-            rt.eprintln(
-                "its head is not one of HTTP/1.1 with one content-length; is 'farm serve' running there?",
-            )
-        }
-        Wrong::TooLong { len } => {
-            eprintln!(rt; "its content-length is {len}, and at most 100663296 is wanted")
-        }
-        Wrong::Status { code: 401 } => explain_refusal(rt, 401, has_login),
-        Wrong::Status { code: 403 } => explain_refusal(rt, 403, has_login),
-        Wrong::Status { code } => {
-            eprintln!(rt;
-                "its status is {code}, and 200, 404 or 409 is wanted; is 'farm serve' running there?"
-            )
-        }
-        Wrong::BadBody => {
-            rt.eprintln(
-                "its body is none that 'farm serve' writes to this request; is 'farm serve' running there?",
-            )
-        }
-        Wrong::OtherTask { task } => {
-            let judging = task.judging;
-            let test = task.test;
-            eprintln!(rt;
-                "the job is of test {test} of judging {judging}, which was not handed out"
-            )
-        }
     }
 }
 

@@ -7,6 +7,7 @@ ghost use Rattle.case_run.specs.Cases.{CanRun, test_case};
 ghost use Rattle.case_run.specs.Values.{case_value};
 ghost use Rattle.farm_cli.specs.Hosting.{CallerEnds, HostEnds, NoPasswordEnds, PasswordIs, ToldEnds, FaultEnds, bad_password_line, end_word, host_line, host_of};
 
+use crate::wrong_answers::tell_answer;
 use case_run::{Case, run_case};
 use command_line::Login;
 use exit_status::Exit;
@@ -14,6 +15,7 @@ use farm_io::{Link, PutEnd, Sink};
 use farm_kinds::{Kind, Name, NoMemory, Text};
 use farm_tree::{Tree, TreeErr};
 use judgehost::{BenchFault, Gate, Go, HostEnd, Runner};
+use people::Person;
 use remote_host::{
     BadPassword, Caller, Pause, Worked, Wrong, authorization, password_in, work_over,
 };
@@ -22,7 +24,7 @@ use std::alloc::Global;
 /// `farm host`: works as the judgehost of this name over a connection to the server at this port of an address, and writes a
 /// line on how that ended. With a login, each request says its user, and the password of its file; where the file gives
 /// none, one line says why, and nothing is connected.
-pub fn host<T: Tree, K: Sink, G: Gate, N: Link, P: Pause>(
+pub fn host<T: Tree, K: Sink, G: Gate, N: Link, Q: Pause, P: Person>(
     alloc: Global,
     address: &str,
     port: u16,
@@ -34,7 +36,8 @@ pub fn host<T: Tree, K: Sink, G: Gate, N: Link, P: Pause>(
     out: &mut K,
     gate: &G,
     link: &mut N,
-    pause: &P,
+    pause: &Q,
+    person: &mut P,
 ) -> Exit
     requires link { (N.state link.old).returned ≤ (N.state link.old).accepted }
     ensures ends { HostEnds (T.files tree.old)
@@ -47,12 +50,16 @@ pub fn host<T: Tree, K: Sink, G: Gate, N: Link, P: Pause>(
 {
     let Some(login) = login else {
         let caller = caller_of(name, wait, Text::new(alloc));
-        return work(alloc, address, port, caller, fuel, out, gate, link, pause);
+        return work(
+            alloc, address, port, caller, fuel, out, gate, link, pause, person,
+        );
     };
     match read_login(alloc, tree, login) {
         Ok(line) => {
             let caller = caller_of(name, wait, line);
-            work(alloc, address, port, caller, fuel, out, gate, link, pause)
+            work(
+                alloc, address, port, caller, fuel, out, gate, link, pause, person,
+            )
         }
         Err(LoginEnd::Bad(bad)) => refuse(bad, out),
         Err(LoginEnd::TreeFault) => Exit::TreeFault,
@@ -130,7 +137,7 @@ fn bad_password_line(bad: BadPassword) -> &'static [u8]
 
 /// Works as this judgehost over a connection to the server at this port of an address, and writes a line on how that ended.
 /// The connection goes back to the link, whatever its end.
-fn work<K: Sink, G: Gate, N: Link, P: Pause>(
+fn work<K: Sink, G: Gate, N: Link, Q: Pause, P: Person>(
     alloc: Global,
     address: &str,
     port: u16,
@@ -139,7 +146,8 @@ fn work<K: Sink, G: Gate, N: Link, P: Pause>(
     out: &mut K,
     gate: &G,
     link: &mut N,
-    pause: &P,
+    pause: &Q,
+    person: &mut P,
 ) -> Exit
     requires link { (N.state link.old).returned ≤ (N.state link.old).accepted }
     ensures ends { CallerEnds
@@ -149,6 +157,7 @@ fn work<K: Sink, G: Gate, N: Link, P: Pause>(
     ensures write_fault { result ≡ Exit.WriteFault → Rose (K.faults out.old) (K.faults out.new) }
 {
     let name = caller.name;
+    let has_login = !caller.lines.as_slice().is_empty();
     let Ok(run) = Box::new(
         alloc,
         move |case: &Case<'_>| -> Result<Kind, NoMemory>
@@ -166,10 +175,14 @@ fn work<K: Sink, G: Gate, N: Link, P: Pause>(
         conn,
         end,
         wrong,
+        last,
         claims,
         posts,
     } = work_over(alloc, conn, caller, &runner, gate, pause, u64::from(fuel));
     link.give_back(conn);
+    if let Some(wrong) = wrong {
+        tell_answer(alloc, address, port, last, wrong, has_login, person);
+    }
     tell(alloc, name, claims, posts, wrong, end, out)
 }
 

@@ -180,7 +180,7 @@ where
             wait,
             login,
         } => host(
-            alloc, address, port, name, fuel, wait, login, tree, out, gate, link, pause,
+            alloc, address, port, name, fuel, wait, login, tree, out, gate, link, pause, person,
         ),
     }
 }
