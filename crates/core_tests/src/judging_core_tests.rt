@@ -455,8 +455,7 @@ fn claim_by<L: Ledger>(judge: &mut Judge, host: u32, blank: Blank) -> Claim
 /// A count of at most 58 steps.
 fn few_steps<L: Ledger>(_steps: &Steps<L>)
     requires { _steps.now ≤ 58 }
-{
-}
+{}
 
 /// Fetches tasks for a host that is one of these.
 fn fetch(judge: &mut Judge, host: u32, most: u8) -> Fetched

@@ -9,8 +9,8 @@ use std::test::Fail;
 use task_tree::{Steps, TaskTree};
 
 /// What is done to a tree of no judgings, and then the tasks in the order in which they are found and hidden.
-/// `n64x2` adds 64 judgings of two tests to the class normal, `+3.1` shows test 1 of judging 3, `-3.1` hides it. Each
-/// judging that is added is answered its number, from 1.
+/// `n64x2` adds 64 judgings of two tests to the class normal, `+3.1` shows test 1 of judging 3, `-3.1` hides it, and
+/// `>3.1` hides all behind it. Each judging that is added is answered its number, from 1.
 const ROWS: &str = concat!(
     "n1x3 => \n",
     "l1x1000 h1x0 => \n",
@@ -23,6 +23,10 @@ const ROWS: &str = concat!(
     "n1x0 n1x1 +1.1 +2.1 => 2.1\n",
     "n1x1000 +1.1000 +1.65 +1.64 +1.999 => 1.64 1.65 1.999 1.1000\n",
     "n65x1 +65.1 h1x2 +66.2 => 66.2 65.1\n",
+    "n1x1000 n1x2 +1.64 +1.65 +1.66 +1.128 +1.1000 +2.2 >1.65 => 1.64 1.65 2.2\n",
+    "n2x1000 +1.64 +1.65 +1.1000 +2.64 +2.1000 >1.64 >2.63 => 1.64\n",
+    "h1x70 n1x1 +1.1 +1.70 +2.1 >1.0 >2.1 => 2.1\n",
+    "n1x2 +1.1 +1.2 >1.1000 >0.1 >2.1 => 1.1 1.2\n",
     "n64x1 +64.1 +1.1 => 1.1 64.1\n",
     "n65x1 +65.1 +64.1 -64.1 => 65.1\n",
     "n4096x1 +4096.1 +65.1 +64.1 => 64.1 65.1 4096.1\n",
@@ -49,6 +53,14 @@ fn set_shown(tree: &mut TaskTree, task: Task, shown: bool) {
     } else {
         tree.hide_task(task);
     }
+}
+
+/// Hides what is shown of the judging behind the test, if there is such a judging.
+fn hide_behind(tree: &mut TaskTree, last: Task) {
+    if last.judging == 0 || last.judging as usize > tree.judging_count() {
+        return;
+    }
+    tree.hide_behind(last.judging, last.test);
 }
 
 /// Adds a judging, where there is room for it. Whether it is answered its number.
@@ -83,6 +95,10 @@ fn change(tree: &mut TaskTree, word: &str) -> bool {
         }
         Some(("-", rest)) => {
             set_shown(tree, task_of(rest), false);
+            true
+        }
+        Some((">", rest)) => {
+            hide_behind(tree, task_of(rest));
             true
         }
         Some(("h", rest)) => add(tree, Class::High, rest),
