@@ -1,14 +1,16 @@
 -- A lane makes calls for the events that are entered, and reads for the looks.
-use Rattle.std.proofs.Common.{ℕ, ◌≡◌, List, [], ◌∷◌, ap, subst}
+use Rattle.std.proofs.Common.{ℕ, ◌≡◌, Bool, List, [], ◌∷◌, Option, Result, ap, subst}
 use mathlib.Core.Logic.{inl, inr}
 use Rattle.farm_board.specs.BoardState.{BoardState}
 use Rattle.farm_board.specs.Passes.{PassValue}
+use Rattle.http_door.specs.declared.responses.ResponseFault.{ResponseFault}
 use Rattle.judge_server.specs.Exchanges.{Around}
 use Rattle.judge_server.specs.declared.ends.ConnHow.{ConnHow}
 use Rattle.judge_server.specs.Entering.{Entered, AreEntered, without_looks}
 use Rattle.judge_server.specs.Serving.{Standing, IsServed}
 use Rattle.judge_server.specs.PassCalls.{MakesCalls}
 use Rattle.judge_server.specs.LaneCalls.{AccessValue, LaneSteps, LaneMakes}
+use Rattle.judge_server.specs.Putting.{PutsLook, PutsRead}
 use Rattle.judge_server.proofs.PassLemmas.{makes_none, makes_one}
 use Rattle.judge_server.proofs.Reading.{gives_in_order}
 
@@ -19,6 +21,11 @@ lane_calls start old (inl x ∷ xs) new h =
     makes_one old.pass h.0.pass new.pass (inl x) (without_looks xs) (h.1.0, h.1.1) (lane_calls start h.0 xs new h.2)
 lane_calls start old (inr r ∷ xs) new h =
     subst (λ (p : PassValue). MakesCalls p (without_looks xs) new.pass) h.1.0 (lane_calls start h.0 xs new h.2)
+
+-- what a lane's reader put is what a look of the lane gave
+pub lane_put : (start : BoardState) (closing : Bool) (old new : AccessValue) (held held' : Option (List ℕ)) (result : Result (Unit {0}) ResponseFault) → new.pass ≡ old.pass
+    → PutsRead start closing old.reader new.reader held held' result → PutsLook (LaneSteps start) closing old new held held' result
+lane_put start closing old new held held' result same x = (x.0, (same, x.1), x.2)
 
 -- what was entered by a lane
 pub served_lane : (start : BoardState) (around : Around) (b p : Standing AccessValue) (n : ℕ) (h : ConnHow)

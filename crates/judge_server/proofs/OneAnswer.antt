@@ -20,6 +20,7 @@ use Rattle.judge_server.specs.Jobs.{owner_in, Gives, text_for, IsJobText, no_job
 use Rattle.judge_server.specs.Conversation.{asked_of, reply_response, fault_response, job_response, job_or_reply, rows_response, page_response, contest_response, Given, nothing_given}
 use Rattle.judge_server.specs.Entering.{Entered, with_look, AreEntered, Replies, AreKnown, entered_for, IsBegun, IsEntered}
 use Rattle.judge_server.specs.Exchanges.{Around, Exchange, IsCaseOf, IsGiven, entered_by}
+use Rattle.judge_server.specs.Putting.{PutsRows, PutsLook}
 use Rattle.judge_server.specs.Serving.{IsPartly, IsExchange, PutsJob, PutsAnswer, close_or, how_after, OneAnswered}
 use Rattle.judge_server.proofs.Enterings.{begun_all}
 
@@ -96,21 +97,27 @@ begun_job step gives closing moment judging test a b held z =
 abbrev look_given : ViewValue → Reply → Given
 look_given view r = record { case = None; look = r; contest = view }
 
--- a look gave a board, and the response has its rows
-pub put_rows : {A : Type 0} (step : A → Entered → A → Type 0) (gives : Gives) (closing : Bool) (moment : ℕ) (a b : A) (rows : List Answer) (held held' : Option (List ℕ)) (result : Result (Unit {0}) ResponseFault)
-    → step a (with_look (reply.Board rows)) b → Writes held held' (rows_response closing (reply.Board rows)) result → PutsAnswer step gives closing moment asked.Public a b held held' result
-put_rows step gives closing moment a b rows held held' (Ok u) y x = (no_replies, look_given no_view (reply.Board rows), no_replies-known, tt, (b, y, refl), x)
-put_rows step gives closing moment a b rows held held' (Err fault.WriteFault) y x = (no_replies, look_given no_view (reply.Board rows), no_replies-known, tt, (b, y, refl), (x.0, x.2))
-put_rows step gives closing moment a b rows held held' (Err fault.NoMemory) y x =
-    (look_given no_view (reply.Board rows), record { replies = no_replies; made = with_look (reply.Board rows) ∷ []; front = ([], refl); entered = (b, y, refl) }, x)
+-- what was put of rows is what was put of a look that gave them
+pub rows_put : (closing : Bool) (rows : List Answer) (held held' : Option (List ℕ)) (result : Result (Unit {0}) ResponseFault)
+    → Writes held held' (rows_response closing (reply.Board rows)) result → PutsRows closing (reply.Board rows) held held' result
+rows_put closing rows held held' (Ok u) x = (tt, x)
+rows_put closing rows held held' (Err fault.WriteFault) x = (tt, (x.0, x.2))
+rows_put closing rows held held' (Err fault.NoMemory) x = x
 
--- a look gave none
-pub no_rows : {A : Type 0} (step : A → Entered → A → Type 0) (gives : Gives) (closing : Bool) (moment : ℕ) (a b : A) (r : Reply) (held : Option (List ℕ))
-    → step a (with_look r) b → PutsAnswer step gives closing moment asked.Public a b held held (Err fault.NoMemory)
-no_rows step gives closing moment a b r held y =
-    (look_given no_view r, record { replies = no_replies; made = with_look r ∷ []; front = ([], refl); entered = (b, y, refl) }, Keeps-refl held)
+-- a look was made, and what it gave was put
+pub look_put : {A : Type 0} (step : A → Entered → A → Type 0) (closing : Bool) (a b : A) (r : Reply) (held held' : Option (List ℕ)) (result : Result (Unit {0}) ResponseFault)
+    → step a (with_look r) b → PutsRows closing r held held' result → PutsLook step closing a b held held' result
+look_put step closing a b r held held' result y x = (r, y, x)
 
--- the same, where the response is the page with its rows
+-- what the public sees was asked, and what a look gave was put
+pub put_public : {A : Type 0} (step : A → Entered → A → Type 0) (gives : Gives) (closing : Bool) (moment : ℕ) (a b : A) (held held' : Option (List ℕ)) (result : Result (Unit {0}) ResponseFault)
+    → PutsLook step closing a b held held' result → PutsAnswer step gives closing moment asked.Public a b held held' result
+put_public step gives closing moment a b held held' (Ok u) x = (no_replies, look_given no_view x.0, no_replies-known, x.2.0, (b, x.1, refl), x.2.1)
+put_public step gives closing moment a b held held' (Err fault.WriteFault) x = (no_replies, look_given no_view x.0, no_replies-known, x.2.0, (b, x.1, refl), x.2.1)
+put_public step gives closing moment a b held held' (Err fault.NoMemory) x =
+    (look_given no_view x.0, record { replies = no_replies; made = with_look x.0 ∷ []; front = ([], refl); entered = (b, x.1, refl) }, x.2)
+
+-- a look gave a board, and the response is the page with its rows
 pub put_page : {A : Type 0} (step : A → Entered → A → Type 0) (gives : Gives) (closing : Bool) (moment : ℕ) (a b : A) (rows : List Answer) (held held' : Option (List ℕ)) (result : Result (Unit {0}) ResponseFault)
     → step a (with_look (reply.Board rows)) b → Writes held held' (page_response closing gives.contest (reply.Board rows)) result → PutsAnswer step gives closing moment asked.Page a b held held' result
 put_page step gives closing moment a b rows held held' (Ok u) y x = (no_replies, look_given gives.contest (reply.Board rows), no_replies-known, (tt, refl), (b, y, refl), x)

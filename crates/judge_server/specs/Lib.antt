@@ -8,4 +8,5 @@ pub mod Exchanges
 pub mod Serving
 pub mod PassCalls
 pub mod Reads
+pub mod Putting
 pub mod LaneCalls

@@ -1,4 +1,4 @@
-ghost use Rattle.std.specs.Prelude.{◌≡◌, ◌≤◌, ◌^◌, ℕ, Some};
+ghost use Rattle.std.specs.Prelude.{◌≡◌, ◌≤◌, ◌^◌, Some};
 ghost use Rattle.farm_io.specs.Beside.{side};
 ghost use Rattle.judge_server.specs.Serving.{untaken, IsServed, HasCauseServed, AnswersAll};
 ghost use Rattle.judge_server.specs.Jobs.{gives_by};
@@ -8,6 +8,7 @@ ghost use Rattle.judge_server.specs.PassCalls.{PassSteps, MakesCalls};
 use crate::ends::{ConnEnd, ConnHow};
 use crate::jobs::write_case;
 use crate::paths::Paths;
+use crate::publishing::put_look;
 use crate::replier::Replier;
 use crate::serving::serve_on;
 use case_run::Cases;
@@ -15,6 +16,7 @@ use contest_page::{ContestView, Shows};
 use farm_board::{Admission, Anyone, Board, Pass};
 use farm_io::{Clock, Peer, Sink, Source};
 use farm_kinds::{Event, NoMemory, Reply, Text};
+use http_door::ResponseFault;
 use std::alloc::Global;
 use std::sync::Wait;
 
@@ -44,6 +46,18 @@ impl<'a, W: Wait, A: Admission, Q: Cases + Shows> Replier for BoardReplier<'a, W
 
     fn look(&self, _alloc: Global, state: &mut Pass<A>) -> Reply {
         self.board.step(self.rt, state, &Event::Board)
+    }
+
+    #[tactic(auto, using(crate::proofs::OneAnswer::look_put))]
+    fn show<K: Sink>(
+        &self,
+        alloc: Global,
+        state: &mut Pass<A>,
+        closing: bool,
+        sink: &mut K,
+    ) -> Result<(), ResponseFault> {
+        let look = self.board.step(self.rt, state, &Event::Board);
+        put_look(alloc, sink, closing, &look)
     }
 
     fn job(

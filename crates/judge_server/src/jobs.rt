@@ -1,6 +1,6 @@
 ghost use Rattle.std.specs.Prelude.{◌≡◌, ◌≢◌, ◌≤◌, ◌+◌, IfOk};
 ghost use Rattle.http_door.specs.Responses.{HasCauseWritten};
-ghost use Rattle.judge_server.specs.Jobs.{owner_in, no_job, IsCaseBy, IsJobText};
+ghost use Rattle.judge_server.specs.Jobs.{owner_in, IsCaseBy, IsJobText};
 ghost use Rattle.judge_server.specs.Serving.{PutsJob, PutsAnswer};
 
 use crate::answering::answer_reply;

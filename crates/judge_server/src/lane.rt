@@ -1,4 +1,4 @@
-ghost use Rattle.std.specs.Prelude.{◌≡◌, ◌≤◌, ◌^◌, ℕ, Some};
+ghost use Rattle.std.specs.Prelude.{◌≡◌, ◌≤◌, ◌^◌, Some};
 ghost use Rattle.farm_io.specs.Beside.{side};
 ghost use Rattle.judge_server.specs.Serving.{untaken, IsServed, HasCauseServed, AnswersAll};
 ghost use Rattle.judge_server.specs.Jobs.{gives_by};
@@ -18,6 +18,7 @@ use contest_page::{ContestView, Shows};
 use farm_board::{Admission, Anyone, Board};
 use farm_io::{Clock, Peer, Sink, Source};
 use farm_kinds::{Answers, Event, NoMemory, Reply, Text};
+use http_door::ResponseFault;
 use judge_feed::{Feed, Naming};
 use std::alloc::Global;
 use std::sync::{Mutex, Wait};
@@ -62,6 +63,17 @@ impl<'a, W: Wait, A: Admission, Q: Cases + Shows, J: Naming> Replier
             },
             Err(_) => Reply::NoMemory,
         }
+    }
+
+    #[tactic(auto, using(crate::proofs::LaneLemmas::lane_put))]
+    fn show<K: Sink>(
+        &self,
+        alloc: Global,
+        state: &mut Access<A, J>,
+        closing: bool,
+        sink: &mut K,
+    ) -> Result<(), ResponseFault> {
+        state.reader.put(alloc, closing, sink)
     }
 
     fn job(

@@ -1,4 +1,4 @@
-ghost use Rattle.std.specs.Prelude.{◌≡◌, IfOk, OnOk, fold, map, []};
+ghost use Rattle.std.specs.Prelude.{◌≡◌, IfOk, OnOk, fold, map};
 ghost use Rattle.judge_server.specs.Table.{with_path, rows, place_in};
 
 use farm_kinds::NoMemory;

@@ -1,10 +1,14 @@
 ghost use Rattle.std.specs.Prelude.{◌≡◌, ◌≢◌, ◌+◌, ◌<◌, ◌≤◌, ◌∷◌, [], ℕ, IfOk};
 ghost use Rattle.judge_server.specs.Jobs.{Gives, IsJobText};
 ghost use Rattle.judge_server.specs.Conversation.{tick, down_after};
+ghost use Rattle.http_door.specs.Responses.{HasCauseWritten};
 ghost use Rattle.judge_server.specs.Entering.{Entered, with_reply, with_look, EntersAside, is_no_memory, Enters};
+ghost use Rattle.judge_server.specs.Putting.{PutsLook};
 
 use contest_page::ContestView;
+use farm_io::Sink;
 use farm_kinds::{Event, NoMemory, Reply, Text};
+use http_door::ResponseFault;
 use std::alloc::Global;
 
 /// What answers events, one after the other, looks at what the public sees, and gives jobs and the names of the contest.
@@ -34,6 +38,22 @@ pub trait Replier {
         requires suits { suits self.now state.old }
         requires left { 0 < left state.old }
         ensures steps { steps state.old (with_look result) state.new }
+        ensures left { left state.old ≤ left state.new + 1 }
+        ensures suits { suits self.now state.new };
+
+    /// Looks at what the public sees, and puts the response that gives it: `put_look` makes it of what `look` gives.
+    fn show<K: Sink>(
+        &self,
+        alloc: Global,
+        state: &mut Self::State,
+        closing: bool,
+        sink: &mut K,
+    ) -> Result<(), ResponseFault>
+        requires suits { suits self.now state.old }
+        requires left { 0 < left state.old }
+        ensures puts { PutsLook steps closing state.old state.new (K.held sink.old) (K.held sink.new) result }
+        ensures cause { HasCauseWritten (K.faults sink.old) (K.faults sink.new) result }
+        ensures beside { K.beside sink.new ≡ K.beside sink.old }
         ensures left { left state.old ≤ left state.new + 1 }
         ensures suits { suits self.now state.new };
 

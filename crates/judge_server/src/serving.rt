@@ -1,5 +1,4 @@
-ghost use Rattle.std.specs.Prelude.{◌≡◌, ◌≢◌, ◌+◌, ◌*◌, ◌<◌, ◌≤◌, ◌^◌, [], true, Bool, IfOk, IsNone, IsTrue, None, Some, IsUtf8};
-ghost use Rattle.farm_io.specs.Lines.{input_limit};
+ghost use Rattle.std.specs.Prelude.{◌≡◌, ◌≢◌, ◌+◌, ◌*◌, ◌<◌, ◌≤◌, ◌^◌, true, Bool, IsNone, None, Some, IsUtf8};
 ghost use Rattle.farm_io.specs.Streams.{Rose};
 ghost use Rattle.farm_io.specs.Beside.{side};
 ghost use Rattle.http_door.specs.Responses.{Writes, HasCauseWritten};
@@ -14,7 +13,6 @@ use crate::asking::{Asked, RequestFault, read_request};
 use crate::ends::{ConnEnd, ConnHow};
 use crate::jobs::answer_job;
 use crate::paths::Paths;
-use crate::publishing::answer_public;
 use crate::replier::{Replier, enter};
 use crate::showing::{answer_contest, answer_page};
 use farm_io::{Clock, Peer, Sink, Source};
@@ -50,7 +48,7 @@ fn answer_asked<A: Replier, K: Sink>(
         Asked::Job { judging, test } => answer_job(
             alloc, replier, state, moment, *judging, *test, closing, sink,
         ),
-        Asked::Public => answer_public(alloc, replier, state, moment, closing, sink),
+        Asked::Public => replier.show(alloc, state, closing, sink),
         Asked::Page => answer_page(alloc, replier, state, moment, closing, sink),
         Asked::Contest => answer_contest(alloc, replier, closing, sink),
     }

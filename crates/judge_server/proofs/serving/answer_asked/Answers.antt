@@ -1,4 +1,4 @@
-use Rattle.judge_server.proofs.OneAnswer.{put_fault, begun_event, put_reply, put_contest}
+use Rattle.judge_server.proofs.OneAnswer.{put_fault, begun_event, put_reply, put_public, put_contest}
 use Rattle.judge_server.proofs.serving.answer_asked.Goals as goal
 
 pub returns-in-Refused-clause-puts : goal.returns-in-Refused-clause-puts
@@ -13,7 +13,8 @@ pub returns-in-Job-clause-puts : goal.returns-in-Job-clause-puts
 returns-in-Job-clause-puts g c = rw c.in-Job.is c.answer_job.ensures.puts
 
 pub returns-in-Public-clause-puts : goal.returns-in-Public-clause-puts
-returns-in-Public-clause-puts g c = rw c.in-Public.is c.answer_public.ensures.puts
+returns-in-Public-clause-puts g c =
+    rw c.in-Public.is (put_public g.A.Replier.steps (g.A.Replier.gives c.args.replier.now) c.args.closing c.args.moment _ _ _ _ c.show.result c.show.ensures.puts)
 
 pub returns-in-Err-clause-puts : goal.returns-in-Err-clause-puts
 returns-in-Err-clause-puts g c =
