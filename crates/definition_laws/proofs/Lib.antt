@@ -1,3 +1,6 @@
 mod DueLeases
 mod PackageTests
+mod PackageSizes
 mod SegmentPages
+mod ContestLines
+mod QuotedBack

@@ -6,10 +6,18 @@
 //! definition, and `proofs` a file for each law.
 #![tactic(auto)]
 
+mod contests;
 mod executables;
 mod leases;
 mod packages;
+mod settings;
 
+pub use contests::{
+    a_contest_is_too_large_at_its_first_file_past_the_limit, each_line_is_one_submission,
+};
 pub use executables::an_executable_fits_by_its_pages;
 pub use leases::the_due_lease_ends_first;
-pub use packages::each_input_is_one_test;
+pub use packages::{
+    a_package_is_too_large_at_its_first_file_past_the_limit, each_input_is_one_test,
+};
+pub use settings::a_quoted_text_is_read_back;
