@@ -1,0 +1,5 @@
+mod Said
+mod Walks
+mod Entering
+mod Leaves
+mod AnyOrder
