@@ -4,3 +4,4 @@ mod PackageSizes
 mod SegmentPages
 mod ContestLines
 mod QuotedBack
+mod FaultyLines

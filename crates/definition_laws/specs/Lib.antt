@@ -4,3 +4,4 @@ pub mod TestSizes
 pub mod PageSets
 pub mod SaidLines
 pub mod QuotedTexts
+pub mod FirstFault

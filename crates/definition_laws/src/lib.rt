@@ -20,4 +20,4 @@ pub use leases::the_due_lease_ends_first;
 pub use packages::{
     a_package_is_too_large_at_its_first_file_past_the_limit, each_input_is_one_test,
 };
-pub use settings::a_quoted_text_is_read_back;
+pub use settings::{a_quoted_text_is_read_back, the_first_faulty_line_is_told};

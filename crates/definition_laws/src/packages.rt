@@ -31,8 +31,8 @@ pub fn each_input_is_one_test()
         → file_at files (in_data path (test.name ++ codes ".ans")) ≡ Some test.answer }
 {}
 
-/// Where the files of all tests can be read, the total of their bytes is that of all of them where this is within the limit, and
-/// else the fault names that of the first files that are not, each input before its answer.
+/// Where the files of all tests can be read, the total of their bytes is that of all of them where this is within the
+/// limit, and else the fault names that of the first files that are not, each input before its answer.
 pub fn a_package_is_too_large_at_its_first_file_past_the_limit()
     ensures within { (files : List TreeFile) (path : List ℕ) (stems : List (List ℕ)) → AreReadable files stems
         → sum (sizes_of files stems) ≤ total_limit → total_from files path 0 stems ≡ Ok (sum (sizes_of files stems)) }
