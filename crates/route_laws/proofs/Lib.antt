@@ -4,3 +4,4 @@ mod Numerals
 mod Walking
 mod Patterns
 mod RoutedRequests
+mod Queries

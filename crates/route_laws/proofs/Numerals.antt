@@ -26,11 +26,10 @@ alone (b ∷ bs) e z =
       | inr h ↦ omega (arith, eqb-true (length bs) 0 h)
     ]
 
-limited : (word : List ℕ) (n : ℕ) (v : Bool) → is_numeral word ≡ v → (w : Bool) → leb (value_from 0 word) 4294967295 ≡ w
-    → option_and_then (at_most 4294967295) (cond v (Some (value_from 0 word)) None) ≡ Some n → cond w (Some (value_from 0 word)) None ≡ Some n → (word ≡ decimal n) × (n ≤ 4294967295)
-limited word n false e w f is by = absurd (let no' : ⊥ = cc in no')
-limited word n true e false f is by = absurd (let no' : ⊥ = cc in no')
-limited word n true e true f is by =
+limited : (word : List ℕ) (n : ℕ) → is_numeral word ≡ true → (few : Bool) → leb (value_from 0 word) 4294967295 ≡ few
+    → cond few (Some (value_from 0 word)) None ≡ Some n → (word ≡ decimal n) × (n ≤ 4294967295)
+limited word n e false f is = absurd (let no' : ⊥ = cc in no')
+limited word n e true f is =
     let same : value_from 0 word ≡ n = cc in
     let parts = and_parts (leads_well word) (list_all is_digit word) e in
     let most : value_from 0 word ≤ 4294967295 = leb-true (value_from 0 word) 4294967295 f in
@@ -41,9 +40,9 @@ limited word n true e true f is by =
 pub written : (word : List ℕ) (n : ℕ) → number_of word ≡ Some n → (word ≡ decimal n) × (n ≤ 4294967295)
 written word n e = by (is_numeral word) refl e
   where
-    by : (v : Bool) → is_numeral word ≡ v → option_and_then (at_most 4294967295) (cond v (Some (value_from 0 word)) None) ≡ Some n → (word ≡ decimal n) × (n ≤ 4294967295)
+    by : (t : Bool) → is_numeral word ≡ t → option_and_then (at_most 4294967295) (cond t (Some (value_from 0 word)) None) ≡ Some n → (word ≡ decimal n) × (n ≤ 4294967295)
     by false f is = absurd (let no' : ⊥ = cc in no')
-    by true f is = limited word n true f (leb (value_from 0 word) 4294967295) refl is is
+    by true f is = limited word n f (leb (value_from 0 word) 4294967295) refl is
 
 pub digits_slashless : (ds : List ℕ) → list_all is_digit ds ≡ true → has_slash ds ≡ false
 digits_slashless [] e = refl
