@@ -1,7 +1,4 @@
 //! The lines of `submissions.txt`.
-ghost use Rattle.std.specs.Prelude.{◌≡◌, ◌∷◌};
-ghost use Rattle.problem_settings.specs.Lines.{parts, parts_behind};
-
 /// A line, and the number of the submission that it is to be.
 #[derive(Clone, Copy)]
 pub(crate) struct Line<'a> {
@@ -26,7 +23,7 @@ pub(crate) fn line_of(text: &[u8], line: u32) -> Option<Line<'_>> {
 }
 
 /// Whether a line is blank or a comment.
-pub(crate) fn is_skipped(line: &[u8]) -> bool {
+fn is_skipped(line: &[u8]) -> bool {
     line.starts_with(b"#") || line.iter().all(|b| *b == b' ')
 }
 
@@ -38,17 +35,4 @@ pub(crate) fn word_of(line: &[u8], place: usize) -> &[u8] {
         }
     }
     &[]
-}
-
-/// The part before the first separator, and what stands behind that, where there is one.
-#[tactic(auto, using(problem_settings::proofs::PartLemmas::part_more, problem_settings::proofs::PartLemmas::cut_at, problem_settings::proofs::PartLemmas::uncut))]
-pub(crate) fn cut(sep: u8, text: &[u8]) -> (&[u8], Option<&[u8]>)
-    ensures { parts sep text.now ≡ result.0.now ∷ parts_behind sep result.1 }
-{
-    for (i, b) in text.iter().enumerate() {
-        if *b == sep {
-            return (&text[..i], Some(&text[i + 1..]));
-        }
-    }
-    (text, None)
 }

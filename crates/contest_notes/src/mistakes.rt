@@ -6,7 +6,8 @@ ghost use Rattle.farm_kinds.specs.Names.{is_name};
 ghost use Rattle.problem_settings.specs.Lines.{parts};
 ghost use Rattle.contest_notes.specs.Mistakes.{begins_with, ends_in, has_mark, has_tab, has_two_spaces, mistake_in, mistake_of_words};
 
-use crate::lines::{cut, word_of};
+use crate::lines::word_of;
+use contest_folder::cut;
 use farm_kinds::Name;
 use itoa::Buffer;
 use std::alloc::{AllocError, Global};
@@ -14,7 +15,7 @@ use std::str;
 
 /// The first mistake of a line that is not `NUMBER TEAM PROBLEM FILE`, as one who mends it wants to know it.
 #[derive(Clone, Copy, Debug, PartialEq, Eq)]
-pub enum Mistake {
+pub(crate) enum Mistake {
     /// It begins with the byte order mark of UTF-8.
     Mark,
     /// It ends in a carriage return.
@@ -40,7 +41,7 @@ pub enum Mistake {
 }
 
 /// The mistake of a line that is not the one of the submission of this number.
-pub fn mistake_in(number: u32, text: &[u8]) -> Mistake
+pub(crate) fn mistake_in(number: u32, text: &[u8]) -> Mistake
     ensures { result ≡ mistake_in number text.now }
 {
     if has_mark(text) {
@@ -165,7 +166,7 @@ fn is_name(word: &[u8]) -> bool
 }
 
 /// What a person is told of the mistake of a line, which is to be the submission of this number.
-pub fn mistake_text(
+pub(crate) fn mistake_text(
     alloc: Global,
     mistake: Mistake,
     number: u32,

@@ -5,16 +5,21 @@ ghost use Rattle.package_folder.specs.Told.{WhereTold};
 ghost use Rattle.contest_folder.specs.Telling.{Answers};
 ghost use Rattle.contest_folder.specs.Contest.{contest_of};
 
-use crate::notes::tell_notes;
+use crate::finding::contest_notes;
 use crate::reason::fault_reason;
+use crate::texts::contest_note_text;
 use contest_folder::{ContestFault, Roster, read_contest};
 use farm_tree::Tree;
 use people::Person;
 use std::alloc::Global;
 
-/// Reads the contest in the folder at the path, as `read_contest` does, and then tells the person what of the folder is
-/// skipped, and behind that, where it is no contest, why, and what comes of it: `end`. What no memory is left to say, and what
-/// cannot be read, is left out.
+/// Reads the contest in the folder at the path, as `read_contest` does, and then tells the person the notes on it, and behind
+/// them, where the folder is no contest, why, and what comes of it: `end`. Where the tree fails or no memory is left while the
+/// contest is read, the person is told nothing here; where that comes while the notes are looked for, none is told, and a text
+/// that no memory is left to make is left out.
+///
+/// For the notes the folder is read a second time: they stand on names of files, on keys and on lines that a contest does not
+/// keep, and of a folder that is no contest there is nothing else that they could stand on.
 pub fn read_told_contest<T: Tree, P: Person>(
     alloc: Global,
     tree: &mut T,
@@ -29,14 +34,37 @@ pub fn read_told_contest<T: Tree, P: Person>(
 {
     // The contest is read first, so that a tree that fails then is not asked in vain for notes.
     let answer = read_contest(alloc, tree, path);
-    // Where no memory is left for a note, those behind it are left out.
-    let _ = tell_notes(alloc, tree, path, person);
-    tell_answer(alloc, tree, path, &answer, end, person);
+    if is_told(&answer) {
+        tell_notes(alloc, tree, path, person);
+        tell_answer(alloc, tree, path, &answer, end, person);
+    }
     answer
 }
 
-/// Says why the folder is no contest, and what comes of it, where that is the answer. Where it could not be read, nothing is
-/// said of it here.
+/// Whether the folder could be read.
+fn is_told(answer: &Result<Roster, ContestFault>) -> bool {
+    !matches!(
+        answer,
+        Err(ContestFault::Tree) | Err(ContestFault::NoMemory)
+    )
+}
+
+/// Tells the notes on the contest in the folder.
+fn tell_notes<T: Tree, P: Person>(alloc: Global, tree: &mut T, folder: &str, person: &mut P)
+    ensures same { T.files tree.new ≡ T.files tree.old }
+    ensures later { T.faults tree.old ≤ T.faults tree.new }
+{
+    let Ok(notes) = contest_notes(alloc, tree, folder) else {
+        return;
+    };
+    for note in &notes {
+        if let Ok(text) = contest_note_text(alloc, note) {
+            person.notes(text.as_str());
+        }
+    }
+}
+
+/// Says why the folder is no contest, and what comes of it, where that is the answer.
 fn tell_answer<T: Tree, P: Person>(
     alloc: Global,
     tree: &mut T,
