@@ -93,6 +93,10 @@ NOTES = [
     ({"farm.json": '{"problem_modes": {"echoo": "full"}}'}, ['farm.json: problem_modes: there is no problem "echoo" in problems/']),
     ({"farm.json": None}, []),
     ({"submissions/unlisted": "no program"}, []),
+    # A comment that names a file is no submission.
+    ({"submissions/unlisted": "no program", "submissions.txt": LISTED + "# 3 voles echo unlisted\n#3 voles echo unlisted\n"}, []),
+    ({"farm.json": '{"problem_modes": {"add": "full", "echo": "lazy", "zoo": "lazy"}}'},
+     ['farm.json: problem_modes: there is no problem "add" in problems/', 'farm.json: problem_modes: there is no problem "zoo" in problems/']),
 ]
 
 # What is changed, and why it is no contest then, between the folder's name and what came of it.
