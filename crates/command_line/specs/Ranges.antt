@@ -29,7 +29,7 @@ size_with problems submissions = None
 abbrev pub port_limit : ℕ
 port_limit = 65535
 
--- a server answers at most 16 requests at the same time, and in all as many connections as is said, which is at most 100,000
+-- a server has at most 16 lanes, and takes in as many connections as is said, which is at most 100,000
 abbrev pub lane_limit : ℕ
 lane_limit = 16
 

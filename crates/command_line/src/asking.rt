@@ -21,7 +21,8 @@ pub enum Asked<'a> {
     Command(Command<'a>),
     /// Help, or the version: its text, which is for standard output.
     Help(String),
-    /// Nothing: which word is wrong, what was wanted in its place, and the usage of the command.
+    /// Nothing: which word is wrong, what was wanted in its place, and the usage of the command. Each control character of
+    /// a word stands in it as `?`, so that no word speaks to a terminal.
     Wrong(String),
 }
 
@@ -62,10 +63,11 @@ fn answered<'a>(alloc: Global, words: &[String], error: &Error) -> Result<Asked<
         → (kind_of error.now ≢ kind.OutOfMemory) × (kind_of error.now ≢ kind.DisplayHelp)
         × (kind_of error.now ≢ kind.DisplayVersion)) }
 {
-    let text = format!(in alloc; "{error}")?;
     match error.kind() {
         ErrorKind::OutOfMemory => Err(NoMemory),
-        ErrorKind::DisplayHelp | ErrorKind::DisplayVersion => Ok(Asked::Help(text)),
-        _ => Ok(Asked::Wrong(refusal(alloc, words, text)?)),
+        ErrorKind::DisplayHelp | ErrorKind::DisplayVersion => {
+            Ok(Asked::Help(format!(in alloc; "{error}")?))
+        }
+        _ => Ok(Asked::Wrong(refusal(alloc, words)?)),
     }
 }

@@ -11,6 +11,20 @@ use std::alloc::{AllocError, Global};
 /// What `--version` prints behind the name of each program.
 pub const VERSION: &str = "0.1.0";
 
+/// The grammar of a program's words. It is made anew for each reading, since words have to live as long as what reads them.
+pub trait Grammar {
+    fn grammar<'g>(alloc: Global) -> Result<Command<'g>, AllocError>;
+}
+
+/// The words of `farm`, with those that ask for help and for the version.
+pub(crate) struct FarmWords;
+
+impl Grammar for FarmWords {
+    fn grammar<'g>(alloc: Global) -> Result<Command<'g>, AllocError> {
+        helping_command(alloc)
+    }
+}
+
 /// The program with its commands.
 pub(crate) fn farm_command<'a>(alloc: Global) -> Result<Command<'a>, AllocError>
     ensures { IfOk result (λ command. app_of command ≡ farm) }

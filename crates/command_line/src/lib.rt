@@ -27,7 +27,7 @@ mod words;
 mod worked;
 
 pub use asking::{Asked, read_words};
-pub use grammar::VERSION;
+pub use grammar::{Grammar, VERSION};
 pub use host_count::HostCount;
 pub use made_size::MadeSize;
 pub use programs::{ProgramWords, no_number, number_from, read_program};

@@ -1,18 +1,49 @@
-//! What is wrong with words that are no command.
+//! What is wrong with words that are no command. A word is shown with `?` in place of each control character, so that it speaks
+//! to no terminal.
 use crate::address::read_address;
 use crate::checks::{is_plain, is_user, joined_value};
 use crate::described::described;
-use crate::grammar::{command_named, helping_command};
+use crate::grammar::{FarmWords, Grammar, command_named, helping_command};
 use clap::error::ErrorKind;
-use clap::{Arg, ArgMatches, Command};
+use clap::{Arg, ArgMatches, Command, Error};
 use command_text::read_number;
 use farm_kinds::Name;
+use people::Plain;
 use std::alloc::{AllocError, Global};
 
-/// The text of an error of `clap`, with the usage of the command that the words name.
-pub(crate) fn refusal(alloc: Global, words: &[String], text: String) -> Result<String, AllocError> {
+/// What `clap` says of words that it refuses, with the usage of the command that they name.
+pub(crate) fn refusal(alloc: Global, words: &[String]) -> Result<String, AllocError> {
+    let text = said_of::<FarmWords>(alloc, words)?;
     let mut command = named_by(alloc, words)?;
     with_usage(alloc, &mut command, text)
+}
+
+/// What `clap` says of words that it refuses. It is asked of the words as they are shown: none that a grammar knows has a
+/// control character or a `?`, so it finds the same fault in them.
+pub(crate) fn said_of<G: Grammar>(alloc: Global, words: &[String]) -> Result<String, AllocError> {
+    let shown = shown_words(alloc, words)?;
+    let program = G::grammar(alloc)?;
+    match program.try_get_matches_from(shown.as_slice()) {
+        Ok(_matches) => String::from_str(alloc, "error: these words are no command"),
+        Err(error) => text_of(alloc, &error),
+    }
+}
+
+fn text_of(alloc: Global, error: &Error) -> Result<String, AllocError> {
+    if error.kind() == ErrorKind::OutOfMemory {
+        return Err(AllocError);
+    }
+    format!(in alloc; "{error}")
+}
+
+/// The words as they are shown.
+fn shown_words(alloc: Global, words: &[String]) -> Result<Vec<String>, AllocError> {
+    let mut shown = Vec::new(alloc);
+    for word in words {
+        let word = Plain(word.as_str());
+        shown.push(format!(in alloc; "{word}")?)?;
+    }
+    Ok(shown)
 }
 
 /// Why words that the grammar accepts are no command: one of them is not plain, or a number is not in its range.
@@ -82,10 +113,14 @@ fn odd_text(alloc: Global, word: &str) -> Result<String, AllocError> {
     if word.is_empty() {
         return String::from_str(alloc, "an empty word found, and none is taken");
     }
-    match joined_value(word) {
-        Some(value) => format!(in alloc;
-            "invalid value '{value}' in '{word}': a value is not empty and does not begin with '-'"
-        ),
+    let word = Plain(word);
+    match joined_value(word.0) {
+        Some(value) => {
+            let value = Plain(value);
+            format!(in alloc;
+                "invalid value '{value}' in '{word}': a value is not empty and does not begin with '-'"
+            )
+        }
         None => format!(in alloc; "unexpected argument '{word}' found"),
     }
 }
@@ -129,6 +164,7 @@ fn name_text(
     if id != "name" || Name::read(value.as_bytes()).is_some() {
         return Ok(None);
     }
+    let value = Plain(value);
     let text = format!(in alloc;
         "invalid value '{value}' for '{arg}': wanted are 1 to 32 letters, digits, '_' and '-'"
     )?;
@@ -149,6 +185,7 @@ fn address_text(
     if of != "serve" || id != "address" || read_address(value).is_some() {
         return Ok(None);
     }
+    let value = Plain(value);
     let text = format!(in alloc;
         "invalid value '{value}' for '{arg}': wanted is an IPv4 or IPv6 address, as 0.0.0.0 or ::1"
     )?;
@@ -167,6 +204,7 @@ fn login_text(
         return Ok(None);
     };
     if id == "user" && !is_user(value) {
+        let value = Plain(value);
         let text = format!(in alloc;
             "invalid value '{value}' for '{arg}': wanted is a name without ':' and without control characters"
         )?;
@@ -199,6 +237,7 @@ fn number_text(
             return Ok(None);
         }
     }
+    let value = Plain(value);
     let text = format!(in alloc;
         "invalid value '{value}' for '{arg}': wanted is a number from {least} to {most}, without a sign or a leading zero"
     )?;

@@ -2,7 +2,8 @@ ghost use Rattle.std.specs.Prelude.{◌≡◌, ◌≢◌, ◌≤◌};
 ghost use Rattle.std.specs.Option.{option_map};
 ghost use Rattle.command_line.specs.Ranges.{from_1_to, unlimited};
 
-/// How many requests a server answers at the same time: from 1 to 16.
+/// How many lanes a server has, from 1 to 16: of the connections that came, at most so many are being served. That it serves
+/// them at the same time is promised by no contract.
 #[derive(Clone, Copy, Debug, PartialEq, Eq)]
 pub struct Lanes {
     count: u16,
