@@ -20,10 +20,11 @@ use Rattle.exit_status.specs.declared.exit.Exit.{Exit}
 use Rattle.exit_status.specs.declared.exit.Exit.TheVariants as exit
 use Rattle.command_line.specs.CommandLine.{CommandValue, Serve}
 use Rattle.judge_commands.specs.Judged.{ContestIs, IsFaultLine, NoContestEnds, HasContest, ContestIsDone}
-use Rattle.farm_cli.specs.ServedContest.{DoorUse, IsServed, IsUnasked, ServeEnds, exit_of}
+use Rattle.farm_cli.specs.ServedContest.{DoorUse, IsServed, IsUnasked, ServeEnds, exit_of, listening_of}
 use Rattle.farm_cli.specs.Hosting.{LinkUse}
+use Rattle.script_commands.specs.Scripted.{Streams}
 use Rattle.script_commands.specs.Stored.{StoreUse}
-use Rattle.farm_cli.specs.Commands.{CommandIsDone}
+use Rattle.farm_cli.specs.Commands.{CommandEnds, CommandIsDone}
 
 -- T, S, K, D, L and Y: the tree, the input, the output, the door, the link and the disk have failed
 pub serve_complete : {M : Type 0} (files : Option (List TreeFile)) (folder : List ℕ) (address : IpAddr) (port lanes connections patience : ℕ) (until_input_ends : Bool) (command : Option CommandValue) (link : LinkUse M) (store : StoreUse) (left : Option (List ℕ)) (T S K D L Y : Type 0) (e : Exit)
@@ -33,6 +34,19 @@ unfolding ContestIsDone
 serve_complete files folder address port lanes connections patience until_input_ends command link store left T S K D L Y e is done =
     subst (λ (o : Option CommandValue). IfSome o (λ command. CommandIsDone files command link store left (¬ T × ¬ S × ¬ K × ¬ D × ¬ L × ¬ Y) e)) is
     (λ has faultless. done has faultless.0 faultless.3 faultless.2)
+
+-- the same of how it ends: the counts are those that the words say
+pub serve_ends : {N M : Type 0} (files : Option (List TreeFile)) (folder : List ℕ) (address : IpAddr) (port lanes connections patience lanes' connections' patience' : ℕ) (until_input_ends : Bool)
+    (command : Option CommandValue) (door : DoorUse N) (link : LinkUse M) (store : StoreUse) (old new : Streams) (unread unwritten : Type 0) (e : Exit)
+    → Some (Serve folder address port lanes connections patience until_input_ends) ≡ command → lanes' ≡ lanes → connections' ≡ connections → patience' ≡ patience
+    → unread → ServeEnds files folder (listening_of address port patience' until_input_ends) lanes' connections' door old.held new.held unwritten e
+    → IfSome command (λ command. CommandEnds files command door link store old new unread unwritten e)
+serve_ends files folder address port lanes connections patience lanes' connections' patience' until_input_ends command door link store old new unread unwritten e is lane count wait same ends =
+    subst (λ (o : Option CommandValue). IfSome o (λ command. CommandEnds files command door link store old new unread unwritten e)) is
+    (same,
+      subst (λ (z : ℕ). ServeEnds files folder (listening_of address port patience until_input_ends) z connections door old.held new.held unwritten e) lane
+      (subst (λ (z : ℕ). ServeEnds files folder (listening_of address port patience until_input_ends) lanes' z door old.held new.held unwritten e) count
+      (subst (λ (z : ℕ). ServeEnds files folder (listening_of address port z until_input_ends) lanes' connections' door old.held new.held unwritten e) wait ends)))
 
 pub unserved : {N : Type 0} (files : Option (List TreeFile)) (folder : List ℕ) (at : Listening) (lanes connections : ℕ) (door : DoorUse N) (held held' : Option (List ℕ)) (unwritten : Type 0) (e : Exit)
     → IsUnasked door → NoContestEnds files folder held held' unwritten e → ServeEnds files folder at lanes connections door held held' unwritten e

@@ -1,5 +1,5 @@
-use Rattle.std.proofs.Common.{ap, subst, sym, Ok, Option, List, ℕ}
-use Rattle.std.specs.Prelude.{IfOk, IfSome}
+use Rattle.std.proofs.Common.{subst, sym, Ok, List, ℕ}
+use Rattle.std.specs.Prelude.{IfSome}
 use Rattle.farm_tree.specs.Reading.{IsReadAnswer, file_at}
 use Rattle.farm_cli.proofs.Hostings.{line_read}
 use Rattle.farm_cli.proofs.hosting.read_login.Goals as goal

@@ -10,9 +10,10 @@ use Rattle.script_commands.specs.Scripted.{Streams}
 use Rattle.farm_cli.proofs.Judgings.{judge_complete}
 use Rattle.farm_cli.proofs.Makings.{make_complete}
 use Rattle.farm_cli.proofs.Scripts.{script_complete, stored_complete, list_complete}
-use Rattle.farm_cli.proofs.Servings.{serve_complete}
+use Rattle.farm_cli.proofs.Servings.{serve_complete, serve_ends}
 use Rattle.farm_cli.proofs.Hostings.{host_complete}
 use Rattle.farm_cli.proofs.Unread.{unread_ends, unread_is_done}
+use Rattle.exit_status.specs.declared.exit.Exit.TheVariants as exit
 use Rattle.farm_cli.proofs.top.farm_main.Goals as goal
 
 pub returns-in_default-clause-ends : goal.returns-in_default-clause-ends
@@ -71,10 +72,13 @@ returns-in-Host-clause-complete g c =
     (sym (ap (λ o. option_map command_value o) (c.in-Some.is ∙ ap Some c.in-Host.is)) ∙ c.in-Ok.ensures) c.host.ensures.ends c.host.ensures.write_fault c.host.ensures.tree_fault
 
 pub returns-in-Serve-clause-ends : goal.returns-in-Serve-clause-ends
-returns-in-Serve-clause-ends c = search rules
+returns-in-Serve-clause-ends g c =
+    serve_ends (g.T.Tree.files c.args.tree.now) c.in-Serve.folder.now c.in-Serve.address c.in-Serve.port c.in-Serve.lanes.count c.in-Serve.connections.count c.in-Serve.patience.seconds
+    c.get-in-Serve-2.result c.get-in-Serve-3.result c.get-in-Serve.result c.in-Serve.until_input_ends _ _ _ _ _ _ _ _ c.serve.result
+    (sym (ap (λ o. option_map command_value o) (c.in-Some.is ∙ ap Some c.in-Serve.is)) ∙ c.in-Ok.ensures) c.get-in-Serve-2.ensures.value c.get-in-Serve-3.ensures.value c.get-in-Serve.ensures.value refl c.serve.ensures.ends
 
 pub returns-in_default-clause-usage : goal.returns-in_default-clause-usage
-returns-in_default-clause-usage c = search rules
+returns-in_default-clause-usage g c = (λ is. let no : exit.Memory ≡ exit.Usage = is in cc, λ none. absurd (none.1 refl))
 
 pub returns-in_default-clause-silent : goal.returns-in_default-clause-silent
-returns-in_default-clause-silent c = search rules
+returns-in_default-clause-silent g c = λ none. (refl, refl, refl, refl, refl, refl)
