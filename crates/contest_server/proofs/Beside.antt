@@ -1,5 +1,5 @@
 -- What the opening pass knows, once it has split a pass off or taken one in.
-use Rattle.std.proofs.Common.{◌≡◌, ℕ, ◌+◌, ◌<◌, ◌≤◌, true, List, [], ◌∷◌, ◌++◌, sym, ap, ◌∙◌, subst, arith, append_assoc, append-nil}
+use Rattle.std.proofs.Common.{◌≡◌, ℕ, ◌+◌, ◌<◌, ◌≤◌, true, List, [], ◌∷◌, ◌++◌, sym, ap, ◌∙◌, subst, arith, append_assoc}
 use Rattle.std.specs.Prelude.{All}
 use Rattle.std.proofs.lemmas.List.{map-append}
 use Rattle.std.proofs.lemmas.List.Elements.{All-nil, All-cons, All-head, All-tail, All-append}
@@ -12,7 +12,7 @@ use Rattle.farm_board.specs.declared.entries.Call.{Call}
 use Rattle.farm_board.specs.declared.entries.Entry.{Entry}
 use Rattle.farm_board.specs.declared.entries.Entry.TheVariants as entry
 use Rattle.farm_board.proofs.Numbers.{in_here, in_front, in_end}
-use Rattle.farm_board.proofs.Prefixes.{prefix_self, prefix_trans}
+use Rattle.farm_board.proofs.Prefixes.{prefix_trans}
 use Rattle.farm_board.proofs.Histories.{after_call_given, board_after_append, board_after_snoc, legal_at}
 use Rattle.farm_board.proofs.Callers.{joined_grows, joined_joins, joins}
 use Rattle.parallel_judge.specs.Hosts.{as_entries}

@@ -17,7 +17,7 @@ use Rattle.contest_server.specs.declared.ends.ServeEnd.TheVariants as end
 use Rattle.contest_server.specs.Visits.{Watch, IsVisit, conn_lines}
 use Rattle.contest_server.specs.Serving.{Came, with_all, desk_value, Opening, Tells, Wrote, Rests, HasCauseEnd}
 use Rattle.contest_server.specs.Beside.{HasSplit}
-use Rattle.contest_server.specs.Served.{IsAsked, ShowsBoard, HasShown, Finishes, HasServed, Serves}
+use Rattle.contest_server.specs.Served.{IsAsked, ShowsBoard, Finishes, HasServed, Serves}
 use Rattle.contest_server.proofs.Beside.{feed_beside, feed_joins}
 use Rattle.contest_server.proofs.Telling.{rose_since, front_behind}
 use Rattle.contest_server.proofs.Whole.{history_without, history_with}

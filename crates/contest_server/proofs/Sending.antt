@@ -5,10 +5,10 @@ use Rattle.std.proofs.Crossing.{crosses}
 use Rattle.matchit.proofs.tree.Node.TheLaws.TheKnot as knot
 use Rattle.matchit.specs.contracts.tree.Node as node
 use Rattle.farm_board.specs.declared.trust.Admission.{Ghosts as AdmissionGhosts}
-use Rattle.public_board.proofs.Sending.{readers_send}
 use Rattle.judge_feed.specs.declared.naming.Naming.{Ghosts as NamingGhosts}
 use Rattle.judge_feed.proofs.Sending.{feed_send}
 use Rattle.judge_server.specs.contracts.paths.Paths as paths
+use Rattle.judge_server.proofs.Sending.{public_readers_send}
 use Rattle.contest_server.specs.contracts.public.Public as public
 
 -- The paths of the server
@@ -21,4 +21,4 @@ paths_sync = search (sendable, crosses, node_sync) depth 60 fits 100000
 
 -- What the public sees may be shared by threads.
 pub public_sync : (A K : RattleType) (g : AdmissionGhosts A.Denot) (k : NamingGhosts K.Denot) → IsSend A → IsSync (public.the_row A K g k)
-public_sync A K g k a = search (sendable, crosses, feed_send, readers_send) depth 60 fits 100000
+public_sync A K g k a = search (sendable, crosses, feed_send, public_readers_send) depth 60 fits 100000

@@ -2,7 +2,7 @@
 use Rattle.std.proofs.Common.{◌≡◌, ℕ, List, Option, Some, inl, inr, sym, ap, ◌∙◌, subst, arith}
 use Rattle.farm_kinds.specs.declared.outcomes.Answer.{Answer}
 use Rattle.farm_board.specs.Passes.{PassValue}
-use Rattle.public_board.specs.Values.{ReaderValue, nobody}
+use Rattle.public_board.specs.Values.{nobody}
 use Rattle.judge_server.specs.declared.ends.ConnEnd.{ConnEnd}
 use Rattle.judge_server.specs.declared.ends.ConnHow.{ConnHow}
 use Rattle.judge_server.specs.declared.ends.ConnHow.TheVariants as how

@@ -1,4 +1,4 @@
-ghost use Rattle.std.specs.Prelude.{◌≡◌, ◌<◌, ◌≤◌, ◌⊎◌, ◌+◌, ◌*◌, ◌^◌, IfOk, List, true, false};
+ghost use Rattle.std.specs.Prelude.{◌≡◌, ◌<◌, ◌≤◌, ◌⊎◌, ◌+◌, ◌^◌, IfOk, List, true, false};
 ghost use Rattle.farm_io.specs.Doors.{DoesListen};
 ghost use Rattle.farm_io.specs.Streams.{Rose};
 ghost use Rattle.farm_model.specs.State.{start};
@@ -138,7 +138,7 @@ where
         Err(_own) => ServeEnd::NoMemory,
         Ok((feed, readers)) => serve_board(
             ground,
-            Public::new(feed, readers),
+            Public::new(ground.alloc, feed, readers),
             door,
             out,
             pass,

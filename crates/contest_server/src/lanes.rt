@@ -82,7 +82,7 @@ fn serve_one<W: Wait, A: Admission, C: Clock, Q: Cases + Shows, N: Source + Sink
         (watch N.left N.held N.Source.faults N.Sink.faults (around_of (C.shows clock.now) N.Peer.asks)))
         (visit conn result.conn pass result.pass result.end.requests result.end.how) }
 {
-    let Some(reader) = public.take_reader(rt) else {
+    let Some(reader) = public.take_reader(rt, alloc) else {
         // There is a reader for each worker.
         let end = refuse(&mut conn);
         bell.ring(rt, place);

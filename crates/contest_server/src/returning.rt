@@ -10,7 +10,7 @@ use crate::lines::{TextFault, write_line};
 use crate::service::{Service, Watches};
 use case_run::Cases;
 use contest_page::Shows;
-use farm_board::{Admission, Pass};
+use farm_board::Admission;
 use farm_io::{Clock, Door, Peer, Sink, Source};
 use judge_feed::Naming;
 use judge_server::ConnEnd;
