@@ -1,6 +1,6 @@
 //! The words of `package_info`.
 use clap::{Arg, Command};
-use command_line::{ProgramWords, VERSION, read_program};
+use command_line::{Grammar, ProgramWords, VERSION, read_program};
 use std::alloc::{AllocError, Global};
 
 /// What the words ask for.
@@ -23,28 +23,33 @@ Status: 0 a package, 1 no package, or it could not be read or printed, 2 usage."
 
 /// Reads the program's words: the path of a folder.
 pub fn read_words<'a>(alloc: Global, words: &'a [String]) -> Result<Asked<'a>, AllocError> {
-    let mut program = grammar(alloc)?;
-    match read_program(alloc, &mut program, words, words.len())? {
+    match read_program::<FolderWord>(alloc, words, words.len())? {
         ProgramWords::Found(found) => match found.get_str("folder") {
             Some(folder) => Ok(Asked::Package(folder)),
-            None => Ok(Asked::Wrong(program.render_usage()?)),
+            None => Ok(Asked::Wrong(FolderWord::grammar(alloc)?.render_usage()?)),
         },
         ProgramWords::Help(text) => Ok(Asked::Help(text)),
         ProgramWords::Wrong(text) => Ok(Asked::Wrong(text)),
     }
 }
 
-/// `package_info FOLDER`
-fn grammar<'a>(alloc: Global) -> Result<Command<'a>, AllocError> {
-    let folder = Arg::new(alloc, "folder")
-        .required(true)
-        .value_name("FOLDER")
-        .help("The folder of the package");
-    Command::new(alloc, "package_info")
-        .version(VERSION)
-        .about(
-            "Reads a problem package (Kattis problem package format, legacy) and prints what it has",
-        )
-        .after_help(REMARKS)
-        .arg(folder)
+/// The words of `package_info`.
+struct FolderWord;
+
+impl Grammar for FolderWord {
+    /// `package_info FOLDER`
+    fn grammar<'g>(alloc: Global) -> Result<Command<'g>, AllocError> {
+        let folder = Arg::new(alloc, "folder")
+            .required(true)
+            .value_name("FOLDER")
+            .help("The folder of the package");
+        Command::new(alloc, "package_info")
+            .bin_name("package_info")?
+            .version(VERSION)
+            .about(
+                "Reads a problem package (Kattis problem package format, legacy) and prints what it has",
+            )
+            .after_help(REMARKS)
+            .arg(folder)
+    }
 }
