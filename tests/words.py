@@ -109,6 +109,19 @@ WRONG = [
      ["error: '--password-file <FILE>' is given without '--user <USER>'", HOST, MORE]),
     ("farm", ["judge", b"\xff", "--hosts", "1"], ["error: a word of the command line is no UTF-8", FARM, MORE]),
     ("farm", ["help", "juge"], ["error: unrecognized subcommand 'juge'"]),
+    # A control character of a word, a line end too, is shown as `?`, whoever says what is wrong.
+    ("farm", ["\x1b[31mjudge"], ["error: unrecognized subcommand '?[31mjudge'", FARM, MORE]),
+    ("farm", ["judge", "c", "d\x1b[31m", "--hosts", "1"], ["error: unexpected argument 'd?[31m' found", JUDGE, MORE]),
+    ("farm", ["judge", "c", "--\x1b[31m", "--hosts", "1"], ["error: unexpected argument '--?[31m' found", "Usage: farm judge --hosts <N> <FOLDER>", MORE]),
+    ("farm", ["judge", "c", "--hosts", "1\n\x9b31m"], [number("--hosts <N>", "1??31m", 0, 16), JUDGE, MORE]),
+    ("farm", ["script", "--config=-\x07"], ["error: invalid value '-?' in '--config=-?': a value is not empty and does not begin with '-'", SCRIPT]),
+    ("farm", ["make", "1", "\x1b", "3"], [number("<PROBLEMS>", "?", 1, 50), MAKE]),
+    ("farm", ["serve", "c", "--port", "0", "--lanes", "1", "--address", "::1\n"],
+     ["error: invalid value '::1?' for '--address <ADDRESS>': wanted is an IPv4 or IPv6 address, as 0.0.0.0 or ::1", SERVE, MORE]),
+    ("farm", ["host", "a", "--port", "1", "--name", "h\t", "--fuel", "1"],
+     ["error: invalid value 'h?' for '--name <NAME>': wanted are 1 to 32 letters, digits, '_' and '-'", HOST, MORE]),
+    ("farm", ["host", "a", "--port", "1", "--name", "h", "--fuel", "1", "--user", "u\x1b[31mv", "--password-file", "p"],
+     ["error: invalid value 'u?[31mv' for '--user <USER>': wanted is a name without ':' and without control characters", HOST, MORE]),
     ("rvrun", [], ["error: the following required arguments were not provided:", "  <IMAGE>", "Usage: rvrun <IMAGE>", MORE]),
     ("rvrun", ["image", "--pages", "x"], [number("--pages <N>", "x", 0, 4294967295), RVRUN, MORE]),
     ("rvrun", ["image", "--pages=01"], [number("--pages <N>", "01", 0, 4294967295), RVRUN, MORE]),
@@ -120,14 +133,21 @@ WRONG = [
     ("rvrun", ["image", "--pages", "1", "--pages", "1"], ["error: the argument '--pages <N>' cannot be used multiple times", RVRUN, MORE]),
     ("rvrun", ["image", "other"], ["error: unexpected argument 'other' found", RVRUN, MORE]),
     ("rvrun", ["--page", "1", "image"], ["error: unexpected argument '--page' found", "  tip: a similar argument exists: '--pages'"]),
+    ("rvrun", ["image", "--pages", "\x1b[31m"], [number("--pages <N>", "?[31m", 0, 4294967295), RVRUN, MORE]),
+    ("rvrun", ["image", "other\nerror: none"], ["error: unexpected argument 'other?error: none' found", RVRUN, MORE]),
+    ("rvrun", ["image", "--pages=-\x1b[31m"], ["error: invalid value '-?[31m' in '--pages=-?[31m': a value is not empty and does not begin with '-'", RVRUN, MORE]),
     ("validate", [], ["error: the following required arguments were not provided:", "  <INPUT>", "  <ANSWER>", "  <FEEDBACK_FOLDER>", VALIDATE, MORE]),
     ("validate", ["a", "b"], ["error: the following required arguments were not provided:", "  <FEEDBACK_FOLDER>", VALIDATE, MORE]),
     ("validate", ["a", "", "c"], ["error: an empty word found, and none is taken", VALIDATE, MORE]),
     ("validate", ["a", "-", "c"], ["error: unexpected argument '-' found", VALIDATE, MORE]),
     ("validate", ["--helps"], ["error: unexpected argument '--helps' found", "  tip: a similar argument exists: '--help'"]),
+    ("validate", ["--\x1b[31m"], ["error: unexpected argument '--?[31m' found"]),
+    ("validate", ["a", "--x=-\x1b[31m", "c"], ["error: unexpected argument '--x' found"]),
     ("package_info", [], ["error: the following required arguments were not provided:", "  <FOLDER>", PACKAGE_INFO, MORE]),
     ("package_info", [""], ["error: an empty word found, and none is taken", PACKAGE_INFO, MORE]),
     ("package_info", ["a", "b"], ["error: unexpected argument 'b' found", PACKAGE_INFO, MORE]),
+    ("package_info", ["a", "b\x1b[31m"], ["error: unexpected argument 'b?[31m' found", PACKAGE_INFO, MORE]),
+    ("package_info", ["--\u009b31m", "a"], ["error: unexpected argument '--?31m' found", PACKAGE_INFO, MORE]),
     ("package_info", ["--notes", "a"], ["error: unexpected argument '--notes' found", PACKAGE_INFO, MORE]),
 ]
 
@@ -143,6 +163,8 @@ def fault_of(done, status, said, other, lines):
         return f"status {done.returncode}, said {said!r}"
     if other:
         return f"wrote {other[:200]!r}"
+    if any(character in said.decode() for character in "\x1b\x07\t\x9b"):
+        return f"a control character in {said!r}"
     lacking = [line for line in lines if line not in said.decode().split("\n")]
     return f"lacks {lacking} in {said.decode()!r}" if lacking else None
 
