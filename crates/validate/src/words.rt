@@ -1,6 +1,6 @@
 //! The words of `validate`.
-use clap::{Arg, Command as Grammar};
-use command_line::{ProgramWords, VERSION, read_program};
+use clap::Arg;
+use command_line::{Grammar, ProgramWords, VERSION, read_program};
 use std::alloc::{AllocError, Global};
 
 /// What is judged: the path of a test's answer, where to say why an output is not accepted, and the flags.
@@ -33,8 +33,7 @@ why), 1 judge's error, 2 usage.";
 /// Reads the program's words: the paths of a test's input and answer and of the feedback folder, and the words of the
 /// flags, which may be any.
 pub fn read_words<'a>(alloc: Global, words: &'a [String]) -> Result<Asked<'a>, AllocError> {
-    let mut program = grammar(alloc)?;
-    match read_program(alloc, &mut program, words, 3)? {
+    match read_program::<ValidateWords>(alloc, words, 3)? {
         ProgramWords::Found(_) => {}
         ProgramWords::Help(text) => return Ok(Asked::Help(text)),
         ProgramWords::Wrong(text) => return Ok(Asked::Wrong(text)),
@@ -46,38 +45,44 @@ pub fn read_words<'a>(alloc: Global, words: &'a [String]) -> Result<Asked<'a>, A
             flags,
         })),
         // The grammar has found three operands.
-        _ => Ok(Asked::Wrong(program.render_usage()?)),
+        _ => Ok(Asked::Wrong(ValidateWords::grammar(alloc)?.render_usage()?)),
     }
 }
 
-/// `validate INPUT ANSWER FEEDBACK_FOLDER [FLAGS ..]`
-fn grammar<'a>(alloc: Global) -> Result<Grammar<'a>, AllocError> {
-    let flags = Arg::new(alloc, "flags")
-        .value_name("FLAGS")
-        .num_args(0..)
-        .trailing_var_arg(true)
-        .allow_hyphen_values(true)
-        .help("Words of flags, as they stand behind validator_flags in problem.yaml");
-    Grammar::new(alloc, "validate")
-        .version(VERSION)
-        .about(
-            "Compares a team's output with the answer of a test, as Kattis' default output validator does",
-        )
-        .after_help(REMARKS)
-        .arg(operand(
-            alloc,
-            "input",
-            "INPUT",
-            "The test's input, which is not looked at",
-        ))?
-        .arg(operand(alloc, "answer", "ANSWER", "The test's answer"))?
-        .arg(operand(
-            alloc,
-            "feedback",
-            "FEEDBACK_FOLDER",
-            "Where judgemessage.txt says why an output is not accepted",
-        ))?
-        .arg(flags)
+/// The words of `validate`.
+struct ValidateWords;
+
+impl Grammar for ValidateWords {
+    /// `validate INPUT ANSWER FEEDBACK_FOLDER [FLAGS ..]`
+    fn grammar<'g>(alloc: Global) -> Result<clap::Command<'g>, AllocError> {
+        let flags = Arg::new(alloc, "flags")
+            .value_name("FLAGS")
+            .num_args(0..)
+            .trailing_var_arg(true)
+            .allow_hyphen_values(true)
+            .help("Words of flags, as they stand behind validator_flags in problem.yaml");
+        clap::Command::new(alloc, "validate")
+            .bin_name("validate")?
+            .version(VERSION)
+            .about(
+                "Compares a team's output with the answer of a test, as Kattis' default output validator does",
+            )
+            .after_help(REMARKS)
+            .arg(operand(
+                alloc,
+                "input",
+                "INPUT",
+                "The test's input, which is not looked at",
+            ))?
+            .arg(operand(alloc, "answer", "ANSWER", "The test's answer"))?
+            .arg(operand(
+                alloc,
+                "feedback",
+                "FEEDBACK_FOLDER",
+                "Where judgemessage.txt says why an output is not accepted",
+            ))?
+            .arg(flags)
+    }
 }
 
 /// A word, which has to be there.
