@@ -42,11 +42,12 @@ pub serve_ends : {N M : Type 0} (files : Option (List TreeFile)) (folder : List 
     → unread → ServeEnds files folder (listening_of address port patience' until_input_ends) lanes' connections' door old.held new.held unwritten e
     → IfSome command (λ command. CommandEnds files command door link store old new unread unwritten e)
 serve_ends files folder address port lanes connections patience lanes' connections' patience' until_input_ends command door link store old new unread unwritten e is lane count wait same ends =
-    subst (λ (o : Option CommandValue). IfSome o (λ command. CommandEnds files command door link store old new unread unwritten e)) is
-    (same,
+    subst (λ (o : Option CommandValue). IfSome o (λ command. CommandEnds files command door link store old new unread unwritten e)) is (
+      same,
       subst (λ (z : ℕ). ServeEnds files folder (listening_of address port patience until_input_ends) z connections door old.held new.held unwritten e) lane
-      (subst (λ (z : ℕ). ServeEnds files folder (listening_of address port patience until_input_ends) lanes' z door old.held new.held unwritten e) count
-      (subst (λ (z : ℕ). ServeEnds files folder (listening_of address port z until_input_ends) lanes' connections' door old.held new.held unwritten e) wait ends)))
+          (subst (λ (z : ℕ). ServeEnds files folder (listening_of address port patience until_input_ends) lanes' z door old.held new.held unwritten e) count
+          (subst (λ (z : ℕ). ServeEnds files folder (listening_of address port z until_input_ends) lanes' connections' door old.held new.held unwritten e) wait ends)),
+    )
 
 pub unserved : {N : Type 0} (files : Option (List TreeFile)) (folder : List ℕ) (at : Listening) (lanes connections : ℕ) (door : DoorUse N) (held held' : Option (List ℕ)) (unwritten : Type 0) (e : Exit)
     → IsUnasked door → NoContestEnds files folder held held' unwritten e → ServeEnds files folder at lanes connections door held held' unwritten e

@@ -180,9 +180,7 @@ fn work<K: Sink, G: Gate, N: Link, Q: Pause, P: Person>(
         posts,
     } = work_over(alloc, conn, caller, &runner, gate, pause, u64::from(fuel));
     link.give_back(conn);
-    if let Some(wrong) = wrong {
-        tell_answer(alloc, address, port, last, wrong, has_login, person);
-    }
+    tell_answer(alloc, address, port, last, wrong, has_login, person);
     tell(alloc, name, claims, posts, wrong, end, out)
 }
 

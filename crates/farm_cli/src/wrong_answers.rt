@@ -78,16 +78,20 @@ fn answer_text(
     format!(in alloc; "a wrong answer from port {port} of {address} to {request}: {reason}")
 }
 
-/// Tells a person of the wrong answer to a request. Where no memory is left to say which it was, only that it came is told.
+/// Tells a person of the wrong answer to a request, if one came. Where no memory is left to say which it was, only that it
+/// came is told.
 pub(crate) fn tell_answer<P: Person>(
     alloc: Global,
     address: &str,
     port: u16,
     request: Ask,
-    wrong: Wrong,
+    wrong: Option<Wrong>,
     has_login: bool,
     person: &mut P,
 ) {
+    let Some(wrong) = wrong else {
+        return;
+    };
     match answer_text(alloc, address, port, request, wrong, has_login) {
         Ok(line) => person.refuses(line.as_str()),
         Err(_) => person.refuses("a wrong answer from the server"),
