@@ -1,6 +1,6 @@
 //! The words of `rvrun`.
 use clap::{Arg, ArgMatches, Command};
-use command_line::{ProgramWords, VERSION, no_number, number_from, read_program};
+use command_line::{Grammar, ProgramWords, VERSION, no_number, number_from, read_program};
 use farm_kinds::Limits;
 use std::alloc::{AllocError, Global};
 
@@ -55,21 +55,16 @@ its output not be written; 2 usage.";
 
 /// Reads the program's words: the path of an image, and options.
 pub fn read_words<'a>(alloc: Global, words: &'a [String]) -> Result<Asked<'a>, AllocError> {
-    let mut program = grammar(alloc)?;
-    let found = match read_program(alloc, &mut program, words, words.len())? {
+    let found = match read_program::<RunWords>(alloc, words, words.len())? {
         ProgramWords::Found(found) => found,
         ProgramWords::Help(text) => return Ok(Asked::Help(text)),
         ProgramWords::Wrong(text) => return Ok(Asked::Wrong(text)),
     };
-    run_of(alloc, &mut program, &found)
+    run_of(alloc, &found)
 }
 
 /// The run that was found, where its numbers are in range.
-fn run_of<'a>(
-    alloc: Global,
-    program: &mut Command<'a>,
-    found: &ArgMatches<'a>,
-) -> Result<Asked<'a>, AllocError> {
+fn run_of<'a>(alloc: Global, found: &ArgMatches<'a>) -> Result<Asked<'a>, AllocError> {
     let instructions = limit(found, "instructions", STANDARD.instructions, u64::MAX);
     let pages = small(limit(found, "pages", STANDARD.pages as u64, u32::MAX as u64));
     let output = small(limit(found, "output", STANDARD.output as u64, u32::MAX as u64));
@@ -83,9 +78,9 @@ fn run_of<'a>(
             },
             check: check_of(found),
         })),
-        (_, None, _, _) => refused(alloc, program, found, "instructions", u64::MAX),
-        (_, _, None, _) => refused(alloc, program, found, "pages", u32::MAX as u64),
-        _ => refused(alloc, program, found, "output", u32::MAX as u64),
+        (_, None, _, _) => refused(alloc, found, "instructions", u64::MAX),
+        (_, _, None, _) => refused(alloc, found, "pages", u32::MAX as u64),
+        _ => refused(alloc, found, "output", u32::MAX as u64),
     }
 }
 
@@ -101,14 +96,13 @@ fn check_of<'a>(found: &ArgMatches<'a>) -> Option<Checked<'a>> {
 /// What is said of an option whose value is no number up to the most.
 fn refused<'a>(
     alloc: Global,
-    program: &mut Command<'a>,
     found: &ArgMatches<'a>,
     id: &str,
     most: u64,
 ) -> Result<Asked<'a>, AllocError> {
     let value = found.get_str(id).unwrap_or("");
     let option = format!(in alloc; "--{id} <N>")?;
-    let text = no_number(alloc, program, option.as_str(), value, 0, most)?;
+    let text = no_number::<RunWords>(alloc, option.as_str(), value, 0, most)?;
     Ok(Asked::Wrong(text))
 }
 
@@ -125,52 +119,58 @@ fn small(number: Option<u64>) -> Option<u32> {
     u32::try_from(number?).ok()
 }
 
-/// `rvrun [--instructions N] [--pages N] [--output N] [--answer FILE [--validator IMAGE] [--flags TEXT]] IMAGE`
-fn grammar<'a>(alloc: Global) -> Result<Command<'a>, AllocError> {
-    let image = Arg::new(alloc, "image")
-        .required(true)
-        .value_name("IMAGE")
-        .help("An ELF32 executable for RISC-V or a raw RV32IM image, at most 1048576 bytes");
-    Command::new(alloc, "rvrun")
-        .version(VERSION)
-        .about("Runs an RV32IM image on standard input, within limits")
-        .after_help(REMARKS)
-        .arg(image)?
-        .arg(option(
-            alloc,
-            "instructions",
-            "How many instructions it may cost, 0 to 18446744073709551615; standard 10000000000",
-        ))?
-        .arg(option(
-            alloc,
-            "pages",
-            "How many pages of 4096 bytes it may touch, 0 to 4294967295; standard 16384",
-        ))?
-        .arg(option(
-            alloc,
-            "output",
-            "How many bytes it may write, 0 to 4294967295; standard 16777216",
-        ))?
-        .arg(file(
-            alloc,
-            "answer",
-            "FILE",
-            "The judge's answer, by which the output is checked",
-        ))?
-        .arg(file(
-            alloc,
-            "validator",
-            "IMAGE",
-            "A raw image that checks the output, in place of the default validator",
-        )
-        .requires_arg("answer")?)?
-        .arg(file(
-            alloc,
-            "flags",
-            "TEXT",
-            "The validator's flags, as validator_flags has them",
-        )
-        .requires_arg("answer")?)
+/// The words of `rvrun`.
+struct RunWords;
+
+impl Grammar for RunWords {
+    /// `rvrun [--instructions N] [--pages N] [--output N] [--answer FILE [--validator IMAGE] [--flags TEXT]] IMAGE`
+    fn grammar<'g>(alloc: Global) -> Result<Command<'g>, AllocError> {
+        let image = Arg::new(alloc, "image")
+            .required(true)
+            .value_name("IMAGE")
+            .help("An ELF32 executable for RISC-V or a raw RV32IM image, at most 1048576 bytes");
+        Command::new(alloc, "rvrun")
+            .bin_name("rvrun")?
+            .version(VERSION)
+            .about("Runs an RV32IM image on standard input, within limits")
+            .after_help(REMARKS)
+            .arg(image)?
+            .arg(option(
+                alloc,
+                "instructions",
+                "How many instructions it may cost, 0 to 18446744073709551615; standard 10000000000",
+            ))?
+            .arg(option(
+                alloc,
+                "pages",
+                "How many pages of 4096 bytes it may touch, 0 to 4294967295; standard 16384",
+            ))?
+            .arg(option(
+                alloc,
+                "output",
+                "How many bytes it may write, 0 to 4294967295; standard 16777216",
+            ))?
+            .arg(file(
+                alloc,
+                "answer",
+                "FILE",
+                "The judge's answer, by which the output is checked",
+            ))?
+            .arg(file(
+                alloc,
+                "validator",
+                "IMAGE",
+                "A raw image that checks the output, in place of the default validator",
+            )
+            .requires_arg("answer")?)?
+            .arg(file(
+                alloc,
+                "flags",
+                "TEXT",
+                "The validator's flags, as validator_flags has them",
+            )
+            .requires_arg("answer")?)
+    }
 }
 
 /// `--NAME N`
