@@ -30,9 +30,11 @@ const ROWS: &str = concat!(
     "c/problems/notes.txt= => \n",
     "c/farm.json={\"problem_modes\":{\"echoo\":\"full\"}} => note: farm.json: problem_modes: there is no problem \"echoo\" in problems/~\n",
     "c/farm.json={\"problem_modes\":{\"echo\":\"full\"}} => \n",
+    "c/farm.json={\"problem_modes\":{\"add\":\"full\",\"echo\":\"lazy\",\"zoo\":\"lazy\"}} => note: farm.json: problem_modes: there is no problem \"add\" in problems/~note: farm.json: problem_modes: there is no problem \"zoo\" in problems/~\n",
     "c/submissions/a.rv32=print(7)~ => note: submission 1: submissions/a.rv32 is text, and nothing is compiled here; it is a compiler-error~\n",
     "c/submissions/a.rv32=#7f454c46 => note: submission 1: submissions/a.rv32 is an ELF file that is cut off in its header; it is a compiler-error~\n",
     "c/submissions/unlisted= => \n",
+    "c/submissions/a.rv32= => note: submission 1: submissions/a.rv32 is empty; it is a compiler-error~\n",
     // why it is no contest
     "c/farm.json={\"leese\":7} => refused: c is no contest: farm.json: no setting, kind of result or problem can have the key \"leese\"; nothing was judged~\n",
     "c/problems/echo/problem.yaml=limits:~  memory: many~ => refused: c is no contest: problem echo: problem.yaml line 2: memory is no whole number of MiB from 1 to 1000000; nothing was judged~\n",
