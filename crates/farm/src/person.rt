@@ -1,4 +1,4 @@
-//! What a person is told while a command is carried out, on standard error.
+//! What a person is told while a command is carried out, and of its end, on standard error.
 //!
 //! Where standard error cannot be written, nobody can be told.
 use crate::progress::Meter;
