@@ -11,6 +11,8 @@ mod door_tests;
 #[cfg(test)]
 mod farm_io_tests;
 #[cfg(test)]
+mod feed_tests;
+#[cfg(test)]
 mod http_door_tests;
 #[cfg(test)]
 mod judge_server_tests;

@@ -3,9 +3,10 @@ ghost use Rattle.std.specs.Prelude.{◌≡◌, ℕ, None, ⊤};
 use crate::talks::{check_bytes, check_end, conn_of, end_told, said};
 use command_text::write_event;
 use contest_page::ContestView;
-use farm_io::{FixedClock, ReliableConn};
+use farm_io::{FixedClock, ReliableConn, Sink};
 use farm_kinds::{Answer, Answers, Event, Kind, NoMemory, Reply, Text};
-use judge_server::{ConnEnd, Paths, Replier, serve_on};
+use http_door::ResponseFault;
+use judge_server::{ConnEnd, Paths, Replier, put_look, serve_on};
 use std::alloc::Global;
 use std::process::Abort;
 use std::test::Fail;
@@ -66,6 +67,17 @@ impl Replier for Differing {
             return Reply::NoMemory;
         }
         Reply::Board { rows }
+    }
+
+    fn show<K: Sink>(
+        &self,
+        alloc: Global,
+        state: &mut Asked,
+        closing: bool,
+        sink: &mut K,
+    ) -> Result<(), ResponseFault> {
+        let look = self.look(alloc, state);
+        put_look(alloc, sink, closing, &look)
     }
 
     fn job(
