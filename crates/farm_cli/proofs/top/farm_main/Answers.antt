@@ -82,3 +82,6 @@ returns-in_default-clause-usage g c = (λ is. let no : exit.Memory ≡ exit.Usag
 
 pub returns-in_default-clause-silent : goal.returns-in_default-clause-silent
 returns-in_default-clause-silent g c = λ none. (refl, refl, refl, refl, refl, refl)
+
+pub returns-in_default-command-clause-silent : goal.returns-in_default-command-clause-silent
+returns-in_default-command-clause-silent g c = λ none. (refl, refl, refl, refl, refl, refl)
