@@ -13,3 +13,6 @@ returns-in-Ok-clause-note g c = λ files told.
     let answer : Ok bytes ≡ read_answer (file_at files path) = search rules in
     let note : c.in_ok-program_note-in-Ok.field-0 ≡ program_note c.args.number.now c.args.file.now bytes = search rules in
     note ∙ sym (ap (option_and_then (program_note c.args.number.now c.args.file.now)) (ap (file_at files) (sym named) ∙ read_ok (file_at files path) bytes answer))
+
+pub returns-in-Err-TooLarge-clause-note : goal.returns-in-Err-TooLarge-clause-note
+returns-in-Err-TooLarge-clause-note c = search rules
