@@ -25,5 +25,5 @@ pub use outcomes::{
     Answer, AskEnd, Claim, Class, Count, Fetched, How, MatrixRow, Mode, NamedMode, NoMemory,
     ProblemMode, Renewed, TableRow, Task, Verdict,
 };
-pub use rules::{Rule, RuleFault, verdict, verdict_with};
+pub use rules::{Rule, RuleFault, verdict};
 pub use worked::{worked_images, worked_kinds, worked_names, worked_rules, worked_verdicts};

@@ -1,4 +1,4 @@
-ghost use Rattle.std.specs.Prelude.{◌≡◌, slice_index, ◌++◌, ◌∷◌, [], List, ◌≤◌, ◌<◌, IfOk};
+ghost use Rattle.std.specs.Prelude.{◌≡◌, slice_index, ◌≤◌, ◌<◌, IfOk};
 ghost use Rattle.std.specs.Option.{option_map};
 ghost use Rattle.std.specs.Result.{result_err};
 ghost use Rattle.farm_kinds.specs.declared.kinds.Kind.{Kind};
@@ -113,14 +113,6 @@ pub fn verdict(rule: &Rule, kinds: &[Kind]) -> Option<Kind>
         best = Some(better(rule, best, *kind));
     }
     best
-}
-
-/// The verdict of one kind more, from the verdict of those before it.
-#[tactic(auto, using(crate::proofs::Greatest::verdict_push))]
-pub fn verdict_with(rule: &Rule, best: Option<Kind>, next: Kind) -> Kind
-    ensures { (kinds : List Kind) → best ≡ verdict_of rule.now kinds → Some result ≡ verdict_of rule.now (kinds ++ next ∷ []) }
-{
-    better(rule, best, next)
 }
 
 /// The best so far, or the next kind where its priority is greater.

@@ -49,7 +49,7 @@ impl Tests {
         Tests { tests }
     }
 
-    /// Gives the tests back, without taking memory.
+    /// Gives the tests back, without taking memory: the other half of `from_vec`, as each list type has it.
     pub fn into_vec(self) -> Vec<Test>
         ensures { result.items ≡ self }
     {
