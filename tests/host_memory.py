@@ -5,7 +5,7 @@
 
 PROGRAM is the built program, `crates/farm/out/farm` of this repository if none is given. A host has a talk of one task, with the
 n-th allocation refused in the n-th run, until a run asks for fewer; then the same with a user and a password. Wanted is each time that it ends as without, or with status 6
-(or 10, where there is no memory for the connection), nothing on standard output, and a front of its requests.
+(or 10, where there is no memory for the connection), nothing on standard output, and a prefix of its requests.
 """
 
 import os

@@ -5,8 +5,8 @@
 
 PROGRAM is the built program, `crates/farm/out/farm` of this repository if none is given. A host comes up, asks for a task and
 gives its result, over one connection, with the n-th allocation refused in the n-th run, until a run asks for fewer. Wanted
-is, each time, one of these: all goes as without; the connection ends with `memory` behind a front of the responses, and the
-board is written; the program ends with status 6 and a front of what it would have written; or it ends with status 8, since
+is, each time, one of these: all goes as without; the connection ends with `memory` behind a prefix of the responses, and the
+board is written; the program ends with status 6 and a prefix of what it would have written; or it ends with status 8, since
 there is no memory for the connection.
 """
 

@@ -322,7 +322,7 @@ class Killed:
         time.sleep(self.draw.choice([0, self.draw.random() * 0.002]))
         text, said = client.kill()
         now = held(read(self.store) if os.path.exists(self.store) else b"")[0]
-        # what the client read is a front of the replies, and each event to whose reply a part of it belongs is held
+        # what the client read is a prefix of the replies, and each event to whose reply a part of it belongs is held
         wanted, count, reached = b"", self.first, self.at
         while len(wanted) < len(text) and reached < len(self.lines):
             wanted += text_of(self.replies[reached])

@@ -10,7 +10,7 @@ moments of the disk are computed here: a write is pending until the next sync. A
 any length from the synced one to the greatest that was written; of these a family is taken: each length, and in what is pending
 the old bytes, the new ones, zeros, ones, random bytes, and old and new ones mixed.
 
-Each image is opened by the program, which answers questions about its farm. Wanted is that it holds a front of the events that are
+Each image is opened by the program, which answers questions about its farm. Wanted is that it holds a prefix of the events that are
 stored, with each to whose line a part of the reply was put before the crash, and that the answers and the file that the opening
 leaves are those of the model of the farm and of stores (`farm_model.py`, `store.py`), which were written apart from the program.
 Some images are played on to the end of their script, and some are crashed again while they are opened. Where a first opening was
@@ -18,7 +18,7 @@ crashed, so that the gate is neither 0 nor 1, and the next one too, the file may
 answered by then, and nothing is written to it.
 
 A rejudging is taken at every moment with every image, and random scripts with IMAGES images, 3,000 if not said. Besides, each
-write and each sync of the rejudging fails in turn: wanted is status 12 with a front of the replies, no call of the disk behind the
+write and each sync of the rejudging fails in turn: wanted is status 12 with a prefix of the replies, no call of the disk behind the
 one that failed, and a store that holds each event that was answered. The status is 1 where something else than is wanted was seen.
 """
 

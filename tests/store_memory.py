@@ -4,7 +4,7 @@
     tests/store_memory.py [PROGRAM]
 
 PROGRAM is the built program, `crates/farm/out/farm` of this repository if none is given. Wanted is each time status 0 with all
-that is to be written, or status 6 (12 where there is no memory for the file's path) with a front of it; and that the store can be
+that is to be written, or status 6 (12 where there is no memory for the file's path) with a prefix of it; and that the store can be
 opened then, and holds each event that was acknowledged.
 """
 
@@ -46,7 +46,7 @@ def measure(program, library, folder, name):
     whole = text_of(reply for line in replies for reply in line)
 
     def played(got):
-        """The replies are a front, what was acknowledged is held, and the store opens."""
+        """The replies are a prefix, what was acknowledged is held, and the store opens."""
         text, count = b"", 1
         for at in range(len(lines)):
             if len(text) >= len(got[1]):

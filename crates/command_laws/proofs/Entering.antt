@@ -16,23 +16,23 @@ use Rattle.command_laws.proofs.Walks.{walk_at, rows_on, fault_on, Knows, At, ite
 abbrev stopped_at : List ℕ → List (List ℕ) → Walk
 stopped_at name words = record (walk_from nothing_held) { stopped = Some (name, words) }
 
-after_stop : (c : List Rule) (names : Names) (name : List ℕ) (front rest : List (List ℕ)) → fold (walked c names) (stopped_at name front) rest ≡ stopped_at name (front ++ rest)
+after_stop : (c : List Rule) (names : Names) (name : List ℕ) (prefix rest : List (List ℕ)) → fold (walked c names) (stopped_at name prefix) rest ≡ stopped_at name (prefix ++ rest)
 unfolding walked
-after_stop c names name front [] = ap (stopped_at name) (sym (nothing front))
+after_stop c names name prefix [] = ap (stopped_at name) (sym (nothing prefix))
   where
     nothing : (xs : List (List ℕ)) → xs ++ [] ≡ xs
     nothing [] = refl
     nothing (x ∷ xs) = ap (λ (z : List (List ℕ)). x ∷ z) (nothing xs)
-after_stop c names name front (word ∷ rest) = after_stop c names name (front ++ word ∷ []) rest ∙ ap (stopped_at name) (regroup front)
+after_stop c names name prefix (word ∷ rest) = after_stop c names name (prefix ++ word ∷ []) rest ∙ ap (stopped_at name) (regroup prefix)
   where
     regroup : (xs : List (List ℕ)) → (xs ++ word ∷ []) ++ rest ≡ xs ++ word ∷ rest
     regroup [] = refl
     regroup (x ∷ xs) = ap (λ (z : List (List ℕ)). x ∷ z) (regroup xs)
 
-no_fault_after : (s : Shape) (names : Names) (name : List ℕ) (front rest : List (List ℕ)) → walk_fault s names (stopped_at name front) rest ≡ []
+no_fault_after : (s : Shape) (names : Names) (name : List ℕ) (prefix rest : List (List ℕ)) → walk_fault s names (stopped_at name prefix) rest ≡ []
 unfolding walk_fault walked
-no_fault_after s names name front [] = refl
-no_fault_after s names name front (word ∷ rest) = no_fault_after s names name (front ++ word ∷ []) rest
+no_fault_after s names name prefix [] = refl
+no_fault_after s names name prefix (word ∷ rest) = no_fault_after s names name (prefix ++ word ∷ []) rest
 
 -- the name leads into the command of this shape
 pub record Enters (a : App) (name : List ℕ) (s : Shape) : Type 0 where

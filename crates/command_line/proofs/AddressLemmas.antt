@@ -30,13 +30,13 @@ colon_hex_read text segments spells = rw append-nil at (read_ipv6_complete text 
 
 read_dotted : (text octets : List ℕ) → read_ipv4 text ≡ Some (octets, []) → IsDotted text octets
 read_dotted text octets read =
-    let (front, split, spells) = read_ipv4_sound text octets [] read in
-    subst (λ t. IsDotted t octets) (sym (split ∙ append-nil front)) spells
+    let (prefix, split, spells) = read_ipv4_sound text octets [] read in
+    subst (λ t. IsDotted t octets) (sym (split ∙ append-nil prefix)) spells
 
 read_colon_hex : (text segments : List ℕ) → read_ipv6 text ≡ Some (segments, []) → IsColonHex text segments
 read_colon_hex text segments read =
-    let (front, split, spells) = read_ipv6_sound text segments [] read in
-    subst (λ t. IsColonHex t segments) (sym (split ∙ append-nil front)) spells
+    let (prefix, split, spells) = read_ipv6_sound text segments [] read in
+    subst (λ t. IsColonHex t segments) (sym (split ∙ append-nil prefix)) spells
 
 no_dotted : (text : List ℕ) → ((octets : List ℕ) → IsDotted text octets → ⊥) → whole_value (read_ipv4 text) ≡ None
 no_dotted text never = not_whole (read_ipv4 text) (λ octets read. never octets (read_dotted text octets read))

@@ -19,12 +19,12 @@ same_then {A} {B} first defined next result e h = subst (λ (r : Result A Contes
 
 -- what was read, and then the rest
 abbrev pub behind : {A : Type 0} → List A → Result (List A) ContestFault → Result (List A) ContestFault
-behind front rest = and_then (λ items. Ok (front ++ items)) rest
+behind prefix rest = and_then (λ items. Ok (prefix ++ items)) rest
 
 pub behind_none : {A : Type 0} (r : Result (List A) ContestFault) → behind [] r ≡ r
 behind_none (Ok items) = refl
 behind_none (Err e) = refl
 
-pub behind_more : {A : Type 0} (front : List A) (a : A) (r : Result (List A) ContestFault) → behind front (with_first a r) ≡ behind (front ++ a ∷ []) r
-behind_more front a (Ok items) = ap Ok (sym (append_assoc front (a ∷ []) items))
-behind_more front a (Err e) = refl
+pub behind_more : {A : Type 0} (prefix : List A) (a : A) (r : Result (List A) ContestFault) → behind prefix (with_first a r) ≡ behind (prefix ++ a ∷ []) r
+behind_more prefix a (Ok items) = ap Ok (sym (append_assoc prefix (a ∷ []) items))
+behind_more prefix a (Err e) = refl

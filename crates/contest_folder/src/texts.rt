@@ -115,19 +115,19 @@ fn push_line(text: &mut Vec<u8>, line: u32, wrong: &[u8]) -> Result<(), NoMemory
 }
 
 /// Puts words and a number behind what is there.
-fn push_counted(text: &mut Vec<u8>, front: &[u8], count: u64) -> Result<(), NoMemory>
-    ensures { OnOk result (text.new.items ≡ text.old.items ++ (front.now ++ decimal count)) }
+fn push_counted(text: &mut Vec<u8>, prefix: &[u8], count: u64) -> Result<(), NoMemory>
+    ensures { OnOk result (text.new.items ≡ text.old.items ++ (prefix.now ++ decimal count)) }
 {
-    push(text, front)?;
+    push(text, prefix)?;
     let mut buffer = Buffer::new();
     push(text, buffer.format(count).as_bytes())
 }
 
 /// Puts words and a name behind what is there, in which each control character is `?`.
-fn push_named(text: &mut Vec<u8>, front: &[u8], name: &[u8]) -> Result<(), NoMemory>
-    ensures { OnOk result (text.new.items ≡ text.old.items ++ (front.now ++ printed name.now)) }
+fn push_named(text: &mut Vec<u8>, prefix: &[u8], name: &[u8]) -> Result<(), NoMemory>
+    ensures { OnOk result (text.new.items ≡ text.old.items ++ (prefix.now ++ printed name.now)) }
 {
-    push(text, front)?;
+    push(text, prefix)?;
     for b in name {
         text.push(printed(*b)).map_err(|_| NoMemory)?;
     }

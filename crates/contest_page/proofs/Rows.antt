@@ -6,7 +6,7 @@ use Rattle.serde_json.specs.Data.{string}
 use Rattle.serde_json.specs.View.{view}
 use Rattle.serde_json.specs.declared.value.Value.{Value}
 use Rattle.farm_kinds.specs.declared.outcomes.Answer.{Answer}
-use Rattle.contest_page.specs.declared.view.Entry.{Entry}
+use Rattle.contest_page.specs.declared.view.SubmissionRow.{SubmissionRow}
 use Rattle.contest_page.specs.Page.{row_at, rows_from}
 use Rattle.contest_page.specs.Views.{entry_row, entry_rows}
 
@@ -17,7 +17,7 @@ names_more values value names i d h before this =
     rw (map-append view values (value ∷ []), before, take_more names i d h, map-append string (take i names) (get_or names i d ∷ []))
     (ap (λ v. map string (take i names) ++ v ∷ []) this)
 
-entries-push : (n : ℕ) (entries : List Entry) (next : Entry) → entry_rows n (entries ++ next ∷ []) ≡ entry_rows n entries ++ entry_row (n + length entries) next ∷ []
+entries-push : (n : ℕ) (entries : List SubmissionRow) (next : SubmissionRow) → entry_rows n (entries ++ next ∷ []) ≡ entry_rows n entries ++ entry_row (n + length entries) next ∷ []
 entries-push n [] next =
     let none : n ≡ n + 0 = omega arith in
     ap (λ m. entry_row m next ∷ []) none
@@ -26,7 +26,7 @@ entries-push n (e ∷ entries) next =
     ap (λ t. entry_row n e ∷ t) (entries-push (n + 1) entries next ∙ ap (λ m. entry_rows (n + 1) entries ++ entry_row m next ∷ []) step)
 
 -- one submission more
-pub entries_more : (rows : List Value) (row : Value) (entries : List Entry) (i : ℕ) (d : Entry) → i < length entries → map view rows ≡ entry_rows 1 (take i entries)
+pub entries_more : (rows : List Value) (row : Value) (entries : List SubmissionRow) (i : ℕ) (d : SubmissionRow) → i < length entries → map view rows ≡ entry_rows 1 (take i entries)
     → view row ≡ entry_row (i + 1) (get_or entries i d) → map view (rows ++ row ∷ []) ≡ entry_rows 1 (take (i + 1) entries)
 entries_more rows row entries i d h before this =
     let number : 1 + length (take i entries) ≡ i + 1 = omega (arith, length-take i entries) in
@@ -36,10 +36,10 @@ entries_more rows row entries i d h before this =
     rw (map-append view rows (row ∷ []), before, more) (ap (λ v. entry_rows 1 (take i entries) ++ v ∷ []) this)
 
 -- the row of the answer behind so many others
-abbrev row_behind : ℕ → List Entry → Answer → List ℕ
+abbrev row_behind : ℕ → List SubmissionRow → Answer → List ℕ
 row_behind n entries answer = row_at (n + 1) (slice_get entries n) answer
 
-rows-push : (n : ℕ) (entries : List Entry) (answers : List Answer) (next : Answer) → rows_from n entries (answers ++ next ∷ []) ≡ rows_from n entries answers ++ row_behind (n + length answers) entries next
+rows-push : (n : ℕ) (entries : List SubmissionRow) (answers : List Answer) (next : Answer) → rows_from n entries (answers ++ next ∷ []) ≡ rows_from n entries answers ++ row_behind (n + length answers) entries next
 rows-push n entries [] next =
     let none : n ≡ n + 0 = omega arith in
     append-nil (row_behind n entries next) ∙ ap (λ m. row_behind m entries next) none
@@ -49,7 +49,7 @@ rows-push n entries (a ∷ answers) next =
     ∙ sym (append_assoc (row_behind n entries a) (rows_from (n + 1) entries answers) (row_behind (n + length (a ∷ answers)) entries next))
 
 -- one row more of the page
-pub rows_more : (start page page' : List ℕ) (entries : List Entry) (answers : List Answer) (i : ℕ) (d : Answer) (entry : Option Entry) → i < length answers
+pub rows_more : (start page page' : List ℕ) (entries : List SubmissionRow) (answers : List Answer) (i : ℕ) (d : Answer) (entry : Option SubmissionRow) → i < length answers
     → page ≡ start ++ rows_from 0 entries (take i answers) → entry ≡ slice_get entries i → page' ≡ page ++ row_at (i + 1) entry (get_or answers i d)
     → page' ≡ start ++ rows_from 0 entries (take (i + 1) answers)
 rows_more start page page' entries answers i d entry h before it this =
@@ -59,4 +59,4 @@ rows_more start page page' entries answers i d entry h before it this =
     ap (rows_from 0 entries) (take_more answers i d h) ∙ rows-push 0 entries (take i answers) next
     ∙ ap (λ n. rows_from 0 entries (take i answers) ++ row_behind n entries next) number in
     this ∙ ap (λ (z : List ℕ). z ++ row_at (i + 1) entry next) before ∙ append_assoc start (rows_from 0 entries (take i answers)) (row_at (i + 1) entry next)
-    ∙ ap (λ (e : Option Entry). start ++ (rows_from 0 entries (take i answers) ++ row_at (i + 1) e next)) it ∙ ap (λ (z : List ℕ). start ++ z) (sym more)
+    ∙ ap (λ (e : Option SubmissionRow). start ++ (rows_from 0 entries (take i answers) ++ row_at (i + 1) e next)) it ∙ ap (λ (z : List ℕ). start ++ z) (sym more)

@@ -4,7 +4,7 @@ use Rattle.std.specs.Fmt.{decimal}
 use Rattle.std.specs.List.{slice_get}
 use Rattle.farm_kinds.specs.declared.outcomes.Answer.{Answer}
 use Rattle.farm_model.specs.Texts.{answer_text}
-use Rattle.contest_page.specs.declared.view.Entry.{Entry}
+use Rattle.contest_page.specs.declared.view.SubmissionRow.{SubmissionRow}
 use Rattle.contest_page.specs.declared.page.TheConstants.{BEFORE, BEHIND}
 use Rattle.contest_page.specs.ViewValue.{ViewValue}
 
@@ -24,16 +24,16 @@ row_with n team problem word =
     ++ (problem ++ (codes "</td><td class=\"" ++ (word ++ (codes "\">" ++ (word ++ codes "</td></tr>\n")))))))))
 
 -- the row of the submission of this number
-abbrev pub row_of : ℕ → Entry → Answer → List ℕ
+abbrev pub row_of : ℕ → SubmissionRow → Answer → List ℕ
 row_of n entry answer = row_with n (escaped entry.team) (escaped entry.problem) (answer_text answer)
 
 -- the same; there is none where it is not known whose it is
-abbrev pub row_at : ℕ → Option Entry → Answer → List ℕ
+abbrev pub row_at : ℕ → Option SubmissionRow → Answer → List ℕ
 row_at n None answer = []
 row_at n (Some entry) answer = row_of n entry answer
 
 -- a row for each answer, of which the first is behind so many others
-abbrev pub rows_from : ℕ → List Entry → List Answer → List ℕ
+abbrev pub rows_from : ℕ → List SubmissionRow → List Answer → List ℕ
 rows_from before entries [] = []
 rows_from before entries (answer ∷ answers) =
     row_at (before + 1) (slice_get entries before) answer ++ rows_from (before + 1) entries answers

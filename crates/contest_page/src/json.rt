@@ -3,7 +3,7 @@ ghost use Rattle.serde_json.specs.Data.{string};
 ghost use Rattle.serde_json.specs.View.{view};
 ghost use Rattle.contest_page.specs.Views.{entry_row, entry_rows, json_of_view, view_text};
 
-use crate::view::Entry;
+use crate::view::SubmissionRow;
 use farm_kinds::{Name, NoMemory, Text};
 use serde_json::{Value, json};
 use std::alloc::{AllocError, Global};
@@ -30,7 +30,7 @@ fn name_values(alloc: Global, names: &[Name]) -> Result<Vec<Value>, AllocError>
 }
 
 /// What is told of the submission of this number.
-fn entry_row(alloc: Global, number: usize, entry: &Entry) -> Result<Value, AllocError>
+fn entry_row(alloc: Global, number: usize, entry: &SubmissionRow) -> Result<Value, AllocError>
     ensures { IfOk result (λ v. view v ≡ entry_row number entry.now) }
 {
     let problem = name_text(&entry.problem);
@@ -40,7 +40,7 @@ fn entry_row(alloc: Global, number: usize, entry: &Entry) -> Result<Value, Alloc
 
 /// What is told of each submission, numbered from 1 on.
 #[tactic(auto, using(crate::proofs::Rows::entries_more))]
-fn entry_rows(alloc: Global, entries: &[Entry]) -> Result<Vec<Value>, AllocError>
+fn entry_rows(alloc: Global, entries: &[SubmissionRow]) -> Result<Vec<Value>, AllocError>
     ensures { IfOk result (λ rows. map view rows.items ≡ entry_rows 1 entries.now) }
 {
     let mut rows = Vec::new(alloc);
@@ -52,7 +52,11 @@ fn entry_rows(alloc: Global, entries: &[Entry]) -> Result<Vec<Value>, AllocError
 }
 
 /// The JSON of these problems and submissions.
-fn contest_value(alloc: Global, problems: &[Name], entries: &[Entry]) -> Result<Value, AllocError>
+fn contest_value(
+    alloc: Global,
+    problems: &[Name],
+    entries: &[SubmissionRow],
+) -> Result<Value, AllocError>
     ensures { IfOk result (λ v. view v ≡ json_of_view problems.now entries.now) }
 {
     let problems = name_values(alloc, problems)?;
@@ -65,7 +69,7 @@ fn contest_value(alloc: Global, problems: &[Name], entries: &[Entry]) -> Result<
 pub(crate) fn contest_json(
     alloc: Global,
     problems: &[Name],
-    entries: &[Entry],
+    entries: &[SubmissionRow],
 ) -> Result<Text, NoMemory>
     ensures { IfOk result (λ text. text ≡ view_text problems.now entries.now) }
 {

@@ -16,5 +16,5 @@ mod view;
 mod worked;
 
 pub use page::{BEFORE, BEHIND, write_page};
-pub use view::{ContestView, Entry, Shows};
+pub use view::{ContestView, Shows, SubmissionRow};
 pub use worked::{worked_json, worked_rows};

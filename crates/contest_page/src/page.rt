@@ -2,7 +2,7 @@ ghost use Rattle.std.specs.Prelude.{◌≡◌, ◌++◌, IfOk};
 ghost use Rattle.contest_page.specs.Page.{rows_from, page_text};
 
 use crate::table::push_rows;
-use crate::view::{ContestView, Entry};
+use crate::view::{ContestView, SubmissionRow};
 use farm_kinds::{Answer, NoMemory, Text};
 use std::alloc::Global;
 
@@ -142,7 +142,7 @@ refresh();
 fn page_with(
     alloc: Global,
     before: &str,
-    entries: &[Entry],
+    entries: &[SubmissionRow],
     answers: &[Answer],
     behind: &str,
 ) -> Result<Text, NoMemory>

@@ -3,7 +3,7 @@ ghost use Rattle.std.specs.List.{slice_get};
 ghost use Rattle.farm_model.specs.Texts.{answer_text, verdict_text};
 ghost use Rattle.contest_page.specs.Page.{escaped, row_with, row_of, row_at, rows_from};
 
-use crate::view::Entry;
+use crate::view::SubmissionRow;
 use farm_kinds::{Answer, Name, Verdict};
 use std::alloc::{AllocError, Global};
 use wire_json::name_text;
@@ -53,7 +53,12 @@ fn row_with(
 }
 
 /// The row of the submission of this number.
-fn row_of(alloc: Global, number: usize, entry: &Entry, answer: Answer) -> Result<String, AllocError>
+fn row_of(
+    alloc: Global,
+    number: usize,
+    entry: &SubmissionRow,
+    answer: Answer,
+) -> Result<String, AllocError>
     ensures { IfOk result (λ text. string_bytes text ≡ row_of number entry.now answer) }
 {
     row_with(
@@ -70,7 +75,7 @@ fn push_row(
     alloc: Global,
     page: &mut Vec<u8>,
     number: usize,
-    entry: Option<&Entry>,
+    entry: Option<&SubmissionRow>,
     answer: Answer,
 ) -> Result<(), AllocError>
     ensures { IfOk result (λ _. page.new.items ≡ page.old.items ++ row_at number (option_map (λ e. e.now) entry.entry) answer) }
@@ -85,7 +90,7 @@ fn push_row(
 }
 
 /// The submission behind so many others.
-fn entry_at(entries: &[Entry], before: usize) -> Option<&Entry>
+fn entry_at(entries: &[SubmissionRow], before: usize) -> Option<&SubmissionRow>
     ensures { option_map (λ e. e.now) result ≡ slice_get entries.now before }
 {
     entries.get(before)
@@ -95,7 +100,7 @@ fn entry_at(entries: &[Entry], before: usize) -> Option<&Entry>
 pub(crate) fn push_rows(
     alloc: Global,
     page: &mut Vec<u8>,
-    entries: &[Entry],
+    entries: &[SubmissionRow],
     answers: &[Answer],
 ) -> Result<(), AllocError>
     ensures { IfOk result (λ _. page.new.items ≡ page.old.items ++ rows_from 0 entries.now answers.now) }

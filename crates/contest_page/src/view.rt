@@ -9,7 +9,7 @@ use std::marker::Model;
 
 /// Whose a submission is, and to which problem.
 #[derive(Clone, Copy, Debug)]
-pub struct Entry {
+pub struct SubmissionRow {
     pub team: Name,
     pub problem: Name,
 }
@@ -19,7 +19,7 @@ pub struct Entry {
 #[derive(Drop)]
 pub struct ContestView {
     problems: Vec<Name>,
-    entries: Vec<Entry>,
+    entries: Vec<SubmissionRow>,
     json: Text,
 }
 
@@ -40,7 +40,7 @@ impl ContestView {
     pub fn new(
         alloc: Global,
         problems: Vec<Name>,
-        entries: Vec<Entry>,
+        entries: Vec<SubmissionRow>,
     ) -> Result<ContestView, NoMemory>
         ensures { IfOk result (λ view. view ≡ record { problems = problems.items; entries = entries.items }) }
     {
@@ -53,7 +53,7 @@ impl ContestView {
     }
 
     /// The submissions, in order.
-    pub(crate) fn entries(&self) -> &[Entry]
+    pub(crate) fn entries(&self) -> &[SubmissionRow]
         ensures { result.now ≡ self.now.entries }
     {
         self.entries.as_slice()

@@ -19,7 +19,7 @@ use Rattle.contest_server.specs.Serving.{Came, with_all, desk_value, Opening, Te
 use Rattle.contest_server.specs.Beside.{HasSplit}
 use Rattle.contest_server.specs.Served.{IsAsked, ShowsBoard, Finishes, HasServed, Serves}
 use Rattle.contest_server.proofs.Beside.{feed_beside, feed_joins}
-use Rattle.contest_server.proofs.Telling.{rose_since, front_behind}
+use Rattle.contest_server.proofs.Telling.{rose_since, prefix_behind}
 use Rattle.contest_server.proofs.Whole.{history_without, history_with}
 
 -- Before any connection
@@ -68,8 +68,8 @@ asked_is end.NoMemory r other known = tt
 behind_lines : (e : ServeEnd) (a b c : Option (List ℕ)) (lines text : List ℕ) → Appends a b lines → Wrote e b c text → Wrote e a c (lines ++ text)
 behind_lines end.Done a b c lines text h wrote = Appends-trans a b c lines text h wrote
 behind_lines end.DoorFault a b c lines text h wrote = Appends-trans a b c lines text h wrote
-behind_lines end.WriteFault a b c lines text h wrote = front_behind a b c lines text h wrote
-behind_lines end.NoMemory a b c lines text h wrote = front_behind a b c lines text h wrote
+behind_lines end.WriteFault a b c lines text h wrote = prefix_behind a b c lines text h wrote
+behind_lines end.NoMemory a b c lines text h wrote = prefix_behind a b c lines text h wrote
 
 -- where all was done, what was written is whole
 whole_done : (e : ServeEnd) (old new : Option (List ℕ)) (text : List ℕ) → e ≡ end.Done → Wrote e old new text → Appends old new text

@@ -8,7 +8,7 @@ use Rattle.contest_folder.specs.declared.roster.Problem.{Problem}
 use Rattle.contest_folder.specs.declared.roster.Submission.{Submission}
 use Rattle.contest_folder.specs.declared.roster.RosterProblem.{RosterProblem}
 use Rattle.contest_folder.specs.declared.roster.RosterSubmission.{RosterSubmission}
-use Rattle.contest_page.specs.declared.view.Entry.{Entry}
+use Rattle.contest_page.specs.declared.view.SubmissionRow.{SubmissionRow}
 use Rattle.parallel_judge.proofs.Rosters.{one_taken, told_submission, told_as}
 use Rattle.contest_server.specs.Contest.{entry_of}
 
@@ -39,10 +39,10 @@ one_problem_more xs names i r before told =
     ∙ ap (λ (n : List ℕ). map name_of (take i xs) ++ n ∷ []) named ∙ ap (λ (ns : List (List ℕ)). ns ++ r.name ∷ []) (sym before))
 
 -- one submission more
-pub one_entry_more : (xs : List Submission) (entries : List Entry) (i : ℕ) (r : RosterSubmission) → entries ≡ map entry_of (take i xs)
+pub one_entry_more : (xs : List Submission) (entries : List SubmissionRow) (i : ℕ) (r : RosterSubmission) → entries ≡ map entry_of (take i xs)
     → option_map told_submission (slice_get xs (i + 1 - 1)) ≡ Some r → entries ++ (record { team = r.team; problem = r.problem }) ∷ [] ≡ map entry_of (take (i + 1) xs)
 one_entry_more xs entries i r before told =
     let x = told_as xs i r told in
-    let same : entry_of x.0 ≡ record { team = r.team; problem = r.problem } = ap (λ (y : RosterSubmission). let e : Entry = record { team = y.team; problem = y.problem } in e) x.2 in
+    let same : entry_of x.0 ≡ record { team = r.team; problem = r.problem } = ap (λ (y : RosterSubmission). let e : SubmissionRow = record { team = y.team; problem = y.problem } in e) x.2 in
     sym (ap (λ ys. map entry_of ys) (one_taken xs i x.0 x.1) ∙ map-append entry_of (take i xs) (x.0 ∷ [])
-    ∙ ap (λ (e : Entry). map entry_of (take i xs) ++ e ∷ []) same ∙ ap (λ (es : List Entry). es ++ (record { team = r.team; problem = r.problem }) ∷ []) (sym before))
+    ∙ ap (λ (e : SubmissionRow). map entry_of (take i xs) ++ e ∷ []) same ∙ ap (λ (es : List SubmissionRow). es ++ (record { team = r.team; problem = r.problem }) ∷ []) (sym before))

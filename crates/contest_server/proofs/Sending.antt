@@ -7,8 +7,8 @@ use Rattle.matchit.specs.contracts.tree.Node as node
 use Rattle.farm_board.specs.declared.trust.Admission.{Ghosts as AdmissionGhosts}
 use Rattle.judge_feed.specs.declared.naming.Naming.{Ghosts as NamingGhosts}
 use Rattle.judge_feed.proofs.Sending.{feed_send}
-use Rattle.judge_server.specs.contracts.paths.Paths as paths
-use Rattle.judge_server.proofs.Sending.{public_readers_send}
+use Rattle.farm_api.specs.contracts.paths.Paths as paths
+use Rattle.farm_api.proofs.Sending.{public_readers_send}
 use Rattle.contest_server.specs.contracts.public.Public as public
 
 -- The paths of the server

@@ -6,7 +6,7 @@ use Rattle.std.proofs.lemmas.List.Elements.{All-head, All-tail}
 use Rattle.farm_io.specs.declared.door.Listening.{Listening}
 use Rattle.farm_io.specs.Doors.{DoorState, IsFirstOf, with_last, LetsIn, TakesBack, IsFresh}
 use Rattle.farm_board.specs.Passes.{BoardId, PassValue, SplitsOff, TakesIn}
-use Rattle.judge_server.specs.declared.ends.ConnEnd.{ConnEnd}
+use Rattle.farm_api.specs.declared.ends.ConnEnd.{ConnEnd}
 use Rattle.contest_server.specs.declared.accepting.Coming.TheVariants as coming
 use Rattle.contest_server.specs.Visits.{Watch, Start, Visit, IsAnswered, IsVisit}
 use Rattle.contest_server.specs.Serving.{Came, with_all, all_came, GivesBack, desk_value, share, IsReady, IsOrderly, TakesFirst, AcceptsNext}

@@ -6,11 +6,11 @@ use Rattle.std.proofs.KnownBytes.{Appends-nil, Appends-trans}
 use Rattle.farm_io.specs.Streams.{Rose}
 use Rattle.farm_board.specs.Passes.{BoardId}
 use Rattle.farm_board.proofs.Prefixes.{prefix_self, prefix_trans}
-use Rattle.judge_server.specs.declared.ends.ConnEnd.{ConnEnd}
-use Rattle.judge_server.specs.declared.ends.ConnHow.{ConnHow}
+use Rattle.farm_api.specs.declared.ends.ConnEnd.{ConnEnd}
+use Rattle.farm_api.specs.declared.ends.ConnHow.{ConnHow}
 use Rattle.contest_server.specs.declared.lines.TextFault.{TextFault}
 use Rattle.contest_server.specs.Visits.{Watch, Visit, conn_line, conn_lines}
-use Rattle.contest_server.specs.Texts.{WritesFront, PutsText}
+use Rattle.contest_server.specs.Texts.{WritesPrefix, PutsText}
 use Rattle.contest_server.specs.Serving.{DeskValue, Opening, Tells, Told, TakesFirst, TellsFirst}
 
 -- Faults
@@ -23,21 +23,21 @@ rose_until first before now rose later = omega (arith, later, rose)
 
 -- Texts
 
-pub nothing_written : (held : Option (List ℕ)) (text : List ℕ) → WritesFront held held text
-nothing_written held text = record { bytes = []; front = (text, refl); wrote = Appends-nil held }
+pub nothing_written : (held : Option (List ℕ)) (text : List ℕ) → WritesPrefix held held text
+nothing_written held text = record { bytes = []; prefix = (text, refl); wrote = Appends-nil held }
 
-pub whole_front : (held held' : Option (List ℕ)) (text : List ℕ) → Appends held held' text → WritesFront held held' text
-whole_front held held' text h = record { bytes = text; front = prefix_self text; wrote = h }
+pub whole_prefix : (held held' : Option (List ℕ)) (text : List ℕ) → Appends held held' text → WritesPrefix held held' text
+whole_prefix held held' text h = record { bytes = text; prefix = prefix_self text; wrote = h }
 
-pub front_behind : (a b c : Option (List ℕ)) (text more : List ℕ) → Appends a b text → WritesFront b c more → WritesFront a c (text ++ more)
-front_behind a b c text more h f = record {
+pub prefix_behind : (a b c : Option (List ℕ)) (text more : List ℕ) → Appends a b text → WritesPrefix b c more → WritesPrefix a c (text ++ more)
+prefix_behind a b c text more h f = record {
   bytes = text ++ f.bytes;
-  front = (f.front.0, append_assoc text f.bytes f.front.0 ∙ ap (λ (xs : List ℕ). text ++ xs) f.front.1);
+  prefix = (f.prefix.0, append_assoc text f.bytes f.prefix.0 ∙ ap (λ (xs : List ℕ). text ++ xs) f.prefix.1);
   wrote = Appends-trans a b c text f.bytes h f.wrote;
 }
 
-pub front_of_more : (held held' : Option (List ℕ)) (text more : List ℕ) → WritesFront held held' text → WritesFront held held' (text ++ more)
-front_of_more held held' text more f = record { bytes = f.bytes; front = prefix_trans f.bytes text (text ++ more) f.front (more, refl); wrote = f.wrote }
+pub prefix_of_more : (held held' : Option (List ℕ)) (text more : List ℕ) → WritesPrefix held held' text → WritesPrefix held held' (text ++ more)
+prefix_of_more held held' text more f = record { bytes = f.bytes; prefix = prefix_trans f.bytes text (text ++ more) f.prefix (more, refl); wrote = f.wrote }
 
 pub lines_both : {N : Type 0} (n : ℕ) (vs us : List (Visit N)) → conn_lines n (vs ++ us) ≡ conn_lines n vs ++ conn_lines (n + length vs) us
 lines_both {N} n [] us = ap (λ (k : ℕ). conn_lines k us) (omega arith)
@@ -77,7 +77,7 @@ one_more {N} w o board old new held held' e n k (Err why) t number puts h =
       visits = h.visits ++ had.last ∷ [];
       stands = had.stands;
       count = omega (arith, len, count, fewer);
-      wrote = subst (λ (xs : List ℕ). WritesFront o.held held' xs) (sym text) (front_behind o.held held held' (conn_lines 1 h.visits) (conn_line k e.requests e.how) h.wrote puts);
+      wrote = subst (λ (xs : List ℕ). WritesPrefix o.held held' xs) (sym text) (prefix_behind o.held held held' (conn_lines 1 h.visits) (conn_line k e.requests e.how) h.wrote puts);
     }
 
 pub tells_first : {N : Type 0} (w : Watch N) (board : BoardId) (old new : DeskValue N) (held held' : Option (List ℕ)) (e : ConnEnd) (n k : ℕ) (result : Result (Unit {0}) TextFault)

@@ -3,13 +3,13 @@ use Rattle.std.proofs.Common.{◌≡◌, ℕ, List, Option, Some, inl, inr, sym,
 use Rattle.farm_kinds.specs.declared.outcomes.Answer.{Answer}
 use Rattle.farm_board.specs.Passes.{PassValue}
 use Rattle.public_board.specs.Values.{nobody}
-use Rattle.judge_server.specs.declared.ends.ConnEnd.{ConnEnd}
-use Rattle.judge_server.specs.declared.ends.ConnHow.{ConnHow}
-use Rattle.judge_server.specs.declared.ends.ConnHow.TheVariants as how
-use Rattle.judge_server.specs.LaneCalls.{AccessValue, access, LaneSteps, LaneMakes}
-use Rattle.judge_server.specs.Serving.{untaken, IsServed}
-use Rattle.judge_server.proofs.Turning.{served_none}
-use Rattle.judge_server.proofs.LaneLemmas.{served_lane}
+use Rattle.farm_api.specs.declared.ends.ConnEnd.{ConnEnd}
+use Rattle.farm_api.specs.declared.ends.ConnHow.{ConnHow}
+use Rattle.farm_api.specs.declared.ends.ConnHow.TheVariants as how
+use Rattle.farm_api.specs.LaneCalls.{AccessValue, access, LaneSteps, LaneMakes}
+use Rattle.farm_api.specs.Serving.{untaken, IsServed}
+use Rattle.farm_api.proofs.Turning.{served_none}
+use Rattle.farm_api.proofs.LaneLemmas.{served_lane}
 use Rattle.contest_server.specs.Visits.{Watch, visit, IsAnswered}
 
 abbrev unread_end : ConnEnd

@@ -6,8 +6,8 @@ use Rattle.farm_board.specs.Histories.{is_in, IsLegal, entries_by}
 use Rattle.farm_kinds.specs.declared.events.Event.{Event}
 use Rattle.farm_board.specs.Passes.{PassValue, SplitsOff, IsJoined, board_seen}
 use Rattle.farm_board.specs.declared.entries.Call.{Call}
-use Rattle.farm_board.specs.declared.entries.Entry.{Entry}
-use Rattle.farm_board.specs.declared.entries.Entry.TheVariants as entry
+use Rattle.farm_board.specs.declared.entries.HistoryEntry.{HistoryEntry}
+use Rattle.farm_board.specs.declared.entries.HistoryEntry.TheVariants as entry
 use Rattle.parallel_judge.specs.Hosts.{as_entries, HasEntered}
 use Rattle.contest_server.specs.Visits.{Visit, Start}
 
@@ -22,7 +22,7 @@ last_or n [] = n
 last_or n (x ∷ xs) = last_or x xs
 
 -- the opening pass splits off passes of these numbers, and takes passes in
-abbrev pub IsSeat : List ℕ → Entry → Type 0
+abbrev pub IsSeat : List ℕ → HistoryEntry → Type 0
 IsSeat numbers (entry.Call call) = ⊥
 IsSeat numbers (entry.Split number new) = is_in new numbers ≡ true
 IsSeat numbers (entry.Join number old) = Unit {0}
@@ -46,10 +46,10 @@ IsTaken pass v = IsJoined v.begun.number pass v.ended.mine
 -- for the feed of the public board, and one for each connection, and taken in those of the connections that were served.
 pub record IsBeside {N : Type 0} (start : BoardState) (calls : List Call) (feed : ℕ) (visits : List (Visit N))
     (starts : List (Start N)) (pass : PassValue) : Type 0 where
-  pub front : IsPrefix (as_entries calls) pass.seen
+  pub prefix : IsPrefix (as_entries calls) pass.seen
   pub legal : IsLegal start pass.seen
   pub own : entries_by 0 pass.seen ≡ pass.mine
-  pub seats : List Entry
+  pub seats : List HistoryEntry
   pub mine : pass.mine ≡ as_entries calls ++ seats
   pub seated : All (IsSeat (pass_numbers feed visits starts)) seats
   pub number : pass.number ≡ 0

@@ -4,7 +4,7 @@ use Rattle.farm_kinds.specs.declared.events.Event.{Event}
 use Rattle.contest_folder.specs.RosterValue.{RosterValue}
 use Rattle.contest_folder.specs.declared.roster.Problem.{Problem}
 use Rattle.contest_folder.specs.declared.roster.Submission.{Submission}
-use Rattle.contest_page.specs.declared.view.Entry.{Entry}
+use Rattle.contest_page.specs.declared.view.SubmissionRow.{SubmissionRow}
 use Rattle.contest_page.specs.ViewValue.{ViewValue}
 use Rattle.parallel_judge.specs.Entering.{problem_event, submission_event}
 use Rattle.parallel_judge.specs.Table.{named_problem, named_submission}
@@ -16,7 +16,7 @@ entering_events roster =
     ++ map submission_event (map named_submission roster.submissions)
 
 -- whose a submission is, and to which problem
-abbrev pub entry_of : Submission → Entry
+abbrev pub entry_of : Submission → SubmissionRow
 entry_of submission = record { team = submission.team; problem = submission.problem }
 
 -- the names that anybody is shown

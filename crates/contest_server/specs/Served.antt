@@ -13,8 +13,8 @@ use Rattle.farm_board.specs.BoardState.{BoardState}
 use Rattle.farm_board.specs.Histories.{is_in, IsLegal, board_after, entries_by}
 use Rattle.farm_board.specs.Passes.{PassValue, Calls, TakesIn, call_of}
 use Rattle.farm_board.specs.declared.entries.Call.{Call}
-use Rattle.farm_board.specs.declared.entries.Entry.{Entry}
-use Rattle.farm_board.specs.declared.entries.Entry.TheVariants as entry
+use Rattle.farm_board.specs.declared.entries.HistoryEntry.{HistoryEntry}
+use Rattle.farm_board.specs.declared.entries.HistoryEntry.TheVariants as entry
 use Rattle.judge_feed.specs.Showing.{are_looks}
 use Rattle.parallel_judge.specs.Hosts.{as_entries, AreEffective}
 use Rattle.parallel_judge.specs.Journal.{events_in}
@@ -36,8 +36,8 @@ board_text None = []
 board_text (Some r) = reply_text r
 
 -- The history ends with the last `board`. Unless memory ran out, its reply is the farm's after all before it
-pub record EndsWithBoard (start : BoardState) (history : List Entry) (r : Reply) : Type 0 where
-  pub before : List Entry
+pub record EndsWithBoard (start : BoardState) (history : List HistoryEntry) (r : Reply) : Type 0 where
+  pub before : List HistoryEntry
   pub whole : history ≡ before ++ as_entries (board_calls (Some r))
   pub answer : r ≢ reply.NoMemory → r ≡ (farm_step (board_after start before).state event.Board).1
 
@@ -50,21 +50,21 @@ IsAsked end.NoMemory board = Unit {0}
 
 -- The history
 
-abbrev pub calls_in : List Entry → List Call
+abbrev pub calls_in : List HistoryEntry → List Call
 calls_in [] = []
 calls_in (entry.Call call ∷ es) = call ∷ calls_in es
 calls_in (entry.Split number new ∷ es) = calls_in es
 calls_in (entry.Join number old ∷ es) = calls_in es
 
 -- the entries of the visit's pass are its calls
-abbrev pub HasCalls : {N : Type 0} → List Entry → Visit N → Type 0
+abbrev pub HasCalls : {N : Type 0} → List HistoryEntry → Visit N → Type 0
 HasCalls history v = entries_by v.begun.number history ≡ v.ended.mine
 
 -- A legal history that begins with the calls by which the contest enters. Beside these and the last `board`, all of its
 -- calls are those of the visits, and those of the feed of the public board, which only looks, by passes with numbers of
 -- their own.
 pub record IsHistory {N : Type 0} (start : BoardState) (events : List Event) (visits : List (Visit N))
-    (board : Option Reply) (history : List Entry) : Type 0 where
+    (board : Option Reply) (history : List HistoryEntry) : Type 0 where
   pub calls : List Call
   pub enters : events_in calls ≡ events
   pub effective : AreEffective calls
@@ -112,7 +112,7 @@ pub record HasServed {N : Type 0} (w : Watch N) (start : BoardState) (events : L
   pub done : e ≡ end.Done → (length visits ≡ most) ⊎ IsEmpty door'.coming
   pub board : Option Reply
   pub asked : IsAsked e board
-  pub history : List Entry
+  pub history : List HistoryEntry
   pub stands : IsHistory start events visits board history
   pub wrote : Wrote e held held' (conn_lines 1 visits ++ board_text board)
 

@@ -7,7 +7,7 @@ use Rattle.farm_board.specs.BoardState.{BoardState}
 use Rattle.farm_board.specs.Histories.{IsOpening}
 use Rattle.farm_board.specs.Passes.{BoardId, PassValue}
 use Rattle.farm_board.specs.declared.entries.Call.{Call}
-use Rattle.judge_server.specs.declared.ends.ConnEnd.{ConnEnd}
+use Rattle.farm_api.specs.declared.ends.ConnEnd.{ConnEnd}
 use Rattle.contest_server.specs.declared.ends.ServeEnd.{ServeEnd}
 use Rattle.contest_server.specs.declared.ends.ServeEnd.TheVariants as end
 use Rattle.contest_server.specs.declared.lines.TextFault.{TextFault}
@@ -16,7 +16,7 @@ use Rattle.contest_server.specs.declared.accepting.Coming.{Coming}
 use Rattle.contest_server.specs.declared.accepting.Coming.TheVariants as coming
 use Rattle.contest_server.specs.Visits.{Watch, Start, Visit, IsVisit, conn_lines}
 use Rattle.contest_server.specs.Beside.{IsBeside}
-use Rattle.contest_server.specs.Texts.{WritesFront, HasCauseTold}
+use Rattle.contest_server.specs.Texts.{WritesPrefix, HasCauseTold}
 
 -- The door
 
@@ -103,13 +103,13 @@ pub record Tells {N : Type 0} (w : Watch N) (o : Opening N) (d : DeskValue N) (h
   pub count : length visits + length d.starts ≡ n
   pub wrote : Appends o.held held (conn_lines 1 visits)
 
--- the same, but only a front of their lines was written
-pub record TellsFront {N : Type 0} (w : Watch N) (o : Opening N) (d : DeskValue N) (held : Option (List ℕ)) (n : ℕ)
+-- the same, but only a prefix of their lines was written
+pub record TellsPrefix {N : Type 0} (w : Watch N) (o : Opening N) (d : DeskValue N) (held : Option (List ℕ)) (n : ℕ)
     : Type 0 where
   pub visits : List (Visit N)
   pub stands : Stands w o visits d
   pub count : length visits + length d.starts ≡ n
-  pub wrote : WritesFront o.held held (conn_lines 1 visits)
+  pub wrote : WritesPrefix o.held held (conn_lines 1 visits)
 
 -- One connection
 
@@ -132,7 +132,7 @@ pub record TakesFirst {N : Type 0} (w : Watch N) (board : BoardId) (old new : De
 abbrev pub Told : {N : Type 0} → Watch N → Opening N → DeskValue N → Option (List ℕ) → ℕ → Result (Unit {0}) TextFault
     → Type 0
 Told w o d held n (Ok u) = Tells w o d held n
-Told w o d held n (Err why) = TellsFront w o d held n
+Told w o d held n (Err why) = TellsPrefix w o d held n
 
 -- the same, and its line was written, where so many connections came
 pub record TellsFirst {N : Type 0} (w : Watch N) (board : BoardId) (old new : DeskValue N) (held held' : Option (List ℕ))
@@ -208,7 +208,7 @@ with_next n (Err why) = n
 abbrev pub ToldNext : {N : Type 0} → Watch N → Opening N → DeskValue N → Option (List ℕ) → ℕ → Result Coming TextFault
     → Type 0
 ToldNext w o d held n (Ok c) = Tells w o d held (with_coming n c)
-ToldNext w o d held n (Err why) = TellsFront w o d held n
+ToldNext w o d held n (Err why) = TellsPrefix w o d held n
 
 abbrev pub IfNextEnded : {N : Type 0} → Option (List N) → Result Coming TextFault → Type 0
 IfNextEnded left (Ok c) = IfEnded left c
@@ -239,12 +239,12 @@ pub record IsUnderWay {N : Type 0} (w : Watch N) (board : BoardId) (first now : 
 
 -- The end
 
--- the text was written whole, or a front of it where the serving ended for that
+-- the text was written whole, or a prefix of it where the serving ended for that
 abbrev pub Wrote : ServeEnd → Option (List ℕ) → Option (List ℕ) → List ℕ → Type 0
 Wrote end.Done old new text = Appends old new text
 Wrote end.DoorFault old new text = Appends old new text
-Wrote end.WriteFault old new text = WritesFront old new text
-Wrote end.NoMemory old new text = WritesFront old new text
+Wrote end.WriteFault old new text = WritesPrefix old new text
+Wrote end.NoMemory old new text = WritesPrefix old new text
 
 -- the end where a text was not written whole
 abbrev pub end_of : TextFault → ServeEnd

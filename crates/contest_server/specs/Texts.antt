@@ -6,16 +6,16 @@ use Rattle.farm_io.specs.Streams.{Rose}
 use Rattle.contest_server.specs.declared.lines.TextFault.{TextFault}
 use Rattle.contest_server.specs.declared.lines.TextFault.TheVariants as fault
 
--- a front of a text was written
-pub record WritesFront (old new : Option (List ℕ)) (text : List ℕ) : Type 0 where
+-- a prefix of a text was written
+pub record WritesPrefix (old new : Option (List ℕ)) (text : List ℕ) : Type 0 where
   pub bytes : List ℕ
-  pub front : IsPrefix bytes text
+  pub prefix : IsPrefix bytes text
   pub wrote : Appends old new bytes
 
--- the text was written, or a front of it
+-- the text was written, or a prefix of it
 abbrev pub PutsText : Option (List ℕ) → Option (List ℕ) → List ℕ → Result (Unit {0}) TextFault → Type 0
 PutsText old new text (Ok u) = Appends old new text
-PutsText old new text (Err why) = WritesFront old new text
+PutsText old new text (Err why) = WritesPrefix old new text
 
 -- the count of faults never falls, and rises where a text could not be put
 pub record HasCauseTold (before now : ℕ) (result : Result (Unit {0}) TextFault) : Type 0 where

@@ -8,15 +8,15 @@ use Rattle.farm_board.specs.BoardState.{BoardState}
 use Rattle.farm_board.specs.Histories.{opening_board}
 use Rattle.farm_board.specs.Passes.{PassValue}
 use Rattle.public_board.specs.Values.{ReaderValue}
-use Rattle.judge_server.specs.declared.ends.ConnHow.{ConnHow}
-use Rattle.judge_server.specs.declared.ends.ConnHow.TheVariants as how
+use Rattle.farm_api.specs.declared.ends.ConnHow.{ConnHow}
+use Rattle.farm_api.specs.declared.ends.ConnHow.TheVariants as how
 use Rattle.farm_kinds.specs.declared.outcomes.Task.{Task}
 use Rattle.case_run.specs.Cases.{TestCase}
 use Rattle.contest_page.specs.ViewValue.{ViewValue}
-use Rattle.judge_server.specs.Jobs.{gives_by}
-use Rattle.judge_server.specs.Exchanges.{Around, giving}
-use Rattle.judge_server.specs.Serving.{untaken, IsServed, HasCauseServed, AnswersAll}
-use Rattle.judge_server.specs.LaneCalls.{access, LaneMakes}
+use Rattle.farm_api.specs.Jobs.{gives_by}
+use Rattle.farm_api.specs.Exchanges.{Around, giving}
+use Rattle.farm_api.specs.Serving.{untaken, IsServed, HasCauseServed, AnswersAll}
+use Rattle.farm_api.specs.LaneCalls.{access, LaneMakes}
 
 -- the bytes that a connection tells, if it tells any
 abbrev pub Telling : Type 0 → Type 0

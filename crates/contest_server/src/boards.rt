@@ -3,7 +3,7 @@ ghost use Rattle.std.specs.Bool.{OnTrue, OnFalse};
 ghost use Rattle.farm_kinds.specs.declared.events.Event.{Event as EventValue};
 ghost use Rattle.farm_board.specs.BoardState.{BoardState};
 ghost use Rattle.farm_board.specs.Histories.{IsOpening};
-ghost use Rattle.judge_server.specs.Exchanges.{around_of};
+ghost use Rattle.farm_api.specs.Exchanges.{around_of};
 ghost use Rattle.contest_server.specs.Visits.{watch, on_board};
 ghost use Rattle.contest_server.specs.Serving.{desk_value, IsOrderly, ServesLanes, HasCauseEnd};
 ghost use Rattle.farm_board.specs.Passes.{PassValue};

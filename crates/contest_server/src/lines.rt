@@ -2,9 +2,9 @@ ghost use Rattle.std.specs.Prelude.{◌≡◌, ◌++◌, OnOk};
 ghost use Rattle.contest_server.specs.Visits.{how_word, conn_line};
 ghost use Rattle.contest_server.specs.Texts.{PutsText, HasCauseTold};
 
+use farm_api::{ConnEnd, ConnHow};
 use farm_io::{PutEnd, Sink};
 use farm_kinds::NoMemory;
-use judge_server::{ConnEnd, ConnHow};
 use std::alloc::Global;
 
 /// Why a text was not written whole.

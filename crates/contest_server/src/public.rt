@@ -1,9 +1,9 @@
 ghost use Rattle.judge_feed.specs.Refreshing.{KeepsPass};
 
+use farm_api::{PublicReader, PublicReaders};
 use farm_board::{Admission, Pass};
 use farm_kinds::Answer;
 use judge_feed::{Feed, Moments, Naming};
-use judge_server::{PublicReader, PublicReaders};
 use public_board::Readers;
 use std::alloc::Global;
 use std::sync::{Mutex, MutexGuard, Wait};

@@ -1,14 +1,14 @@
-ghost use Rattle.judge_server.specs.Exchanges.{around_of};
+ghost use Rattle.farm_api.specs.Exchanges.{around_of};
 ghost use Rattle.contest_server.specs.Visits.{Watch, watch, on_board};
 
 use crate::bell::Bell;
 use crate::public::Public;
 use case_run::Cases;
 use contest_page::Shows;
+use farm_api::Paths;
 use farm_board::{Admission, Anyone, Board};
 use farm_io::{Clock, Peer, Sink, Source};
 use judge_feed::Naming;
-use judge_server::Paths;
 use std::alloc::Global;
 
 /// What stays the same while a contest is served, but for what shows it to the public.

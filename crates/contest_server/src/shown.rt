@@ -5,7 +5,7 @@ ghost use Rattle.contest_server.specs.Contest.{entry_of, view_of};
 
 use case_run::{Case, Cases};
 use contest_folder::Roster;
-use contest_page::{ContestView, Entry, Shows};
+use contest_page::{ContestView, Shows, SubmissionRow};
 use farm_kinds::{Name, NoMemory, Task};
 use std::alloc::{AllocError, Global};
 
@@ -59,13 +59,13 @@ fn problem_names(alloc: Global, roster: &Roster) -> Result<Vec<Name>, AllocError
 
 /// Whose the submissions are and to which problems, in order.
 #[tactic(auto, using(crate::proofs::Names::one_entry_more))]
-fn entries_of(alloc: Global, roster: &Roster) -> Result<Vec<Entry>, AllocError>
+fn entries_of(alloc: Global, roster: &Roster) -> Result<Vec<SubmissionRow>, AllocError>
     ensures { IfOk result (λ entries. entries.items ≡ map entry_of roster.now.submissions) }
 {
     let mut entries = Vec::new(alloc);
     for i in 0..roster.submissions() {
         let submission = roster.submission(i + 1);
-        entries.push(Entry {
+        entries.push(SubmissionRow {
             team: submission.team,
             problem: submission.problem,
         })?;

@@ -6,7 +6,7 @@ ghost use Rattle.farm_board.specs.Trusts.{is_value_of};
 use crate::judgehost_tests::counting_runner;
 use case_run::{Case, Cases, Check, image_ok};
 use default_validator::{Flags, wide_token};
-use farm_board::{Admission, Anyone, Board, History, LocalBench, Pass, Proved};
+use farm_board::{Admission, Anyone, Board, CallJournal, LocalBench, Pass, Proved};
 use farm_core::Farm;
 use farm_kinds::{Answer, Class, Event, Kind, Limits, Name, NoMemory, Reply, Task, Verdict};
 use farm_settings::Settings;
@@ -141,7 +141,7 @@ fn keep_turns<W: Wait, A: Admission>(rt: &W, board: &Board<Anyone, A>, pass: &mu
 }
 
 /// By which passes the calls were made, in order.
-fn are_made_by(history: &History, passes: &[u64]) -> bool {
+fn are_made_by(history: &CallJournal, passes: &[u64]) -> bool {
     let mut wanted = passes.iter();
     for call in history.as_slice() {
         match wanted.next() {
@@ -153,7 +153,7 @@ fn are_made_by(history: &History, passes: &[u64]) -> bool {
 }
 
 /// Whether the last call is the submission of this number.
-fn ends_with_submission(history: &History, number: u32) -> bool {
+fn ends_with_submission(history: &CallJournal, number: u32) -> bool {
     let Some(last) = history.as_slice().last() else {
         return false;
     };
@@ -162,7 +162,7 @@ fn ends_with_submission(history: &History, number: u32) -> bool {
 }
 
 /// Whether a journal was kept, of calls by these passes, of which the last is the submission of this number.
-fn is_noted(history: &Option<History>, passes: &[u64], number: u32) -> bool {
+fn is_noted(history: &Option<CallJournal>, passes: &[u64], number: u32) -> bool {
     match history {
         Some(history) => are_made_by(history, passes) && ends_with_submission(history, number),
         None => false,

@@ -71,16 +71,16 @@ digit_at (d ∷ ds) zero h lt = and_first (is_digit d) (list_all is_digit ds) h
 digit_at (d ∷ ds) (suc i) h lt = digit_at ds i (and_second (is_digit d) (list_all is_digit ds) h) (omega arith)
 
 -- the digits in front are digits
-front_of : (t : Bool) (b : ℕ) (bs : List ℕ) → is_digit b ≡ t → list_all is_digit bs ≡ true → list_all is_digit (cond t (b ∷ bs) []) ≡ true
-front_of false b bs e h = refl
-front_of true b bs e h = rw e h
+prefix_of : (t : Bool) (b : ℕ) (bs : List ℕ) → is_digit b ≡ t → list_all is_digit bs ≡ true → list_all is_digit (cond t (b ∷ bs) []) ≡ true
+prefix_of false b bs e h = refl
+prefix_of true b bs e h = rw e h
 
-pub front_are_digits : (text : List ℕ) → list_all is_digit (take_while is_digit text) ≡ true
-front_are_digits [] = refl
-front_are_digits (b ∷ bs) = rw (take_while-cons is_digit b bs) (front_of (is_digit b) b (take_while is_digit bs) refl (front_are_digits bs))
+pub leading_are_digits : (text : List ℕ) → list_all is_digit (take_while is_digit text) ≡ true
+leading_are_digits [] = refl
+leading_are_digits (b ∷ bs) = rw (take_while-cons is_digit b bs) (prefix_of (is_digit b) b (take_while is_digit bs) refl (leading_are_digits bs))
 
-pub front_within : (text : List ℕ) → prefix_len is_digit text ≤ length text
-front_within text = prefix_len-le-length is_digit text
+pub prefix_within : (text : List ℕ) → prefix_len is_digit text ≤ length text
+prefix_within text = prefix_len-le-length is_digit text
 
 pub append_are_digits : (xs ys : List ℕ) → list_all is_digit xs ≡ true → list_all is_digit ys ≡ true → list_all is_digit (xs ++ ys) ≡ true
 append_are_digits xs ys h k = rw (list_all-append is_digit xs ys, h) k

@@ -20,8 +20,8 @@ after_sign [] = []
 after_sign (b ∷ bs) = if b == 43 || b == 45 then bs else b ∷ bs
 
 -- the digits in front
-abbrev pub front_digits : List ℕ → List ℕ
-front_digits text = take_while is_digit text
+abbrev pub leading_digits : List ℕ → List ℕ
+leading_digits text = take_while is_digit text
 
 -- what follows the digits in front
 abbrev pub after_digits : List ℕ → List ℕ
@@ -39,7 +39,7 @@ after_point (b ∷ bs) = if b == 46 then bs else b ∷ bs
 
 -- the digits after a point in front, of which there are none where there is no point
 abbrev pub fraction_of : List ℕ → List ℕ
-fraction_of text = if has_point text then front_digits (after_point text) else []
+fraction_of text = if has_point text then leading_digits (after_point text) else []
 
 -- what follows a point and its digits
 abbrev pub after_fraction : List ℕ → List ℕ
@@ -87,7 +87,7 @@ numeral_with negative whole rest =
 
 -- perhaps a sign, digits with at most one point, and perhaps an exponent
 unfoldable pub numeral_of : List ℕ → Option Numeral
-numeral_of word = numeral_with (has_minus word) (front_digits (after_sign word)) (after_digits (after_sign word))
+numeral_of word = numeral_with (has_minus word) (leading_digits (after_sign word)) (after_digits (after_sign word))
 
 -- ---- the number
 

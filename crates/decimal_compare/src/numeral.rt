@@ -1,7 +1,7 @@
 ghost use Rattle.std.specs.Prelude.{◌≡◌, ◌≤◌, true, Some, None, IfSome, IfNone};
 ghost use Rattle.std.specs.List.{list_all, prefix_len};
 ghost use Rattle.decimal_compare.specs.Digits.{is_digit};
-ghost use Rattle.decimal_compare.specs.Decimal.{has_minus, after_sign, front_digits, after_digits, has_point, fraction_of, after_fraction, exponent_digits, exponent_of, numeral_of};
+ghost use Rattle.decimal_compare.specs.Decimal.{has_minus, after_sign, leading_digits, after_digits, has_point, fraction_of, after_fraction, exponent_digits, exponent_of, numeral_of};
 ghost use Rattle.decimal_compare.specs.PartsView.{numeral_of_parts};
 
 use crate::parts::{Exponent, Parts};
@@ -31,7 +31,7 @@ fn after_sign(word: &[u8]) -> &[u8]
 }
 
 /// How many digits stand in front.
-fn front_len(text: &[u8]) -> usize
+fn digits_len(text: &[u8]) -> usize
     ensures { result ≡ prefix_len is_digit text.now }
 {
     for (i, b) in text.iter().enumerate() {
@@ -43,13 +43,13 @@ fn front_len(text: &[u8]) -> usize
 }
 
 /// The digits in front, and what follows them.
-#[tactic(auto, using(crate::proofs::Numbers::front_within, crate::proofs::Numbers::front_are_digits))]
+#[tactic(auto, using(crate::proofs::Numbers::prefix_within, crate::proofs::Numbers::leading_are_digits))]
 fn cut_digits(text: &[u8]) -> (&[u8], &[u8])
-    ensures front { result.0.now ≡ front_digits text.now }
+    ensures prefix { result.0.now ≡ leading_digits text.now }
     ensures rest { result.1.now ≡ after_digits text.now }
     ensures digits { list_all is_digit result.0.now ≡ true }
 {
-    text.split_at(front_len(text))
+    text.split_at(digits_len(text))
 }
 
 fn has_point(text: &[u8]) -> bool
@@ -63,7 +63,7 @@ fn has_point(text: &[u8]) -> bool
 
 /// The digits after a point in front, and what follows them.
 fn cut_fraction(text: &[u8]) -> (&[u8], &[u8])
-    ensures front { result.0.now ≡ fraction_of text.now }
+    ensures prefix { result.0.now ≡ fraction_of text.now }
     ensures rest { result.1.now ≡ after_fraction text.now }
     ensures digits { list_all is_digit result.0.now ≡ true }
 {

@@ -95,8 +95,8 @@ words_say line number text (n ∷ team ∷ problem ∷ file ∷ []) entry is e =
   where
     by : (t : Bool) → is_entry number n team problem file ≡ t → cond t (Some (made_entry line team problem file)) None ≡ Some entry → IsLine number text entry
     by true f g =
-        let front = and_parts (bytes_eq n (decimal number) && is_name team && is_name problem) (is_file_name file) f in
-        let names = and_parts (bytes_eq n (decimal number) && is_name team) (is_name problem) front.0 in
+        let prefix = and_parts (bytes_eq n (decimal number) && is_name team && is_name problem) (is_file_name file) f in
+        let names = and_parts (bytes_eq n (decimal number) && is_name team) (is_name problem) prefix.0 in
         let first' = and_parts (bytes_eq n (decimal number)) (is_name team) names.0 in
         let same_number : n ≡ decimal number = (bytes_eq-Decides n (decimal number)).0 first'.0 in
         subst (λ (x : Entry). IsLine number text x) (same_Some (made_entry line team problem file) entry g)

@@ -189,20 +189,20 @@ module _ {S : Type 0} (takes : LineValue → LineValue → Bool) (step : S → E
   AllTaken head [] = ⊤
   AllTaken head (line ∷ lines) = (takes head line ≡ true) × AllTaken head lines
 
-  front_taken : (head : LineValue) (xs ys : Lines) → AllTaken head (xs ++ ys) → AllTaken head xs
-  front_taken head [] ys h = tt
-  front_taken head (x ∷ xs) ys h = (h.0, front_taken head xs ys h.1)
+  prefix_taken : (head : LineValue) (xs ys : Lines) → AllTaken head (xs ++ ys) → AllTaken head xs
+  prefix_taken head [] ys h = tt
+  prefix_taken head (x ∷ xs) ys h = (h.0, prefix_taken head xs ys h.1)
 
   push_taken : (head : LineValue) (xs : Lines) (y : LineValue) → AllTaken head xs → takes head y ≡ true → AllTaken head (xs ++ y ∷ [])
   push_taken head [] y h k = (k, tt)
   push_taken head (x ∷ xs) y h k = (h.0, push_taken head xs y h.1 k)
 
   -- lines that belong to the head are one entry with it, and the others go on
-  gathered : (head : LineValue) (front below more : Lines) → AllTaken head below → entries_after takes head front (below ++ more) ≡ entries_after takes head (front ++ below) more
-  gathered head front [] more h = ap (λ (z : Lines). entries_after takes head z more) (sym (nothing_behind front))
-  gathered head front (line ∷ below) more h =
-      ap (λ (t : Bool). cond t (entries_after takes head (front ++ line ∷ []) (below ++ more)) (entry_with head front ∷ entries_after takes line [] (below ++ more))) h.0
-      ∙ (gathered head (front ++ line ∷ []) below more h.1 ∙ ap (λ (z : Lines). entries_after takes head z more) (regroup front (line ∷ []) below))
+  gathered : (head : LineValue) (prefix below more : Lines) → AllTaken head below → entries_after takes head prefix (below ++ more) ≡ entries_after takes head (prefix ++ below) more
+  gathered head prefix [] more h = ap (λ (z : Lines). entries_after takes head z more) (sym (nothing_behind prefix))
+  gathered head prefix (line ∷ below) more h =
+      ap (λ (t : Bool). cond t (entries_after takes head (prefix ++ line ∷ []) (below ++ more)) (entry_with head prefix ∷ entries_after takes line [] (below ++ more))) h.0
+      ∙ (gathered head (prefix ++ line ∷ []) below more h.1 ∙ ap (λ (z : Lines). entries_after takes head z more) (regroup prefix (line ∷ []) below))
 
   one_entry : (head : LineValue) (below : Lines) → AllTaken head below → entries takes (head ∷ below) ≡ entry_with head below ∷ []
   one_entry head below h = ap (λ (z : Lines). entries_after takes head [] z) (sym (nothing_behind below)) ∙ gathered head [] below [] h
@@ -236,8 +236,8 @@ module _ {S : Type 0} (takes : LineValue → LineValue → Bool) (step : S → E
         behind = at.behind ++ behind;
         lines_are = ap (λ (z : Lines). head ∷ (z ++ behind)) at.below_is ∙ ap (λ (z : Lines). head ∷ z) (regroup at.before (at.line ∷ at.behind) behind);
         told = at.told;
-        fine = (at.fine.0, read_one s head at.before (front_taken head at.before (at.line ∷ at.behind) taken) ∙ ap (and_then (λ t. Ok t)) at.fine.1);
-        faulty = read_one s head (at.before ++ at.line ∷ []) (front_taken head (at.before ++ at.line ∷ []) at.behind taken_one) ∙ ap (and_then (λ t. Ok t)) at.faulty;
+        fine = (at.fine.0, read_one s head at.before (prefix_taken head at.before (at.line ∷ at.behind) taken) ∙ ap (and_then (λ t. Ok t)) at.fine.1);
+        faulty = read_one s head (at.before ++ at.line ∷ []) (prefix_taken head (at.before ++ at.line ∷ []) at.behind taken_one) ∙ ap (and_then (λ t. Ok t)) at.faulty;
       }
 
   -- behind an entry without a fault

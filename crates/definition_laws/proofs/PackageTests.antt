@@ -250,9 +250,9 @@ inputs files path ips read e name = (
 
 -- ---- in order
 
-same_front : (front x y : List ℕ) → compare_bytes (front ++ x) (front ++ y) ≡ compare_bytes x y
-same_front [] x y = refl
-same_front (b ∷ front) x y = ap (λ (o : Ordering). ordering_then o (slice_cmp nat_cmp (front ++ x) (front ++ y))) (tied_itself nat_cmp_total b) ∙ same_front front x y
+same_prefix : (prefix x y : List ℕ) → compare_bytes (prefix ++ x) (prefix ++ y) ≡ compare_bytes x y
+same_prefix [] x y = refl
+same_prefix (b ∷ prefix) x y = ap (λ (o : Ordering). ordering_then o (slice_cmp nat_cmp (prefix ++ x) (prefix ++ y))) (tied_itself nat_cmp_total b) ∙ same_prefix prefix x y
 
 rising_names : (folder : List ℕ) (stems : List (List ℕ)) → ((stem : List ℕ) → Contains stems stem → (name : List ℕ) × (stem ≡ in_folder folder name)) → IsRising stems → IsRising (map (name_below folder) stems)
 rising_names folder [] inside rising = rising_none
@@ -267,7 +267,7 @@ rising_names folder (stem ∷ stems) inside rising =
     let other_name = sym (name_in folder other.0 found.0 other.1) ∙ found.2 in
     ap (λ (z : List ℕ). compare_bytes z y) stem_name
     ∙ (ap (λ (z : List ℕ). compare_bytes first'.0 z) (sym other_name)
-    ∙ (sym (same_front folder (47 ∷ first'.0) (47 ∷ other.0))
+    ∙ (sym (same_prefix folder (47 ∷ first'.0) (47 ∷ other.0))
     ∙ (ap (λ (z : List ℕ). compare_bytes z (in_folder folder other.0)) (sym first'.1)
     ∙ (ap (λ (z : List ℕ). compare_bytes stem z) (sym other.1) ∙ less)))))
     (rising_names folder stems (λ s h. inside s (later_in stem s stems h)) (sorted_tail compare_bytes stem stems rising))

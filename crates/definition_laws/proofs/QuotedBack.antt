@@ -52,9 +52,9 @@ double_after_step b (c ∷ rest) e f =
     ∙ ap (λ (t : Bool). cond t (cond (is_escape c) (double_after rest) (Err BadEscape)) (double_after (c ∷ rest))) f
 
 -- what one byte adds
-record IsWritten (b : ℕ) (front : List ℕ) : Type 0 where
-  pub text : (rest : List ℕ) → double_text (front ++ rest) ≡ b ∷ double_text rest
-  pub after : (rest : List ℕ) → double_after (front ++ rest) ≡ double_after rest
+record IsWritten (b : ℕ) (prefix : List ℕ) : Type 0 where
+  pub text : (rest : List ℕ) → double_text (prefix ++ rest) ≡ b ∷ double_text rest
+  pub after : (rest : List ℕ) → double_after (prefix ++ rest) ≡ double_after rest
 
 by_backslash : (b c : ℕ) → escaped c ≡ b → is_escape c ≡ true → IsWritten b (92 ∷ c ∷ [])
 by_backslash b c is can = record {
@@ -81,9 +81,9 @@ written b = quote (eqb b 34) refl
     quote true e = by_backslash b 34 (sym (eqb-true b 34 e)) refl
     quote false e = slash (eqb b 92) e refl
 
-regroup : (front text : List ℕ) → (front ++ text) ++ 34 ∷ [] ≡ front ++ (text ++ 34 ∷ [])
+regroup : (prefix text : List ℕ) → (prefix ++ text) ++ 34 ∷ [] ≡ prefix ++ (text ++ 34 ∷ [])
 regroup [] text = refl
-regroup (b ∷ front) text = ap (λ (z : List ℕ). b ∷ z) (regroup front text)
+regroup (b ∷ prefix) text = ap (λ (z : List ℕ). b ∷ z) (regroup prefix text)
 
 double_holds : (text : List ℕ) → double_text (escaped_text text ++ 34 ∷ []) ≡ text
 double_holds [] = refl

@@ -11,20 +11,20 @@ use Rattle.http_door.specs.declared.ending.Ending.TheVariants as ending
 use Rattle.http_door.specs.Requests.{Request, AreRequests, EndsAs, IsRefusal, IsOfBytes}
 use Rattle.http_door.proofs.Cutting.{request_some, request_once, request_apart, requests_more, refusal_more}
 use Rattle.http_door.proofs.Between.{none_refused}
-use Rattle.judge_server.specs.declared.ends.ConnHow.{ConnHow}
-use Rattle.judge_server.specs.declared.ends.ConnHow.TheVariants as how
-use Rattle.judge_server.specs.Entering.{Entered}
-use Rattle.judge_server.specs.Exchanges.{Exchange, Around, IsWhole, requests_of}
-use Rattle.judge_server.specs.Serving.{untaken, IsClosed, EndsOf, IsServed, HasCauseServed, AnswersAll}
+use Rattle.farm_api.specs.declared.ends.ConnHow.{ConnHow}
+use Rattle.farm_api.specs.declared.ends.ConnHow.TheVariants as how
+use Rattle.farm_api.specs.Entering.{Entered}
+use Rattle.farm_api.specs.Exchanges.{Exchange, Around, IsWhole, requests_of}
+use Rattle.farm_api.specs.Serving.{untaken, IsClosed, EndsOf, IsServed, HasCauseServed, AnswersAll}
 
 -- of requests that are all of the bytes, those that were found come first
-sound_front : (bytes : List ℕ) (qs : List Request) (rest : List ℕ) (rs : List Request) → AreRequests bytes qs rest → AreRequests bytes rs []
+sound_prefix : (bytes : List ℕ) (qs : List Request) (rest : List ℕ) (rs : List Request) → AreRequests bytes qs rest → AreRequests bytes rs []
     → (more : List Request) × (rs ≡ qs ++ more) × AreRequests rest more []
-sound_front bytes [] rest rs x y = (rs, refl, subst (λ (z : List ℕ). AreRequests z rs []) x y)
-sound_front bytes (q ∷ qs) rest [] x y = let none = ap length y in absurd (omega (arith, request_some bytes q x.0 x.1, none))
-sound_front bytes (q ∷ qs) rest (r ∷ rs) x y =
+sound_prefix bytes [] rest rs x y = (rs, refl, subst (λ (z : List ℕ). AreRequests z rs []) x y)
+sound_prefix bytes (q ∷ qs) rest [] x y = let none = ap length y in absurd (omega (arith, request_some bytes q x.0 x.1, none))
+sound_prefix bytes (q ∷ qs) rest (r ∷ rs) x y =
     let same = request_once bytes r q y.0 x.0 y.1 x.1 in
-    let more = sound_front x.0 qs rest rs x.2 (subst (λ (z : List ℕ). AreRequests z rs []) same.1 y.2) in
+    let more = sound_prefix x.0 qs rest rs x.2 (subst (λ (z : List ℕ). AreRequests z rs []) same.1 y.2) in
     (more.0, ap₂ (λ (z : Request) (zs : List Request). z ∷ zs) same.0 more.1, more.2)
 
 none_more : (more : List Request) → AreRequests [] more [] → more ≡ []
@@ -52,9 +52,9 @@ one_stays : (qs : List Request) (r : Request) (more : List Request) → All (λ 
 one_stays [] r more h = All-head (λ (z : Request). z.close ≡ false) r more h
 one_stays (q ∷ qs) r more h = one_stays qs r more (All-tail (λ (z : Request). z.close ≡ false) q (qs ++ r ∷ more) h)
 
-last_whole : (around : Around) (front : List Exchange) (x : Exchange) → All (IsWhole around) (front ++ x ∷ []) → IsWhole around x
+last_whole : (around : Around) (prefix : List Exchange) (x : Exchange) → All (IsWhole around) (prefix ++ x ∷ []) → IsWhole around x
 last_whole around [] x h = All-head (IsWhole around) x [] h
-last_whole around (y ∷ front) x h = last_whole around front x (All-tail (IsWhole around) y (front ++ x ∷ []) h)
+last_whole around (y ∷ prefix) x h = last_whole around prefix x (All-tail (IsWhole around) y (prefix ++ x ∷ []) h)
 
 asked_last : (asked close : Bool) → close ≡ false → (close ≡ true) ⊎ (asked ≡ true) → asked ≡ true
 asked_last asked close stays (inl closes) = let both : true ≡ false = sym closes ∙ stays in cc both
@@ -63,11 +63,11 @@ asked_last asked close stays (inr asks) = asks
 -- where no request asks to close, the server does
 closed_by : (around : Around) (xs : List Exchange) (rs more : List Request) → IsClosed xs → All (IsWhole around) xs → All (λ (z : Request). z.close ≡ false) rs → rs ≡ requests_of xs ++ more → around.asks ≡ true
 closed_by around xs rs more c whole stay is =
-    let front = requests_of c.front in
-    let last : requests_of xs ≡ front ++ c.last.request ∷ [] = ap requests_of c.whole ∙ map-append (λ (x : Exchange). x.request) c.front (c.last ∷ []) in
-    let all : rs ≡ front ++ c.last.request ∷ more = is ∙ ap (λ (qs : List Request). qs ++ more) last ∙ append_assoc front (c.last.request ∷ []) more in
-    let stays : c.last.request.close ≡ false = one_stays front c.last.request more (subst (All (λ (z : Request). z.close ≡ false)) all stay) in
-    (last_whole around c.front c.last (subst (All (IsWhole around)) c.whole whole)).asked (asked_last c.last.asked c.last.request.close stays c.closes)
+    let prefix = requests_of c.prefix in
+    let last : requests_of xs ≡ prefix ++ c.last.request ∷ [] = ap requests_of c.whole ∙ map-append (λ (x : Exchange). x.request) c.prefix (c.last ∷ []) in
+    let all : rs ≡ prefix ++ c.last.request ∷ more = is ∙ ap (λ (qs : List Request). qs ++ more) last ∙ append_assoc prefix (c.last.request ∷ []) more in
+    let stays : c.last.request.close ≡ false = one_stays prefix c.last.request more (subst (All (λ (z : Request). z.close ≡ false)) all stay) in
+    (last_whole around c.prefix c.last (subst (All (IsWhole around)) c.whole whole)).asked (asked_last c.last.asked c.last.request.close stays c.closes)
 
 -- the count of all requests
 counts_all : (xs : List Exchange) (rs more : List Request) (n : ℕ) → length xs ≡ n → rs ≡ requests_of xs ++ more → more ≡ [] → n ≡ length rs
@@ -112,5 +112,5 @@ pub answers_all : {A : Type 0} (enters : A → List Entered → A → Type 0) (a
 answers_all enters around s s' left left' held held' read read' write write' n h u cause = λ bytes rs told sound reads writes.
     let k = left_known bytes left' u.all (subst (λ (z : Option (List ℕ)). Consumes z left' u.all) told u.took) in
     let cut : AreRequests bytes (requests_of u.answered) (u.rest ++ k.0) = subst (λ (z : List ℕ). AreRequests z (requests_of u.answered) (u.rest ++ k.0)) (sym k.2) (requests_more u.all (requests_of u.answered) u.rest k.0 u.cut) in
-    let f = sound_front bytes (requests_of u.answered) (u.rest ++ k.0) rs cut sound.cut in
+    let f = sound_prefix bytes (requests_of u.answered) (u.rest ++ k.0) rs cut sound.cut in
     by_end around u.answered u.all u.rest u.tail k.0 bytes left' u.made rs f.0 read read' write write' n h u.ends cause u.count k.1 k.2 sound.few sound.staying f.1 f.2 u.whole reads writes

@@ -6,8 +6,8 @@ use Rattle.farm_kinds.specs.declared.outcomes.NoMemory.{NoMemory}
 use Rattle.farm_kinds.specs.declared.events.Event.{Event}
 use Rattle.farm_kinds.specs.declared.events.Reply.{Reply}
 use Rattle.farm_kinds.specs.declared.events.Reply.TheVariants as reply
-use Rattle.judge_server.specs.Conversation.{tick, down_after}
-use Rattle.judge_server.specs.Entering.{is_no_memory, Entered, with_reply, all_with_reply, AreEntered, Replies, entered_for, IsBegun, EntersAside, IsEntered}
+use Rattle.farm_api.specs.Conversation.{tick, down_after}
+use Rattle.farm_api.specs.Entering.{is_no_memory, Entered, with_reply, all_with_reply, AreEntered, Replies, entered_for, IsBegun, EntersAside, IsEntered}
 
 pub not_no_memory : (r : Reply) → is_no_memory r ≡ false → r ≢ reply.NoMemory
 not_no_memory r off is = let both : true ≡ false = sym (ap is_no_memory is) ∙ off in absurd (cc both)
@@ -36,7 +36,7 @@ pub begun_tick : {A : Type 0} (step : A → Entered → A → Type 0) (ticks : B
 begun_tick step ticks moment e a b result x = record {
   replies = record { ticked = x.answer; answer = reply.Nothing; downed = reply.Nothing };
   made = all_with_reply x.answer (tick ticks moment);
-  front = (with_reply e reply.Nothing ∷ all_with_reply reply.Nothing (down_after e reply.Nothing), refl);
+  prefix = (with_reply e reply.Nothing ∷ all_with_reply reply.Nothing (down_after e reply.Nothing), refl);
   entered = x.entered;
 }
 
@@ -48,14 +48,14 @@ begun_event step ticks moment e a m b r result x y =
     let behind = all_with_reply reply.Nothing (down_after e r) in record {
       replies = record { ticked = x.answer; answer = r; downed = reply.Nothing };
       made = before ++ with_reply e r ∷ [];
-      front = (behind, append_assoc before (with_reply e r ∷ []) behind);
+      prefix = (behind, append_assoc before (with_reply e r ∷ []) behind);
       entered = entered_then step a before m (with_reply e r ∷ []) b x.entered (b, y, refl);
     }
 
 -- all events were entered
 pub begun_all : {A : Type 0} (step : A → Entered → A → Type 0) (whole : Replies → List Entered) (a b : A) (r : Replies)
     → AreEntered step a (whole r) b → IsBegun step whole a b
-begun_all step whole a b r x = record { replies = r; made = whole r; front = ([], append-nil (whole r)); entered = x }
+begun_all step whole a b r x = record { replies = r; made = whole r; prefix = ([], append-nil (whole r)); entered = x }
 
 -- memory ran out at what follows from the event
 pub begun_down : {A : Type 0} (step : A → Entered → A → Type 0) (ticks : Bool) (moment : ℕ) (e : Event) (a m n b : A) (r : Reply) (first last : Result (Unit {0}) NoMemory)

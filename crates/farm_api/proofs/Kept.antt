@@ -11,10 +11,10 @@ use Rattle.http_door.specs.declared.responses.ResponseFault.TheVariants as fault
 use Rattle.http_door.specs.Responses.{Writes}
 use Rattle.public_board.specs.Values.{ReaderValue, Looks, Gives}
 use Rattle.public_board.specs.Versions.{last_of}
-use Rattle.judge_server.specs.Conversation.{rows_response}
+use Rattle.farm_api.specs.Conversation.{rows_response}
 use Rattle.judge_feed.specs.Showing.{AreShown}
-use Rattle.judge_server.specs.Putting.{PutsRead, IsKept}
-use Rattle.judge_server.proofs.OneAnswer.{rows_put}
+use Rattle.farm_api.specs.Putting.{PutsRead, IsKept}
+use Rattle.farm_api.proofs.OneAnswer.{rows_put}
 
 abbrev text_of : List Answer → List ℕ
 text_of rows = rows_response false (reply.Board rows)

@@ -4,15 +4,15 @@ use mathlib.Core.Logic.{inl, inr}
 use Rattle.farm_board.specs.BoardState.{BoardState}
 use Rattle.farm_board.specs.Passes.{PassValue}
 use Rattle.http_door.specs.declared.responses.ResponseFault.{ResponseFault}
-use Rattle.judge_server.specs.Exchanges.{Around}
-use Rattle.judge_server.specs.declared.ends.ConnHow.{ConnHow}
-use Rattle.judge_server.specs.Entering.{Entered, AreEntered, without_looks}
-use Rattle.judge_server.specs.Serving.{Standing, IsServed}
-use Rattle.judge_server.specs.PassCalls.{MakesCalls}
-use Rattle.judge_server.specs.LaneCalls.{AccessValue, LaneSteps, LaneMakes}
-use Rattle.judge_server.specs.Putting.{PutsLook, PutsRead}
-use Rattle.judge_server.proofs.PassLemmas.{makes_none, makes_one}
-use Rattle.judge_server.proofs.Reading.{gives_in_order}
+use Rattle.farm_api.specs.Exchanges.{Around}
+use Rattle.farm_api.specs.declared.ends.ConnHow.{ConnHow}
+use Rattle.farm_api.specs.Entering.{Entered, AreEntered, without_looks}
+use Rattle.farm_api.specs.Serving.{Standing, IsServed}
+use Rattle.farm_api.specs.PassCalls.{MakesCalls}
+use Rattle.farm_api.specs.LaneCalls.{AccessValue, LaneSteps, LaneMakes}
+use Rattle.farm_api.specs.Putting.{PutsLook, PutsRead}
+use Rattle.farm_api.proofs.PassLemmas.{makes_none, makes_one}
+use Rattle.farm_api.proofs.Reading.{gives_in_order}
 
 lane_calls : (start : BoardState) (old : AccessValue) (made : List Entered) (new : AccessValue) → AreEntered (LaneSteps start) old made new
     → MakesCalls old.pass (without_looks made) new.pass

@@ -13,16 +13,16 @@ use Rattle.http_door.specs.Requests.{Request}
 use Rattle.http_door.specs.Responses.{response_with, Writes}
 use Rattle.case_run.specs.Cases.{TestCase}
 use Rattle.contest_page.specs.ViewValue.{ViewValue}
-use Rattle.judge_server.specs.declared.asking.Asked.{Asked}
-use Rattle.judge_server.specs.declared.asking.Asked.TheVariants as asked
-use Rattle.judge_server.specs.declared.asking.RequestFault.{RequestFault}
-use Rattle.judge_server.specs.Jobs.{owner_in, Gives, text_for, IsJobText, no_job, no_view}
-use Rattle.judge_server.specs.Conversation.{asked_of, reply_response, fault_response, job_response, job_or_reply, rows_response, page_response, contest_response, Given, nothing_given}
-use Rattle.judge_server.specs.Entering.{Entered, with_look, AreEntered, Replies, AreKnown, entered_for, IsBegun, IsEntered}
-use Rattle.judge_server.specs.Exchanges.{Around, Exchange, IsCaseOf, IsGiven, entered_by}
-use Rattle.judge_server.specs.Putting.{PutsRows, PutsLook}
-use Rattle.judge_server.specs.Serving.{IsPartly, IsExchange, PutsJob, PutsAnswer, close_or, how_after, OneAnswered}
-use Rattle.judge_server.proofs.Enterings.{begun_all}
+use Rattle.farm_api.specs.declared.asking.Asked.{Asked}
+use Rattle.farm_api.specs.declared.asking.Asked.TheVariants as asked
+use Rattle.farm_api.specs.declared.asking.RequestFault.{RequestFault}
+use Rattle.farm_api.specs.Jobs.{owner_in, Gives, text_for, IsJobText, no_job, no_view}
+use Rattle.farm_api.specs.Conversation.{asked_of, reply_response, fault_response, job_response, job_or_reply, rows_response, page_response, contest_response, Given, nothing_given}
+use Rattle.farm_api.specs.Entering.{Entered, with_look, AreEntered, Replies, AreKnown, entered_for, IsBegun, IsEntered}
+use Rattle.farm_api.specs.Exchanges.{Around, Exchange, IsCaseOf, IsGiven, entered_by}
+use Rattle.farm_api.specs.Putting.{PutsRows, PutsLook}
+use Rattle.farm_api.specs.Serving.{IsPartly, IsExchange, PutsJob, PutsAnswer, close_or, how_after, OneAnswered}
+use Rattle.farm_api.proofs.Enterings.{begun_all}
 
 -- replies to nothing
 abbrev no_replies : Replies
@@ -36,7 +36,7 @@ pub begun_none : {A : Type 0} (step : A → Entered → A → Type 0) (what : As
 begun_none step what moment given a = record {
   replies = no_replies;
   made = [];
-  front = (entered_by moment what no_replies given, refl);
+  prefix = (entered_by moment what no_replies given, refl);
   entered = refl;
 }
 
@@ -56,7 +56,7 @@ put_reply step gives closing ticks moment e a b r held held' (Err fault.WriteFau
     (y.replies, nothing_given, y.known, tt, y.entered, (x.0, subst (λ (z : Reply). Appends held held' (take x.0 (reply_response closing z))) y.is x.2))
 put_reply step gives closing ticks moment e a b r held held' (Err fault.NoMemory) y x =
     let z = begun_all step (entered_for ticks moment e) a b y.replies y.entered in
-    (nothing_given, record { replies = z.replies; made = z.made; front = z.front; entered = z.entered }, x)
+    (nothing_given, record { replies = z.replies; made = z.made; prefix = z.prefix; entered = z.entered }, x)
 
 -- it was asked whose submission the judging is, and the response gives the job, or is that to the reply
 pub put_job : {A : Type 0} (step : A → Entered → A → Type 0) (gives : Gives) (closing : Bool) (moment judging test : ℕ) (a b : A) (r : Reply) (held held' : Option (List ℕ)) (result : Result (Unit {0}) ResponseFault)
@@ -79,19 +79,19 @@ put_job step gives closing moment judging test a b r held held' (Err fault.Write
 )
 put_job step gives closing moment judging test a b r held held' (Err fault.NoMemory) y x =
     let z = begun_all step (entered_for false moment (event.Owner judging)) a b y.replies y.entered in
-    (nothing_given, record { replies = z.replies; made = z.made; front = z.front; entered = z.entered }, x)
+    (nothing_given, record { replies = z.replies; made = z.made; prefix = z.prefix; entered = z.entered }, x)
 
 -- memory ran out at the event
 pub begun_event : {A : Type 0} (step : A → Entered → A → Type 0) (gives : Gives) (closing ticks : Bool) (moment : ℕ) (e : Event) (a b : A) (held : Option (List ℕ))
     → IsBegun step (entered_for ticks moment e) a b → PutsAnswer step gives closing moment (asked.Event ticks e) a b held held (Err fault.NoMemory)
 begun_event step gives closing ticks moment e a b held z =
-    (nothing_given, record { replies = z.replies; made = z.made; front = z.front; entered = z.entered }, Keeps-refl held)
+    (nothing_given, record { replies = z.replies; made = z.made; prefix = z.prefix; entered = z.entered }, Keeps-refl held)
 
 -- memory ran out where it was asked whose submission the judging is
 pub begun_job : {A : Type 0} (step : A → Entered → A → Type 0) (gives : Gives) (closing : Bool) (moment judging test : ℕ) (a b : A) (held : Option (List ℕ))
     → IsBegun step (entered_for false moment (event.Owner judging)) a b → PutsAnswer step gives closing moment (asked.Job judging test) a b held held (Err fault.NoMemory)
 begun_job step gives closing moment judging test a b held z =
-    (nothing_given, record { replies = z.replies; made = z.made; front = z.front; entered = z.entered }, Keeps-refl held)
+    (nothing_given, record { replies = z.replies; made = z.made; prefix = z.prefix; entered = z.entered }, Keeps-refl held)
 
 -- what is given by a look
 abbrev look_given : ViewValue → Reply → Given
@@ -115,7 +115,7 @@ pub put_public : {A : Type 0} (step : A → Entered → A → Type 0) (gives : G
 put_public step gives closing moment a b held held' (Ok u) x = (no_replies, look_given no_view x.0, no_replies-known, x.2.0, (b, x.1, refl), x.2.1)
 put_public step gives closing moment a b held held' (Err fault.WriteFault) x = (no_replies, look_given no_view x.0, no_replies-known, x.2.0, (b, x.1, refl), x.2.1)
 put_public step gives closing moment a b held held' (Err fault.NoMemory) x =
-    (look_given no_view x.0, record { replies = no_replies; made = with_look x.0 ∷ []; front = ([], refl); entered = (b, x.1, refl) }, x.2)
+    (look_given no_view x.0, record { replies = no_replies; made = with_look x.0 ∷ []; prefix = ([], refl); entered = (b, x.1, refl) }, x.2)
 
 -- a look gave a board, and the response is the page with its rows
 pub put_page : {A : Type 0} (step : A → Entered → A → Type 0) (gives : Gives) (closing : Bool) (moment : ℕ) (a b : A) (rows : List Answer) (held held' : Option (List ℕ)) (result : Result (Unit {0}) ResponseFault)
@@ -123,12 +123,12 @@ pub put_page : {A : Type 0} (step : A → Entered → A → Type 0) (gives : Giv
 put_page step gives closing moment a b rows held held' (Ok u) y x = (no_replies, look_given gives.contest (reply.Board rows), no_replies-known, (tt, refl), (b, y, refl), x)
 put_page step gives closing moment a b rows held held' (Err fault.WriteFault) y x = (no_replies, look_given gives.contest (reply.Board rows), no_replies-known, (tt, refl), (b, y, refl), (x.0, x.2))
 put_page step gives closing moment a b rows held held' (Err fault.NoMemory) y x =
-    (look_given gives.contest (reply.Board rows), record { replies = no_replies; made = with_look (reply.Board rows) ∷ []; front = ([], refl); entered = (b, y, refl) }, x)
+    (look_given gives.contest (reply.Board rows), record { replies = no_replies; made = with_look (reply.Board rows) ∷ []; prefix = ([], refl); entered = (b, y, refl) }, x)
 
 pub no_page : {A : Type 0} (step : A → Entered → A → Type 0) (gives : Gives) (closing : Bool) (moment : ℕ) (a b : A) (r : Reply) (held : Option (List ℕ))
     → step a (with_look r) b → PutsAnswer step gives closing moment asked.Page a b held held (Err fault.NoMemory)
 no_page step gives closing moment a b r held y =
-    (look_given no_view r, record { replies = no_replies; made = with_look r ∷ []; front = ([], refl); entered = (b, y, refl) }, Keeps-refl held)
+    (look_given no_view r, record { replies = no_replies; made = with_look r ∷ []; prefix = ([], refl); entered = (b, y, refl) }, Keeps-refl held)
 
 -- nothing is entered for the names of the contest
 pub put_contest : {A : Type 0} (step : A → Entered → A → Type 0) (gives : Gives) (closing : Bool) (moment : ℕ) (a : A) (held held' : Option (List ℕ)) (result : Result (Unit {0}) ResponseFault)

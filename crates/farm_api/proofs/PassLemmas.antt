@@ -4,13 +4,13 @@ use mathlib.Core.List.{IsPrefix}
 use Rattle.farm_board.specs.Histories.{IsLegal, entries_by}
 use Rattle.farm_board.specs.BoardState.{BoardState}
 use Rattle.farm_board.specs.Passes.{PassValue}
-use Rattle.farm_board.specs.declared.entries.Entry.{Entry}
+use Rattle.farm_board.specs.declared.entries.HistoryEntry.{HistoryEntry}
 use Rattle.farm_board.proofs.Prefixes.{prefix_self, prefix_trans}
-use Rattle.judge_server.specs.Exchanges.{Around}
-use Rattle.judge_server.specs.declared.ends.ConnHow.{ConnHow}
-use Rattle.judge_server.specs.Entering.{Entered, AreEntered}
-use Rattle.judge_server.specs.Serving.{Standing, IsServed}
-use Rattle.judge_server.specs.PassCalls.{entry_of, PassSteps, MakesCalls}
+use Rattle.farm_api.specs.Exchanges.{Around}
+use Rattle.farm_api.specs.declared.ends.ConnHow.{ConnHow}
+use Rattle.farm_api.specs.Entering.{Entered, AreEntered}
+use Rattle.farm_api.specs.Serving.{Standing, IsServed}
+use Rattle.farm_api.specs.PassCalls.{entry_of, PassSteps, MakesCalls}
 
 pub makes_none : (p q : PassValue) → q ≡ p → MakesCalls p [] q
 makes_none p q same = record {
@@ -44,8 +44,8 @@ pub makes_one : (old m new : PassValue) (x : Entered) (xs : List Entered) → Pa
 makes_one old m new x xs made more =
     let call = made.0 in
     let g = call.grows in
-    let e : Entry = entry_of old.number x in record {
-      mine = more.mine ∙ ap (λ (es : List Entry). es ++ map (entry_of m.number) xs) g.mine
+    let e : HistoryEntry = entry_of old.number x in record {
+      mine = more.mine ∙ ap (λ (es : List HistoryEntry). es ++ map (entry_of m.number) xs) g.mine
           ∙ append_assoc old.mine (e ∷ []) (map (entry_of m.number) xs)
           ∙ ap (λ (n : ℕ). old.mine ++ e ∷ map (entry_of n) xs) g.number;
       seen = prefix_trans old.seen m.seen new.seen

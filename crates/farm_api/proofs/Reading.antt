@@ -7,9 +7,9 @@ use Rattle.farm_board.specs.BoardState.{BoardState}
 use Rattle.farm_board.proofs.Prefixes.{prefix_self, prefix_trans}
 use Rattle.public_board.specs.Versions.{last_of}
 use Rattle.public_board.specs.Values.{ReaderValue}
-use Rattle.judge_server.specs.Entering.{Entered, AreEntered}
-use Rattle.judge_server.specs.LaneCalls.{AccessValue, LaneSteps}
-use Rattle.judge_server.specs.Reads.{rows_in, Reads, with_rows, rows_given, IsVersion, AreInOrder, GivesInOrder}
+use Rattle.farm_api.specs.Entering.{Entered, AreEntered}
+use Rattle.farm_api.specs.LaneCalls.{AccessValue, LaneSteps}
+use Rattle.farm_api.specs.Reads.{rows_in, Reads, with_rows, rows_given, IsVersion, AreInOrder, GivesInOrder}
 
 prefix_length : {A : Type 0} (xs ys : List A) → IsPrefix xs ys → length xs ≤ length ys
 prefix_length xs ys h = let whole = ap length h.1 in omega (arith, whole, length-append xs h.0)
@@ -25,9 +25,9 @@ last_version (v ∷ w ∷ vs) rest some =
 
 -- rows that are the last of a beginning of the versions
 is_version : (vs versions : List (List Answer)) (rows : List Answer) → vs ≢ [] → IsPrefix vs versions → rows ≡ last_of vs → IsVersion versions (length vs) rows
-is_version vs versions rows some front is =
+is_version vs versions rows some prefix is =
     subst (λ (z : List Answer). IsVersion versions (length vs) z) (sym is)
-    (subst (λ (zs : List (List Answer)). IsVersion zs (length vs) (last_of vs)) front.1 (last_version vs front.0 some))
+    (subst (λ (zs : List (List Answer)). IsVersion zs (length vs) (last_of vs)) prefix.1 (last_version vs prefix.0 some))
 
 in_order_from : (versions : List (List Answer)) (n m : ℕ) (given : List (List Answer)) → n ≤ m → AreInOrder versions m given → AreInOrder versions n given
 in_order_from versions n m [] less h = tt

@@ -12,7 +12,7 @@ use Rattle.farm_kinds.specs.declared.outcomes.Answer.{Answer}
 use Rattle.farm_kinds.specs.declared.outcomes.Answer.TheVariants.{Final, Pending}
 use Rattle.farm_model.specs.Texts.{answer_text}
 use Rattle.wire_json.specs.Replies.{board_row, board_rows}
-use Rattle.judge_server.specs.Published.{json_of_rows, before_number, row_text, rows_text}
+use Rattle.farm_api.specs.Published.{json_of_rows, before_number, row_text, rows_text}
 
 -- no word of an answer has a byte that has to be escaped
 answer_quoted : (answer : Answer) → compact_text (string (answer_text answer)) ≡ codes "\"" ++ (answer_text answer ++ codes "\"")
@@ -89,8 +89,8 @@ rows_more start text text' answers i d h before this =
     ∙ ap (λ (z : List ℕ). start ++ z) (sym more)
 
 -- what stands before the rows, the rows, and what stands behind them
-pub rows_done : (answers : List Answer) (front text whole : List ℕ) → front ≡ codes "{\"reply\":\"public\",\"rows\":["
-    → text ≡ front ++ rows_text 1 answers → whole ≡ text ++ codes "]}" → whole ≡ compact_text (json_of_rows answers)
-rows_done answers front text whole is between behind =
-    behind ∙ ap (λ (z : List ℕ). z ++ codes "]}") between ∙ append_assoc front (rows_text 1 answers) (codes "]}")
+pub rows_done : (answers : List Answer) (prefix text whole : List ℕ) → prefix ≡ codes "{\"reply\":\"public\",\"rows\":["
+    → text ≡ prefix ++ rows_text 1 answers → whole ≡ text ++ codes "]}" → whole ≡ compact_text (json_of_rows answers)
+rows_done answers prefix text whole is between behind =
+    behind ∙ ap (λ (z : List ℕ). z ++ codes "]}") between ∙ append_assoc prefix (rows_text 1 answers) (codes "]}")
     ∙ ap (λ (z : List ℕ). z ++ (rows_text 1 answers ++ codes "]}")) is ∙ rows_spelled answers

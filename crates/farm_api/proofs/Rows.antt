@@ -5,8 +5,8 @@ use Rattle.farm_kinds.specs.declared.outcomes.Answer.{Answer}
 use Rattle.farm_kinds.specs.declared.events.Reply.TheVariants as reply
 use Rattle.http_door.specs.declared.responses.ResponseFault.{ResponseFault}
 use Rattle.http_door.specs.Responses.{response_with, Writes}
-use Rattle.judge_server.specs.Conversation.{rows_response}
-use Rattle.judge_server.specs.Published.{json_of_rows}
+use Rattle.farm_api.specs.Conversation.{rows_response}
+use Rattle.farm_api.specs.Published.{json_of_rows}
 
 pub rows_written : (closing : Bool) (rows : List Answer) (text : List ℕ) (held held' : Option (List ℕ)) (result : Result (Unit {0}) ResponseFault) → text ≡ compact_text (json_of_rows rows)
     → Writes held held' (response_with closing 200 text) result → Writes held held' (rows_response closing (reply.Board rows)) result

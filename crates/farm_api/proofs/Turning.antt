@@ -17,12 +17,12 @@ use Rattle.http_door.specs.Finding.{IsEndOf}
 use Rattle.http_door.specs.ReaderValue.{ReaderValue}
 use Rattle.http_door.specs.Reading.{request_with, next_of, Reads, Gives, LeavesAll, EndsWith, IsEndFor, HasCauseNext}
 use Rattle.http_door.proofs.Cutting.{requests_more, requests_then}
-use Rattle.judge_server.specs.declared.ends.ConnHow.{ConnHow}
-use Rattle.judge_server.specs.declared.ends.ConnHow.TheVariants as how
-use Rattle.judge_server.specs.Entering.{Entered, AreEntered}
-use Rattle.judge_server.specs.Exchanges.{Exchange, Around, IsWhole, entered_in, text_of, requests_of, all_entered, all_text}
-use Rattle.judge_server.specs.Serving.{IsStaying, OneAnswered, end_response, PutsEnd, Standing, untaken, IsUnderWay, EndsOf, IsServed, answered_count, Turned, HasCauseServed}
-use Rattle.judge_server.proofs.Enterings.{entered_then}
+use Rattle.farm_api.specs.declared.ends.ConnHow.{ConnHow}
+use Rattle.farm_api.specs.declared.ends.ConnHow.TheVariants as how
+use Rattle.farm_api.specs.Entering.{Entered, AreEntered}
+use Rattle.farm_api.specs.Exchanges.{Exchange, Around, IsWhole, entered_in, text_of, requests_of, all_entered, all_text}
+use Rattle.farm_api.specs.Serving.{IsStaying, OneAnswered, end_response, PutsEnd, Standing, untaken, IsUnderWay, EndsOf, IsServed, answered_count, Turned, HasCauseServed}
+use Rattle.farm_api.proofs.Enterings.{entered_then}
 
 -- one more exchange
 
@@ -44,18 +44,18 @@ wrote_last : (start held held' : Option (List ℕ)) (xs : List Exchange) (x : Ex
 wrote_last start held held' xs x was is =
     subst (λ (zs : List ℕ). Appends start held' zs) (sym (all_text-last xs x)) (Appends-trans start held held' (all_text xs) (text_of x) was is)
 
-cut_last : (all ahead front rest : List ℕ) (xs : List Exchange) (x : Exchange) (r : Request) → AreRequests all (requests_of xs) ahead
-    → x.request ≡ r → IsRequest (ahead ++ front) r rest → AreRequests (all ++ front) (requests_of (xs ++ x ∷ [])) rest
-cut_last all ahead front rest xs x r was same is =
-    subst (λ (rs : List Request). AreRequests (all ++ front) rs rest) (sym (map-append (λ (y : Exchange). y.request) xs (x ∷ [])))
-    (requests_then (all ++ front) (requests_of xs) (ahead ++ front) (x.request ∷ []) rest (requests_more all (requests_of xs) ahead front was)
-    (rest, subst (λ (q : Request). IsRequest (ahead ++ front) q rest) (sym same) is, refl))
+cut_last : (all ahead prefix rest : List ℕ) (xs : List Exchange) (x : Exchange) (r : Request) → AreRequests all (requests_of xs) ahead
+    → x.request ≡ r → IsRequest (ahead ++ prefix) r rest → AreRequests (all ++ prefix) (requests_of (xs ++ x ∷ [])) rest
+cut_last all ahead prefix rest xs x r was same is =
+    subst (λ (rs : List Request). AreRequests (all ++ prefix) rs rest) (sym (map-append (λ (y : Exchange). y.request) xs (x ∷ [])))
+    (requests_then (all ++ prefix) (requests_of xs) (ahead ++ prefix) (x.request ∷ []) rest (requests_more all (requests_of xs) ahead prefix was)
+    (rest, subst (λ (q : Request). IsRequest (ahead ++ prefix) q rest) (sym same) is, refl))
 
 longer : (xs : List Exchange) (x : Exchange) (n : ℕ) → length xs ≡ n → length (xs ++ x ∷ []) ≡ n + 1
 longer xs x n e = omega (arith, length-append xs (x ∷ []), e)
 
-more_bytes : (start old new : ℕ) (all front : List ℕ) → old ≡ start + length all → new ≡ old + length front → new ≡ start + length (all ++ front)
-more_bytes start old new all front x y = omega (arith, length-append all front, x, y)
+more_bytes : (start old new : ℕ) (all prefix : List ℕ) → old ≡ start + length all → new ≡ old + length prefix → new ≡ start + length (all ++ prefix)
+more_bytes start old new all prefix x y = omega (arith, length-append all prefix, x, y)
 
 with_none : (a b : Option (List ℕ)) (text : List ℕ) → Appends a b text → Appends a b (text ++ [])
 with_none a b text x = subst (λ (z : List ℕ). Appends a b z) (sym (append-nil text)) x
@@ -69,11 +69,11 @@ pub turned_request : {A : Type 0} (step : A → Entered → A → Type 0) (aroun
     → Turned step around (record { state = a; left = left; held = held; ahead = old.ahead; taken = old.taken }) (record { state = a'; left = left'; held = held'; ahead = new.ahead; taken = new.taken }) out
 turned_request step around a a' left left' held held' old new h None x y = λ b n u. record {
   answered = u.answered ++ y.0 ∷ [];
-  all = u.all ++ x.front;
+  all = u.all ++ x.prefix;
   count = longer u.answered y.0 n u.count;
-  bytes = more_bytes b.taken old.taken new.taken u.all x.front u.bytes x.count;
-  took = Consumes-trans b.left left left' u.all x.front u.took x.took;
-  cut = cut_last u.all old.ahead x.front new.ahead u.answered y.0 (request_with h new.body) u.cut y.1.is x.gives;
+  bytes = more_bytes b.taken old.taken new.taken u.all x.prefix u.bytes x.count;
+  took = Consumes-trans b.left left left' u.all x.prefix u.took x.took;
+  cut = cut_last u.all old.ahead x.prefix new.ahead u.answered y.0 (request_with h new.body) u.cut y.1.is x.gives;
   whole = All-push (IsWhole around) u.answered y.0 u.whole y.1.whole;
   entered = entered_last step b.state a a' u.answered y.0 u.entered y.1.entered;
   wrote = wrote_last b.held held held' u.answered y.0 u.wrote y.2;
@@ -82,27 +82,27 @@ turned_request step around a a' left left' held held' old new h None x y = λ b 
 turned_request step around a a' left left' held held' old new h (Some how.Closed) x y = λ b n u. record {
   answered = u.answered ++ y.0 ∷ [];
   made = [];
-  all = u.all ++ x.front;
+  all = u.all ++ x.prefix;
   rest = new.ahead;
   tail = [];
   count = longer u.answered y.0 n u.count;
-  took = Consumes-trans b.left left left' u.all x.front u.took x.took;
-  cut = cut_last u.all old.ahead x.front new.ahead u.answered y.0 (request_with h new.body) u.cut y.1.is x.gives;
+  took = Consumes-trans b.left left left' u.all x.prefix u.took x.took;
+  cut = cut_last u.all old.ahead x.prefix new.ahead u.answered y.0 (request_with h new.body) u.cut y.1.is x.gives;
   whole = All-push (IsWhole around) u.answered y.0 u.whole y.1.whole;
   entered = entered_none step b.state a' (all_entered (u.answered ++ y.0 ∷ [])) (entered_last step b.state a a' u.answered y.0 u.entered y.1.entered);
   wrote = with_none b.held held' (all_text (u.answered ++ y.0 ∷ [])) (wrote_last b.held held held' u.answered y.0 u.wrote y.2);
   staying = λ other. absurd (other refl);
-  ends = (record { front = u.answered; last = y.0; whole = refl; closes = y.3; staying = u.staying }, refl, refl);
+  ends = (record { prefix = u.answered; last = y.0; whole = refl; closes = y.3; staying = u.staying }, refl, refl);
 }
 turned_request step around a a' left left' held held' old new h (Some how.WriteFault) x y = λ b n u. record {
   answered = u.answered;
   made = entered_in y.0;
-  all = u.all ++ x.front;
-  rest = old.ahead ++ x.front;
+  all = u.all ++ x.prefix;
+  rest = old.ahead ++ x.prefix;
   tail = take y.2.0 (text_of y.0);
   count = u.count;
-  took = Consumes-trans b.left left left' u.all x.front u.took x.took;
-  cut = requests_more u.all (requests_of u.answered) old.ahead x.front u.cut;
+  took = Consumes-trans b.left left left' u.all x.prefix u.took x.took;
+  cut = requests_more u.all (requests_of u.answered) old.ahead x.prefix u.cut;
   whole = u.whole;
   entered = entered_then step b.state (all_entered u.answered) a (entered_in y.0) a' u.entered y.1.entered;
   wrote = Appends-trans b.held held held' (all_text u.answered) (take y.2.0 (text_of y.0)) u.wrote y.2.1;
@@ -110,22 +110,22 @@ turned_request step around a a' left left' held held' old new h (Some how.WriteF
   ends = inl (record {
     next = y.0;
     behind = new.ahead;
-    is = subst (λ (q : Request). IsRequest (old.ahead ++ x.front) q new.ahead) (sym y.1.is) x.gives;
+    is = subst (λ (q : Request). IsRequest (old.ahead ++ x.prefix) q new.ahead) (sym y.1.is) x.gives;
     whole = y.1.whole;
     all_made = refl;
     n = y.2.0;
-    front = refl;
+    prefix = refl;
   });
 }
 turned_request step around a a' left left' held held' old new h (Some how.NoMemory) x y = λ b n u. record {
   answered = u.answered;
   made = y.0.begun.made;
-  all = u.all ++ x.front;
-  rest = old.ahead ++ x.front;
+  all = u.all ++ x.prefix;
+  rest = old.ahead ++ x.prefix;
   tail = [];
   count = u.count;
-  took = Consumes-trans b.left left left' u.all x.front u.took x.took;
-  cut = requests_more u.all (requests_of u.answered) old.ahead x.front u.cut;
+  took = Consumes-trans b.left left left' u.all x.prefix u.took x.took;
+  cut = requests_more u.all (requests_of u.answered) old.ahead x.prefix u.cut;
   whole = u.whole;
   entered = entered_then step b.state (all_entered u.answered) a y.0.begun.made a' u.entered y.0.begun.entered;
   wrote = with_none b.held held' (all_text u.answered) (Appends-kept b.held held held' (all_text u.answered) u.wrote y.1);
@@ -137,7 +137,7 @@ turned_request step around a a' left left' held held' old new h (Some how.NoMemo
       behind = new.ahead;
       is = x.gives;
       shown = y.0.shown;
-      front = y.0.begun.front;
+      prefix = y.0.begun.prefix;
     }),
   );
 }
@@ -197,7 +197,7 @@ ends_of around xs rest bytes left held held' e how.ReadFault z x y l = (at_end e
 ends_of around xs rest bytes left held held' e how.InputLimit z x y l = (at_end e ending.InputLimit rest z.0 x, refl, refl, l z.0)
 ends_of around xs rest bytes left held held' e how.NoMemory z x y l = (refl, inl refl)
 ends_of around xs rest bytes left held held' e how.WriteFault z x y l =
-    inr (record { why = e; n = z.1.0; refusal = z.0; ends = x; front = refl }, refl)
+    inr (record { why = e; n = z.1.0; refusal = z.0; ends = x; prefix = refl }, refl)
 
 same_count : (n : ℕ) (held held' : Option (List ℕ)) (e : Ending) (h : ConnHow) → PutsEnd held held' e h → answered_count n h ≡ n
 same_count n held held' e how.End z = refl
@@ -209,9 +209,9 @@ same_count n held held' e how.WriteFault z = refl
 same_count n held held' e how.InputLimit z = refl
 same_count n held held' e how.NoMemory z = refl
 
-bytes_at : (e : Ending) (start old new : ℕ) (all front : List ℕ) → old ≡ start + length all → new ≡ old + length front → (e ≡ ending.InputLimit → new ≡ input_limit)
-    → e ≡ ending.InputLimit → start + length (all ++ front) ≡ input_limit
-bytes_at e start old new all front x y l is = sym (more_bytes start old new all front x y) ∙ l is
+bytes_at : (e : Ending) (start old new : ℕ) (all prefix : List ℕ) → old ≡ start + length all → new ≡ old + length prefix → (e ≡ ending.InputLimit → new ≡ input_limit)
+    → e ≡ ending.InputLimit → start + length (all ++ prefix) ≡ input_limit
+bytes_at e start old new all prefix x y l is = sym (more_bytes start old new all prefix x y) ∙ l is
 
 pub turned_end : {A : Type 0} (step : A → Entered → A → Type 0) (around : Around) (a : A) (left left' held held' : Option (List ℕ)) (old new : ReaderValue) (e : Ending) (h : ConnHow)
     → Reads left left' old new (next_of e) → IsEndOf e left' → (e ≡ ending.InputLimit → new.taken ≡ input_limit) → PutsEnd held held' e h
@@ -219,19 +219,19 @@ pub turned_end : {A : Type 0} (step : A → Entered → A → Type 0) (around : 
 turned_end step around a left left' held held' old new e h x end limit z = λ b n u. record {
   answered = u.answered;
   made = [];
-  all = u.all ++ x.front;
-  rest = old.ahead ++ x.front;
+  all = u.all ++ x.prefix;
+  rest = old.ahead ++ x.prefix;
   tail = tail_of h held held' e z;
   count = u.count ∙ sym (same_count n held held' e h z);
-  took = Consumes-trans b.left left left' u.all x.front u.took x.took;
-  cut = requests_more u.all (requests_of u.answered) old.ahead x.front u.cut;
+  took = Consumes-trans b.left left left' u.all x.prefix u.took x.took;
+  cut = requests_more u.all (requests_of u.answered) old.ahead x.prefix u.cut;
   whole = u.whole;
   entered = entered_none step b.state a (all_entered u.answered) u.entered;
   wrote = wrote_end b.held held held' (all_text u.answered) e h z u.wrote;
   staying = λ _. u.staying;
-  ends = ends_of around u.answered (old.ahead ++ x.front) (b.taken + length (u.all ++ x.front)) left' held held' e h z
-      (gives_end (old.ahead ++ x.front) new.ahead new.body e x.gives).0 end
-      (bytes_at e b.taken old.taken new.taken u.all x.front u.bytes x.count limit);
+  ends = ends_of around u.answered (old.ahead ++ x.prefix) (b.taken + length (u.all ++ x.prefix)) left' held held' e h z
+      (gives_end (old.ahead ++ x.prefix) new.ahead new.body e x.gives).0 end
+      (bytes_at e b.taken old.taken new.taken u.all x.prefix u.bytes x.count limit);
 }
 
 -- the target of a request is UTF-8

@@ -20,16 +20,16 @@ use Rattle.http_door.specs.Responses.{content_response, response_with}
 use Rattle.contest_page.specs.ViewValue.{ViewValue}
 use Rattle.contest_page.specs.Views.{contest_text}
 use Rattle.contest_page.specs.Page.{page_text}
-use Rattle.judge_server.specs.declared.asking.Asked.{Asked}
-use Rattle.judge_server.specs.declared.asking.Asked.TheVariants as asked
-use Rattle.judge_server.specs.declared.asking.RequestFault.{RequestFault}
-use Rattle.judge_server.specs.declared.asking.RequestFault.TheVariants as fault
-use Rattle.judge_server.specs.declared.routes.Routed.{Routed}
-use Rattle.judge_server.specs.declared.routes.Routed.TheVariants as routed
+use Rattle.farm_api.specs.declared.asking.Asked.{Asked}
+use Rattle.farm_api.specs.declared.asking.Asked.TheVariants as asked
+use Rattle.farm_api.specs.declared.asking.RequestFault.{RequestFault}
+use Rattle.farm_api.specs.declared.asking.RequestFault.TheVariants as fault
+use Rattle.farm_api.specs.declared.routes.Routed.{Routed}
+use Rattle.farm_api.specs.declared.routes.Routed.TheVariants as routed
 use Rattle.case_run.specs.Cases.{TestCase}
-use Rattle.judge_server.specs.Routes.{routed_of}
-use Rattle.judge_server.specs.Jobs.{owner_in, text_for, no_job, no_view}
-use Rattle.judge_server.specs.Published.{json_of_rows}
+use Rattle.farm_api.specs.Routes.{routed_of}
+use Rattle.farm_api.specs.Jobs.{owner_in, text_for, no_job, no_view}
+use Rattle.farm_api.specs.Published.{json_of_rows}
 
 -- Events
 

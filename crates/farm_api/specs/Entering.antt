@@ -6,7 +6,7 @@ use Rattle.farm_kinds.specs.declared.outcomes.NoMemory.{NoMemory}
 use Rattle.farm_kinds.specs.declared.events.Event.{Event}
 use Rattle.farm_kinds.specs.declared.events.Reply.{Reply}
 use Rattle.farm_kinds.specs.declared.events.Reply.TheVariants as reply
-use Rattle.judge_server.specs.Conversation.{tick, down_after}
+use Rattle.farm_api.specs.Conversation.{tick, down_after}
 
 -- the reply says that memory ran out
 abbrev pub is_no_memory : Reply → Bool
@@ -65,12 +65,12 @@ abbrev pub entered_for : Bool → ℕ → Event → Replies → List Entered
 entered_for ticks moment e r = all_with_reply r.ticked (tick ticks moment)
     ++ with_reply e r.answer ∷ all_with_reply r.downed (down_after e r.answer)
 
--- a front of what these replies make of it was entered
+-- a prefix of what these replies make of it was entered
 pub record IsBegun {A : Type 0} (step : A → Entered → A → Type 0) (whole : Replies → List Entered) (a b : A)
     : Type 0 where
   pub replies : Replies
   pub made : List Entered
-  pub front : IsPrefix made (whole replies)
+  pub prefix : IsPrefix made (whole replies)
   pub entered : AreEntered step a made b
 
 -- the events, of which there is at most one, were entered, and the result says whether memory ran out
@@ -88,7 +88,7 @@ pub record IsEntered {A : Type 0} (step : A → Entered → A → Type 0) (whole
   pub known : AreKnown replies
   pub entered : AreEntered step a (whole replies) b
 
--- all was entered, or memory ran out behind a front of it
+-- all was entered, or memory ran out behind a prefix of it
 abbrev pub Enters : {A : Type 0} → (A → Entered → A → Type 0) → Bool → ℕ → Event → A → A
     → Result Reply NoMemory → Type 0
 Enters step ticks moment e a b (Ok answer) = IsEntered step (entered_for ticks moment e) a b answer

@@ -1,14 +1,14 @@
 -- Requests that are answered: what is entered for them, and their responses.
 use Rattle.std.specs.Prelude.{◌≡◌, ℕ, List, [], ◌∷◌, ◌++◌, map, Bool, true, false, Option, Some, None}
 use Rattle.http_door.specs.Requests.{Request}
-use Rattle.judge_server.specs.declared.asking.Asked.{Asked}
-use Rattle.judge_server.specs.declared.asking.Asked.TheVariants as asked
+use Rattle.farm_api.specs.declared.asking.Asked.{Asked}
+use Rattle.farm_api.specs.declared.asking.Asked.TheVariants as asked
 use Rattle.farm_kinds.specs.declared.events.Reply.{Reply}
 use Rattle.farm_kinds.specs.declared.events.Reply.TheVariants as reply
 use Rattle.farm_kinds.specs.declared.events.Event.TheVariants as event
-use Rattle.judge_server.specs.Jobs.{owner_in, Gives, gives_none}
-use Rattle.judge_server.specs.Conversation.{asked_of, Given, response_of}
-use Rattle.judge_server.specs.Entering.{Entered, with_look, Replies, AreKnown, entered_for}
+use Rattle.farm_api.specs.Jobs.{owner_in, Gives, gives_none}
+use Rattle.farm_api.specs.Conversation.{asked_of, Given, response_of}
+use Rattle.farm_api.specs.Entering.{Entered, with_look, Replies, AreKnown, entered_for}
 
 -- a request, what the clock showed, the replies to what is entered for it, what else the response takes, and whether
 -- the server asked to close the connection behind it

@@ -5,10 +5,10 @@ use Rattle.farm_kinds.specs.declared.outcomes.Answer.{Answer}
 use Rattle.farm_board.specs.BoardState.{BoardState}
 use Rattle.farm_board.specs.Passes.{PassValue, Calls}
 use Rattle.public_board.specs.Values.{ReaderValue}
-use Rattle.judge_server.specs.declared.access.AccessOf.{AccessOf}
-use Rattle.judge_server.specs.Entering.{Entered, without_looks}
-use Rattle.judge_server.specs.PassCalls.{MakesCalls}
-use Rattle.judge_server.specs.Reads.{rows_in, Reads, IsTold, rows_given, GivesInOrder}
+use Rattle.farm_api.specs.declared.access.AccessOf.{AccessOf}
+use Rattle.farm_api.specs.Entering.{Entered, without_looks}
+use Rattle.farm_api.specs.PassCalls.{MakesCalls}
+use Rattle.farm_api.specs.Reads.{rows_in, Reads, IsTold, rows_given, GivesInOrder}
 
 -- what contracts see of what a lane has of a board
 abbrev pub AccessValue : Type 0

@@ -7,9 +7,9 @@ use Rattle.farm_kinds.specs.declared.events.Event.TheVariants as event
 use Rattle.farm_kinds.specs.declared.events.Reply.{Reply}
 use Rattle.farm_board.specs.Histories.{IsLegal, entries_by}
 use Rattle.farm_board.specs.Passes.{PassValue, Calls, call_of}
-use Rattle.farm_board.specs.declared.entries.Entry.{Entry}
-use Rattle.farm_board.specs.declared.entries.Entry.TheVariants as entry
-use Rattle.judge_server.specs.Entering.{Entered}
+use Rattle.farm_board.specs.declared.entries.HistoryEntry.{HistoryEntry}
+use Rattle.farm_board.specs.declared.entries.HistoryEntry.TheVariants as entry
+use Rattle.farm_api.specs.Entering.{Entered}
 
 -- what is called for what is entered: a look asks for the board
 abbrev pub event_in : Entered → Event
@@ -21,7 +21,7 @@ reply_in (inl x) = x.reply
 reply_in (inr r) = r
 
 -- what the pass with this number entered, as its call
-abbrev pub entry_of : ℕ → Entered → Entry
+abbrev pub entry_of : ℕ → Entered → HistoryEntry
 entry_of number x = entry.Call (call_of number (event_in x) (reply_in x))
 
 -- a call for what is entered leads from a pass to a pass that has no turn

@@ -9,14 +9,14 @@ use Rattle.http_door.specs.declared.responses.ResponseFault.{ResponseFault}
 use Rattle.http_door.specs.declared.responses.ResponseFault.TheVariants as fault
 use Rattle.public_board.specs.Values.{ReaderValue}
 use Rattle.public_board.specs.Versions.{last_of}
-use Rattle.judge_server.specs.Conversation.{rows_response}
-use Rattle.judge_server.specs.Entering.{Entered, with_look}
-use Rattle.judge_server.specs.Exchanges.{IsBoard}
-use Rattle.judge_server.specs.Reads.{rows_in, Reads}
+use Rattle.farm_api.specs.Conversation.{rows_response}
+use Rattle.farm_api.specs.Entering.{Entered, with_look}
+use Rattle.farm_api.specs.Exchanges.{IsBoard}
+use Rattle.farm_api.specs.Reads.{rows_in, Reads}
 
 -- Looks
 
--- the response that gives the rows of a look was put; or a front of it; or nothing, as where the look gave no rows
+-- the response that gives the rows of a look was put; or a prefix of it; or nothing, as where the look gave no rows
 abbrev pub PutsRows : Bool → Reply → Option (List ℕ) → Option (List ℕ) → Result (Unit {0}) ResponseFault → Type 0
 PutsRows closing r held held' (Ok u) = IsBoard r × Appends held held' (rows_response closing r)
 PutsRows closing r held held' (Err fault.WriteFault) =

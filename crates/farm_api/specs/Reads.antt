@@ -8,7 +8,7 @@ use Rattle.farm_kinds.specs.declared.events.Reply.TheVariants as reply
 use Rattle.farm_board.specs.BoardState.{BoardState}
 use Rattle.public_board.specs.Values.{ReaderValue, Looks, Gives}
 use Rattle.judge_feed.specs.Showing.{AreShown}
-use Rattle.judge_server.specs.Entering.{Entered}
+use Rattle.farm_api.specs.Entering.{Entered}
 
 -- One look
 
@@ -44,8 +44,8 @@ rows_given (inr r ∷ xs) = with_rows (rows_in r) (rows_given xs)
 -- the rows are the version of this number, counted from 1
 abbrev pub IsVersion : List (List Answer) → ℕ → List Answer → Type 0
 IsVersion versions number rows =
-    (front : List (List Answer)) × (rest : List (List Answer)) × (versions ≡ front ++ rows ∷ rest)
-    × (length front + 1 ≡ number)
+    (prefix : List (List Answer)) × (rest : List (List Answer)) × (versions ≡ prefix ++ rows ∷ rest)
+    × (length prefix + 1 ≡ number)
 
 -- all are versions, none before the one of this number, and a later one none before an earlier one
 abbrev pub AreInOrder : List (List Answer) → ℕ → List (List Answer) → Type 0

@@ -5,11 +5,11 @@ use Rattle.std.specs.Str.{bytes_eq}
 use Rattle.farm_model.specs.Numbers.{number_of}
 use Rattle.wire_json.specs.declared.routes.Route.{Route}
 use Rattle.wire_json.specs.declared.routes.Route.TheVariants as route
-use Rattle.judge_server.specs.declared.paths.Place.{Place}
-use Rattle.judge_server.specs.declared.paths.Place.TheVariants as place
-use Rattle.judge_server.specs.declared.routes.Routed.{Routed}
-use Rattle.judge_server.specs.declared.routes.Routed.TheVariants as routed
-use Rattle.judge_server.specs.Table.{rows, place_in}
+use Rattle.farm_api.specs.declared.paths.Place.{Place}
+use Rattle.farm_api.specs.declared.paths.Place.TheVariants as place
+use Rattle.farm_api.specs.declared.routes.Routed.{Routed}
+use Rattle.farm_api.specs.declared.routes.Routed.TheVariants as routed
+use Rattle.farm_api.specs.Table.{rows, place_in}
 
 -- the bytes before the first one of this code, or all
 abbrev pub before : ℕ → List ℕ → List ℕ

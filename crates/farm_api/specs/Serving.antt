@@ -17,13 +17,13 @@ use Rattle.http_door.specs.Requests.{Request, IsRequest, AreRequests, EndsAs, Is
 use Rattle.http_door.specs.Reading.{next_of}
 use Rattle.http_door.specs.Refusals.{refusal_of, refusal_status, refusal_body}
 use Rattle.http_door.specs.Responses.{response_text}
-use Rattle.judge_server.specs.declared.asking.Asked.{Asked}
-use Rattle.judge_server.specs.declared.ends.ConnHow.{ConnHow}
-use Rattle.judge_server.specs.declared.ends.ConnHow.TheVariants as how
-use Rattle.judge_server.specs.Jobs.{owner_in, Gives}
-use Rattle.judge_server.specs.Conversation.{asked_of, Given, job_or_reply, response_in}
-use Rattle.judge_server.specs.Entering.{Entered, AreEntered, Replies, AreKnown, IsBegun}
-use Rattle.judge_server.specs.Exchanges.{Exchange, Around, IsCaseOf, IsGiven, IsWhole, entered_by, entered_in, text_of, requests_of, all_entered, all_text}
+use Rattle.farm_api.specs.declared.asking.Asked.{Asked}
+use Rattle.farm_api.specs.declared.ends.ConnHow.{ConnHow}
+use Rattle.farm_api.specs.declared.ends.ConnHow.TheVariants as how
+use Rattle.farm_api.specs.Jobs.{owner_in, Gives}
+use Rattle.farm_api.specs.Conversation.{asked_of, Given, job_or_reply, response_in}
+use Rattle.farm_api.specs.Entering.{Entered, AreEntered, Replies, AreKnown, IsBegun}
+use Rattle.farm_api.specs.Exchanges.{Exchange, Around, IsCaseOf, IsGiven, IsWhole, entered_by, entered_in, text_of, requests_of, all_entered, all_text}
 
 -- One request
 
@@ -70,7 +70,7 @@ pub record IsExchange {A : Type 0} (step : A → Entered → A → Type 0) (arou
   pub whole : IsWhole around x
   pub entered : AreEntered step a (entered_in x) b
 
--- a front of what is entered for the request was, at a moment that the clock shows
+-- a prefix of what is entered for the request was, at a moment that the clock shows
 pub record IsPartly {A : Type 0} (step : A → Entered → A → Type 0) (around : Around) (a : A) (r : Request)
     (b : A) : Type 0 where
   pub moment : ℕ
@@ -121,7 +121,7 @@ abbrev pub given_as : Result Head Ending → Next
 given_as (Ok h) = next.Request h
 given_as (Err e) = next_of e
 
--- a refusal was put, or a front of it, or nothing
+-- a refusal was put, or a prefix of it, or nothing
 abbrev pub Refuses : Option (List ℕ) → Option (List ℕ) → List ℕ → ConnHow → Type 0
 Refuses held held' text how.BadRequest = Appends held held' text
 Refuses held held' text how.WriteFault = (n : ℕ) × Appends held held' (take n text)
@@ -180,13 +180,13 @@ pub record IsUnderWay {A : Type 0} (step : A → Entered → A → Type 0) (arou
 
 -- the last request asked to close, or the server did behind it, and nobody did before
 pub record IsClosed (xs : List Exchange) : Type 0 where
-  pub front : List Exchange
+  pub prefix : List Exchange
   pub last : Exchange
-  pub whole : xs ≡ front ++ last ∷ []
+  pub whole : xs ≡ prefix ++ last ∷ []
   pub closes : IsClosing last
-  pub staying : AreStaying front
+  pub staying : AreStaying prefix
 
--- all was entered for the next request, and a front of its response was put
+-- all was entered for the next request, and a prefix of its response was put
 pub record IsNextCut (around : Around) (rest tail : List ℕ) (made : List Entered) : Type 0 where
   pub next : Exchange
   pub behind : List ℕ
@@ -194,23 +194,23 @@ pub record IsNextCut (around : Around) (rest tail : List ℕ) (made : List Enter
   pub whole : IsWhole around next
   pub all_made : made ≡ entered_in next
   pub n : ℕ
-  pub front : tail ≡ take n (text_of next)
+  pub prefix : tail ≡ take n (text_of next)
 
--- a front of the fixed response to what stands there was put
+-- a prefix of the fixed response to what stands there was put
 pub record IsCutRefusal (rest tail : List ℕ) : Type 0 where
   pub why : Ending
   pub n : ℕ
   pub refusal : IsRefusal why
   pub ends : EndsAs why rest
-  pub front : tail ≡ take n (end_response why)
+  pub prefix : tail ≡ take n (end_response why)
 
--- a front of what is entered for the next request was, at a moment that the clock shows
+-- a prefix of what is entered for the next request was, at a moment that the clock shows
 pub record IsNextBegun (around : Around) (rest : List ℕ) (made : List Entered) : Type 0 where
   pub next : Exchange
   pub behind : List ℕ
   pub is : IsRequest rest next.request behind
   pub shown : around.shows next.moment ≡ true
-  pub front : IsPrefix made (entered_in next)
+  pub prefix : IsPrefix made (entered_in next)
 
 -- What stands behind the requests that were answered: in the bytes that were taken (`rest`), in those that were put
 -- (`tail`), and in what was entered (`made`).

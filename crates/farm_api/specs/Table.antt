@@ -7,8 +7,8 @@ use Rattle.matchit.specs.Order.{placed}
 use Rattle.matchit.specs.Route.{Scan, parse_route}
 use Rattle.matchit.specs.Router.{RouteOf, route_from}
 use Rattle.matchit.specs.declared.error.InsertError.{InsertError}
-use Rattle.judge_server.specs.declared.paths.Place.{Place}
-use Rattle.judge_server.specs.declared.paths.Place.TheVariants as place
+use Rattle.farm_api.specs.declared.paths.Place.{Place}
+use Rattle.farm_api.specs.declared.paths.Place.TheVariants as place
 
 abbrev pub placed_read : Result Scan InsertError → Place → RowsOf (RouteOf Place) → RowsOf (RouteOf Place)
 placed_read (Ok s) value rows = placed (s.pattern, route_from s value) rows

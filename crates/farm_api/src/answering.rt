@@ -1,6 +1,6 @@
 ghost use Rattle.std.specs.Prelude.{◌≡◌, ◌≢◌, IfOk};
 ghost use Rattle.http_door.specs.Responses.{Writes, HasCauseWritten};
-ghost use Rattle.judge_server.specs.Conversation.{status_of, reply_response, fault_status, fault_body, fault_response};
+ghost use Rattle.farm_api.specs.Conversation.{status_of, reply_response, fault_status, fault_body, fault_response};
 
 use crate::asking::RequestFault;
 use farm_io::Sink;

@@ -1,7 +1,7 @@
 ghost use Rattle.std.specs.Prelude.{◌≡◌, ◌≢◌, Ok, Err, IfOk, IsUtf8};
 ghost use Rattle.http_door.specs.Reading.{request_with};
 ghost use Rattle.wire_json.specs.Bodies.{body_of};
-ghost use Rattle.judge_server.specs.Conversation.{host_event, fetch_event, actor_event, bare_event, event_of, ticks_first, asked_with, asked_on, asked_by, asked_of};
+ghost use Rattle.farm_api.specs.Conversation.{host_event, fetch_event, actor_event, bare_event, event_of, ticks_first, asked_with, asked_on, asked_by, asked_of};
 
 use crate::paths::Paths;
 use crate::routes::{Routed, find_route};

@@ -1,7 +1,7 @@
 ghost use Rattle.std.specs.Prelude.{◌≡◌, ◌≢◌, ◌≤◌, ◌+◌, IfOk};
 ghost use Rattle.http_door.specs.Responses.{HasCauseWritten};
-ghost use Rattle.judge_server.specs.Jobs.{owner_in, IsCaseBy, IsJobText};
-ghost use Rattle.judge_server.specs.Serving.{PutsJob, PutsAnswer};
+ghost use Rattle.farm_api.specs.Jobs.{owner_in, IsCaseBy, IsJobText};
+ghost use Rattle.farm_api.specs.Serving.{PutsJob, PutsAnswer};
 
 use crate::answering::answer_reply;
 use crate::asking::Asked;

@@ -1,9 +1,9 @@
 ghost use Rattle.std.specs.Prelude.{◌≡◌, ◌≤◌, ◌^◌, Some};
 ghost use Rattle.farm_io.specs.Beside.{side};
-ghost use Rattle.judge_server.specs.Serving.{untaken, IsServed, HasCauseServed, AnswersAll};
-ghost use Rattle.judge_server.specs.Jobs.{gives_by};
-ghost use Rattle.judge_server.specs.Exchanges.{around_of, giving};
-ghost use Rattle.judge_server.specs.LaneCalls.{LaneSteps, LaneMakes};
+ghost use Rattle.farm_api.specs.Serving.{untaken, IsServed, HasCauseServed, AnswersAll};
+ghost use Rattle.farm_api.specs.Jobs.{gives_by};
+ghost use Rattle.farm_api.specs.Exchanges.{around_of, giving};
+ghost use Rattle.farm_api.specs.LaneCalls.{LaneSteps, LaneMakes};
 
 use crate::access::Access;
 use crate::calling::is_unheard;

@@ -1,5 +1,5 @@
 ghost use Rattle.std.specs.Prelude.{◌≡◌, IfOk, OnOk, fold, map};
-ghost use Rattle.judge_server.specs.Table.{with_path, rows, place_in};
+ghost use Rattle.farm_api.specs.Table.{with_path, rows, place_in};
 
 use farm_kinds::NoMemory;
 use matchit::{InsertError, Router};

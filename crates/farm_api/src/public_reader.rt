@@ -4,8 +4,8 @@ ghost use Rattle.http_door.specs.Responses.{HasCauseWritten};
 ghost use Rattle.public_board.specs.Values.{with_note, Looks, Gives};
 ghost use Rattle.public_board.specs.Versions.{last_of};
 ghost use Rattle.judge_feed.specs.Showing.{AreShown};
-ghost use Rattle.judge_server.specs.Conversation.{rows_response};
-ghost use Rattle.judge_server.specs.Putting.{PutsRead, IsKept};
+ghost use Rattle.farm_api.specs.Conversation.{rows_response};
+ghost use Rattle.farm_api.specs.Putting.{PutsRead, IsKept};
 
 use crate::publishing::{put_rows, rows_response};
 use farm_io::Sink;
@@ -76,11 +76,11 @@ pub struct PublicReader<J: Naming> {
 }
 
 impl<J: Naming> Model for PublicReader<J> {
-    ghost use Rattle.judge_server.specs.Putting.{PublicReaderValue};
+    ghost use Rattle.farm_api.specs.Putting.{PublicReaderValue};
 
     ghost Value = { PublicReaderValue };
 
-    ghost use Rattle.judge_server.specs.Putting.{IsKept};
+    ghost use Rattle.farm_api.specs.Putting.{IsKept};
 
     ghost view = { λ r. r.reader };
 

@@ -1,7 +1,7 @@
 ghost use Rattle.std.specs.Prelude.{◌≡◌, IfOk, false};
 ghost use Rattle.http_door.specs.Responses.{Writes, HasCauseWritten};
-ghost use Rattle.judge_server.specs.Conversation.{rows_response};
-ghost use Rattle.judge_server.specs.Putting.{PutsRows};
+ghost use Rattle.farm_api.specs.Conversation.{rows_response};
+ghost use Rattle.farm_api.specs.Putting.{PutsRows};
 
 use crate::rows_text::rows_json;
 use farm_io::Sink;

@@ -1,9 +1,9 @@
 ghost use Rattle.std.specs.Prelude.{◌≡◌, ◌≢◌, ◌+◌, ◌<◌, ◌≤◌, ◌∷◌, [], ℕ, IfOk};
-ghost use Rattle.judge_server.specs.Jobs.{Gives, IsJobText};
-ghost use Rattle.judge_server.specs.Conversation.{tick, down_after};
+ghost use Rattle.farm_api.specs.Jobs.{Gives, IsJobText};
+ghost use Rattle.farm_api.specs.Conversation.{tick, down_after};
 ghost use Rattle.http_door.specs.Responses.{HasCauseWritten};
-ghost use Rattle.judge_server.specs.Entering.{Entered, with_reply, with_look, EntersAside, is_no_memory, Enters};
-ghost use Rattle.judge_server.specs.Putting.{PutsLook};
+ghost use Rattle.farm_api.specs.Entering.{Entered, with_reply, with_look, EntersAside, is_no_memory, Enters};
+ghost use Rattle.farm_api.specs.Putting.{PutsLook};
 
 use contest_page::ContestView;
 use farm_io::Sink;

@@ -1,7 +1,7 @@
 ghost use Rattle.std.specs.Prelude.{◌≡◌, ◌==◌, ◌≤◌, length, IsUtf8};
 ghost use Rattle.std.specs.List.{position, position_or_len};
-ghost use Rattle.judge_server.specs.Table.{rows, place_in};
-ghost use Rattle.judge_server.specs.Routes.{before, behind, path_of, id_of, job_with, job_of, route_at, method_of, routed_by, got_by, routed_at, routed_of};
+ghost use Rattle.farm_api.specs.Table.{rows, place_in};
+ghost use Rattle.farm_api.specs.Routes.{before, behind, path_of, id_of, job_with, job_of, route_at, method_of, routed_by, got_by, routed_at, routed_of};
 
 use crate::paths::{Paths, Place};
 use command_text::read_number;

@@ -1,7 +1,7 @@
 ghost use Rattle.std.specs.Prelude.{◌≡◌, ◌++◌, IfOk};
 ghost use Rattle.serde_json.specs.Written.{compact_text};
 ghost use Rattle.farm_model.specs.Texts.{answer_text};
-ghost use Rattle.judge_server.specs.Published.{json_of_rows, before_number, row_text, rows_text};
+ghost use Rattle.farm_api.specs.Published.{json_of_rows, before_number, row_text, rows_text};
 
 use farm_kinds::{Answer, Verdict};
 use itoa::Buffer;

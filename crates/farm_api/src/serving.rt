@@ -4,9 +4,9 @@ ghost use Rattle.farm_io.specs.Beside.{side};
 ghost use Rattle.http_door.specs.Responses.{Writes, HasCauseWritten};
 ghost use Rattle.http_door.specs.Reading.{request_with};
 ghost use Rattle.http_door.specs.ReaderValue.{budget};
-ghost use Rattle.judge_server.specs.Entering.{AreEntered};
-ghost use Rattle.judge_server.specs.Exchanges.{around_of, giving};
-ghost use Rattle.judge_server.specs.Serving.{PutsAnswer, close_or, how_after, OneAnswered, refusal_response, given_as, Refuses, PutsEnd, untaken, Turned, IsServed, answered_count, HasCauseServed};
+ghost use Rattle.farm_api.specs.Entering.{AreEntered};
+ghost use Rattle.farm_api.specs.Exchanges.{around_of, giving};
+ghost use Rattle.farm_api.specs.Serving.{PutsAnswer, close_or, how_after, OneAnswered, refusal_response, given_as, Refuses, PutsEnd, untaken, Turned, IsServed, answered_count, HasCauseServed};
 
 use crate::answering::{answer_fault, answer_reply};
 use crate::asking::{Asked, RequestFault, read_request};
@@ -172,7 +172,7 @@ fn head_of(next: Next) -> Result<Head, Ending>
 }
 
 /// Reads one request and answers it, or says how the connection ends.
-fn turn<A: Replier, C: Clock, N: Source + Sink + Peer>(
+fn serve_request<A: Replier, C: Clock, N: Source + Sink + Peer>(
     alloc: Global,
     paths: &Paths,
     replier: &A,
@@ -261,7 +261,7 @@ pub fn serve_on<A: Replier, C: Clock, N: Source + Sink + Peer>(
     };
     let mut requests: u64 = 0;
     loop {
-        if let Some(how) = turn(alloc, paths, replier, state, clock, &mut reader, conn) {
+        if let Some(how) = serve_request(alloc, paths, replier, state, clock, &mut reader, conn) {
             return end_after(requests, how);
         }
         requests += 1;

@@ -1,7 +1,7 @@
 ghost use Rattle.std.specs.Prelude.{◌≡◌, ◌≤◌, ◌+◌};
 ghost use Rattle.http_door.specs.Responses.{Writes, HasCauseWritten};
-ghost use Rattle.judge_server.specs.Conversation.{page_response, contest_response};
-ghost use Rattle.judge_server.specs.Serving.{PutsAnswer};
+ghost use Rattle.farm_api.specs.Conversation.{page_response, contest_response};
+ghost use Rattle.farm_api.specs.Serving.{PutsAnswer};
 
 use crate::asking::Asked;
 use crate::replier::Replier;

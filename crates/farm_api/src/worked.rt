@@ -6,16 +6,16 @@ ghost use Rattle.farm_kinds.specs.declared.outcomes.Verdict.TheVariants.{Tests};
 ghost use Rattle.farm_kinds.specs.declared.events.Event.TheVariants as event;
 ghost use Rattle.farm_kinds.specs.declared.events.Reply.TheVariants as reply;
 ghost use Rattle.wire_json.specs.declared.routes.Route.TheVariants as route;
-ghost use Rattle.judge_server.specs.declared.routes.Routed.TheVariants as routed;
+ghost use Rattle.farm_api.specs.declared.routes.Routed.TheVariants as routed;
 ghost use Rattle.http_door.specs.declared.responses.Content.TheVariants as content;
 ghost use Rattle.http_door.specs.Responses.{content_response};
 ghost use Rattle.contest_page.specs.ViewValue.{ViewValue};
 ghost use Rattle.contest_page.specs.Page.{page_text};
-ghost use Rattle.judge_server.specs.Jobs.{no_view};
-ghost use Rattle.judge_server.specs.Routes.{route_of, routed_of};
-ghost use Rattle.judge_server.specs.Conversation.{nothing_given, response_of};
-ghost use Rattle.judge_server.specs.Entering.{with_reply, with_look, Replies};
-ghost use Rattle.judge_server.specs.Exchanges.{entered_in};
+ghost use Rattle.farm_api.specs.Jobs.{no_view};
+ghost use Rattle.farm_api.specs.Routes.{route_of, routed_of};
+ghost use Rattle.farm_api.specs.Conversation.{nothing_given, response_of};
+ghost use Rattle.farm_api.specs.Entering.{with_reply, with_look, Replies};
+ghost use Rattle.farm_api.specs.Exchanges.{entered_in};
 
 /// The definition of routes at some paths.
 pub fn worked_routes()

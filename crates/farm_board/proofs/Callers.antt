@@ -7,11 +7,11 @@ use Rattle.farm_board.specs.BoardState.{BoardState}
 use Rattle.farm_board.specs.Histories.{is_no_memory, is_in, pass_number, without, IsOut, IsNext, IsLegal, IsOpening, next_board, board_after, entries_by, call_unless, effective_calls, OutWereGiven, IsOutWithin, GivesAtMost, IsGone}
 use Rattle.farm_board.specs.Passes.{PassValue, GrowsBy, TakesIn, IsJoined}
 use Rattle.farm_board.specs.declared.entries.Call.{Call}
-use Rattle.farm_board.specs.declared.entries.Entry.{Entry}
-use Rattle.farm_board.specs.declared.entries.Entry.TheVariants as entry
+use Rattle.farm_board.specs.declared.entries.HistoryEntry.{HistoryEntry}
+use Rattle.farm_board.specs.declared.entries.HistoryEntry.TheVariants as entry
 use Rattle.farm_board.proofs.Numbers.{in_either, in_from, in_later}
 use Rattle.farm_board.proofs.Views.{none_turn}
-use Rattle.farm_board.proofs.Histories.{after_call_out, after_call_given, next_out, given_next_board, given_opening, entries_append, legal_at, legal_front, legal_rest, board_after_snoc, board_after_append}
+use Rattle.farm_board.proofs.Histories.{after_call_out, after_call_given, next_out, given_next_board, given_opening, entries_append, legal_at, legal_prefix, legal_rest, board_after_snoc, board_after_append}
 
 -- Distinct numbers
 
@@ -59,24 +59,24 @@ record IsProper (s : BoardState) : Type 0 where
 proper_opening : (s : BoardState) → IsOpening s → IsProper s
 proper_opening s o = record { given = given_opening s o; distinct = subst (λ (xs : List ℕ). IsDistinct xs) (sym o.out) (refl, tt) }
 
-distinct_next : (s : BoardState) (e : Entry) → IsNext s e → IsProper s → IsDistinct (next_board s e).out
+distinct_next : (s : BoardState) (e : HistoryEntry) → IsNext s e → IsProper s → IsDistinct (next_board s e).out
 distinct_next s (entry.Call call) next p = subst (λ (xs : List ℕ). IsDistinct xs) (sym (after_call_out (is_no_memory call.reply) s call)) p.distinct
 distinct_next s (entry.Split number new) next p = distinct_end new s.out p.distinct (not_in new s.out (λ is. let q = p.given new is in let new_is = next.2 in absurd (omega arith)))
 distinct_next s (entry.Join number old) next p = distinct_without old s.out p.distinct
 
-proper_next : (s : BoardState) (e : Entry) → IsNext s e → IsProper s → IsProper (next_board s e)
+proper_next : (s : BoardState) (e : HistoryEntry) → IsNext s e → IsProper s → IsProper (next_board s e)
 proper_next s e next p = record { given = given_next_board s e next p.given; distinct = distinct_next s e next p }
 
-proper_after : (s : BoardState) (es : List Entry) → IsLegal s es → IsProper s → IsProper (board_after s es)
+proper_after : (s : BoardState) (es : List HistoryEntry) → IsLegal s es → IsProper s → IsProper (board_after s es)
 proper_after s [] legal p = p
 proper_after s (e ∷ es) legal p = proper_after (next_board s e) es legal.1 (proper_next s e legal.0 p)
 
 -- Numbers that are gone
 
-gone_other : (n : ℕ) (s : BoardState) (e : Entry) → IsNext s e → IsGone n s → pass_number e ≢ n
+gone_other : (n : ℕ) (s : BoardState) (e : HistoryEntry) → IsNext s e → IsGone n s → pass_number e ≢ n
 gone_other n s e next gone same = in_both n s.out gone.out (subst (λ (m : ℕ). IsOut m s) same (next_out s e next))
 
-gone_next : (n : ℕ) (s : BoardState) (e : Entry) → IsNext s e → IsGone n s → IsGone n (next_board s e)
+gone_next : (n : ℕ) (s : BoardState) (e : HistoryEntry) → IsNext s e → IsGone n s → IsGone n (next_board s e)
 gone_next n s (entry.Call call) next gone = record {
   given = (let same = after_call_given (is_no_memory call.reply) s call in let q = gone.given in omega arith);
   out = ap (λ (xs : List ℕ). is_in n xs) (after_call_out (is_no_memory call.reply) s call) ∙ gone.out;
@@ -90,15 +90,15 @@ gone_next n s (entry.Join number old) next gone = record {
   out = not_in n (without old s.out) (λ is. in_both n s.out gone.out (in_from n old s.out is));
 }
 
-gone_after : (n : ℕ) (s : BoardState) (es : List Entry) → IsLegal s es → IsGone n s → IsGone n (board_after s es)
+gone_after : (n : ℕ) (s : BoardState) (es : List HistoryEntry) → IsLegal s es → IsGone n s → IsGone n (board_after s es)
 gone_after n s [] legal gone = gone
 gone_after n s (e ∷ es) legal gone = gone_after n (next_board s e) es legal.1 (gone_next n s e legal.0 gone)
 
-none_cond : (b : Bool) (e : Entry) (xs : List Entry) → b ≡ false → (if b then e ∷ xs else xs) ≡ xs
+none_cond : (b : Bool) (e : HistoryEntry) (xs : List HistoryEntry) → b ≡ false → (if b then e ∷ xs else xs) ≡ xs
 none_cond true e xs is = absurd (cc is)
 none_cond false e xs is = refl
 
-gone_entries : (n : ℕ) (s : BoardState) (es : List Entry) → IsLegal s es → IsGone n s → entries_by n es ≡ []
+gone_entries : (n : ℕ) (s : BoardState) (es : List HistoryEntry) → IsLegal s es → IsGone n s → entries_by n es ≡ []
 gone_entries n s [] legal gone = refl
 gone_entries n s (e ∷ es) legal gone =
     none_cond (eqb (pass_number e) n) e (entries_by n es) (ne_eqb (pass_number e) n (gone_other n s e legal.0 gone)) ∙ gone_entries n (next_board s e) es legal.1 (gone_next n s e legal.0 gone)
@@ -106,29 +106,29 @@ gone_entries n s (e ∷ es) legal gone =
 -- What a pass knows of the passes that were joined
 
 -- the entries that come after a number is gone are not its own
-gone_since : (n : ℕ) (s : BoardState) (es rest : List Entry) → IsLegal s (es ++ rest) → IsGone n (board_after s es) → IsGone n (board_after s (es ++ rest)) × (entries_by n (es ++ rest) ≡ entries_by n es)
+gone_since : (n : ℕ) (s : BoardState) (es rest : List HistoryEntry) → IsLegal s (es ++ rest) → IsGone n (board_after s es) → IsGone n (board_after s (es ++ rest)) × (entries_by n (es ++ rest) ≡ entries_by n es)
 gone_since n s es rest legal gone =
     let later = legal_rest s es rest legal in (
       subst (λ (z : BoardState). IsGone n z) (sym (board_after_append s es rest)) (gone_after n (board_after s es) rest later gone),
-      entries_append n es rest ∙ (ap (λ (xs : List Entry). entries_by n es ++ xs) (gone_entries n (board_after s es) rest later gone) ∙ append-nil (entries_by n es)),
+      entries_append n es rest ∙ (ap (λ (xs : List HistoryEntry). entries_by n es ++ xs) (gone_entries n (board_after s es) rest later gone) ∙ append-nil (entries_by n es)),
     )
 
-joined_since : (n : ℕ) (old new : PassValue) (its rest : List Entry) → new.start ≡ old.start → new.seen ≡ old.seen ++ rest → IsLegal old.start new.seen → IsJoined n old its → IsJoined n new its
+joined_since : (n : ℕ) (old new : PassValue) (its rest : List HistoryEntry) → new.start ≡ old.start → new.seen ≡ old.seen ++ rest → IsLegal old.start new.seen → IsJoined n old its → IsJoined n new its
 joined_since n old new its rest start seen legal was =
-    let q = gone_since n old.start old.seen rest (subst (λ (es : List Entry). IsLegal old.start es) seen legal) was.gone in record {
-      gone = subst (λ (z : BoardState × List Entry). IsGone n (board_after z.0 z.1)) (λ i. (sym start i, sym seen i)) q.0;
-      entries = ap (λ (es : List Entry). entries_by n es) seen ∙ (q.1 ∙ was.entries);
+    let q = gone_since n old.start old.seen rest (subst (λ (es : List HistoryEntry). IsLegal old.start es) seen legal) was.gone in record {
+      gone = subst (λ (z : BoardState × List HistoryEntry). IsGone n (board_after z.0 z.1)) (λ i. (sym start i, sym seen i)) q.0;
+      entries = ap (λ (es : List HistoryEntry). entries_by n es) seen ∙ (q.1 ∙ was.entries);
     }
 
 -- a pass that was joined stays so
-pub joined_grows : (n : ℕ) (old new : PassValue) (e : Entry) (its : List Entry) → GrowsBy old new e → IsJoined n old its → IsJoined n new its
+pub joined_grows : (n : ℕ) (old new : PassValue) (e : HistoryEntry) (its : List HistoryEntry) → GrowsBy old new e → IsJoined n old its → IsJoined n new its
 joined_grows n old new e its g was = joined_since n old new its (g.between ++ e ∷ []) g.start (g.seen ∙ append_assoc old.seen g.between (e ∷ [])) g.legal was
 
-pub joined_joins : (n : ℕ) (old other new : PassValue) (its : List Entry) → TakesIn old other new → IsJoined n old its → IsJoined n new its
+pub joined_joins : (n : ℕ) (old other new : PassValue) (its : List HistoryEntry) → TakesIn old other new → IsJoined n old its → IsJoined n new its
 joined_joins n old other new its t was =
-    let e : Entry = entry.Join old.number other.number in
+    let e : HistoryEntry = entry.Join old.number other.number in
     joined_since n old new its (t.begins.0 ++ e ∷ []) t.start
-    (t.seen ∙ (ap (λ (es : List Entry). es ++ e ∷ []) (sym t.begins.1) ∙ append_assoc old.seen t.begins.0 (e ∷ []))) t.legal was
+    (t.seen ∙ (ap (λ (es : List HistoryEntry). es ++ e ∷ []) (sym t.begins.1) ∙ append_assoc old.seen t.begins.0 (e ∷ []))) t.legal was
 
 gone_join : (s : BoardState) (n old : ℕ) → IsProper s → IsNext s (entry.Join n old) → IsGone old (next_board s (entry.Join n old))
 gone_join s n old p next = record { given = p.given old next.1; out = gone_without old s.out p.distinct }
@@ -136,38 +136,38 @@ gone_join s n old p next = record { given = p.given old next.1; out = gone_witho
 -- the pass that was taken in is joined from then on
 pub joins : (old other new : PassValue) → IsOpening old.start → TakesIn old other new → IsJoined other.number new other.mine
 joins old other new o t =
-    let e : Entry = entry.Join old.number other.number in
-    let legal : IsLegal old.start (t.before ++ e ∷ []) = subst (λ (es : List Entry). IsLegal old.start es) t.seen t.legal in
+    let e : HistoryEntry = entry.Join old.number other.number in
+    let legal : IsLegal old.start (t.before ++ e ∷ []) = subst (λ (es : List HistoryEntry). IsLegal old.start es) t.seen t.legal in
     let now = board_after old.start t.before in
-    let p = proper_after old.start t.before (legal_front old.start t.before (e ∷ []) legal) (proper_opening old.start o) in
+    let p = proper_after old.start t.before (legal_prefix old.start t.before (e ∷ []) legal) (proper_opening old.start o) in
     let next = legal_at old.start t.before e [] legal in record {
-      gone = subst (λ (z : BoardState × List Entry). IsGone other.number (board_after z.0 z.1)) (λ i. (sym t.start i, sym t.seen i))
+      gone = subst (λ (z : BoardState × List HistoryEntry). IsGone other.number (board_after z.0 z.1)) (λ i. (sym t.start i, sym t.seen i))
           (subst (λ (z : BoardState). IsGone other.number z) (sym (board_after_snoc old.start t.before e)) (gone_join now old.number other.number p next));
       entries = t.other_own;
     }
 
 -- What holds of all entries
 
-within_next : (k : ℕ) (s : BoardState) (e : Entry) → IsOutWithin k s → GivesAtMost k e → IsOutWithin k (next_board s e)
+within_next : (k : ℕ) (s : BoardState) (e : HistoryEntry) → IsOutWithin k s → GivesAtMost k e → IsOutWithin k (next_board s e)
 within_next k s (entry.Call call) h g n out = h n (ap (λ (xs : List ℕ). is_in n xs) (sym (after_call_out (is_no_memory call.reply) s call)) ∙ out)
 within_next k s (entry.Split number new) h g n out = ⊎_elim (λ t. h n t) (λ (t : n ≡ new). subst (λ (z : ℕ). z ≤ k) (sym t) g) (in_either n new s.out out)
 within_next k s (entry.Join number old) h g n out = h n (in_from n old s.out out)
 
-each_later : (Q : Entry → Type 0) (b : Bool) (e : Entry) (es : List Entry) → All Q (if b then e ∷ es else es) → All Q es
+each_later : (Q : HistoryEntry → Type 0) (b : Bool) (e : HistoryEntry) (es : List HistoryEntry) → All Q (if b then e ∷ es else es) → All Q es
 each_later Q true e es h = All-tail Q e es h
 each_later Q false e es h = h
 
-each_here : (Q : Entry → Type 0) (b : Bool) (e : Entry) (es : List Entry) → b ≡ true → All Q (if b then e ∷ es else es) → Q e
+each_here : (Q : HistoryEntry → Type 0) (b : Bool) (e : HistoryEntry) (es : List HistoryEntry) → b ≡ true → All Q (if b then e ∷ es else es) → Q e
 each_here Q true e es is h = All-head Q e es h
 each_here Q false e es is h = absurd (cc is)
 
 -- Where no number above k is out at first, and the entries of each number up to k meet P and give no number above k, all
 -- entries meet P: whoever made an entry was out, so its number is not above k either.
-pub each_entry : (P : Entry → Type 0) (k : ℕ) (s : BoardState) (es : List Entry) → IsLegal s es → IsOutWithin k s
+pub each_entry : (P : HistoryEntry → Type 0) (k : ℕ) (s : BoardState) (es : List HistoryEntry) → IsLegal s es → IsOutWithin k s
     → ((n : ℕ) → n ≤ k → All (λ e. P e × GivesAtMost k e) (entries_by n es)) → All P es
 each_entry P k s [] legal within each = All-nil P
 each_entry P k s (e ∷ es) legal within each =
-    let Q : Entry → Type 0 = λ x. P x × GivesAtMost k x in
+    let Q : HistoryEntry → Type 0 = λ x. P x × GivesAtMost k x in
     let n = pass_number e in
     let here : Q e = each_here Q (eqb n n) e (entries_by n es) (eq-eqb n n (λ _. n)) (each n (within n (next_out s e legal.0))) in
     All-cons P e es here.0 (each_entry P k (next_board s e) es legal.1 (within_next k s e within here.1) (λ m few. each_later Q (eqb n m) e (entries_by m es) (each m few)))
@@ -177,10 +177,10 @@ call_here Q true call calls here h = h
 call_here Q false call calls here h = All-cons Q call calls here h
 
 -- what holds of all calls of a history holds of those that took effect
-pub each_call : (Q : Call → Type 0) (es : List Entry) → All (λ e. (call : Call) → e ≡ entry.Call call → Q call) es → All Q (effective_calls es)
+pub each_call : (Q : Call → Type 0) (es : List HistoryEntry) → All (λ e. (call : Call) → e ≡ entry.Call call → Q call) es → All Q (effective_calls es)
 each_call Q [] h = All-nil Q
 each_call Q (entry.Call call ∷ es) h =
-    let P : Entry → Type 0 = λ e. (c : Call) → e ≡ entry.Call c → Q c in
+    let P : HistoryEntry → Type 0 = λ e. (c : Call) → e ≡ entry.Call c → Q c in
     call_here Q (is_no_memory call.reply) call (effective_calls es) (All-head P (entry.Call call) es h call refl) (each_call Q es (All-tail P (entry.Call call) es h))
-each_call Q (entry.Split number new ∷ es) h = each_call Q es (All-tail (λ (e : Entry). (c : Call) → e ≡ entry.Call c → Q c) (entry.Split number new) es h)
-each_call Q (entry.Join number old ∷ es) h = each_call Q es (All-tail (λ (e : Entry). (c : Call) → e ≡ entry.Call c → Q c) (entry.Join number old) es h)
+each_call Q (entry.Split number new ∷ es) h = each_call Q es (All-tail (λ (e : HistoryEntry). (c : Call) → e ≡ entry.Call c → Q c) (entry.Split number new) es h)
+each_call Q (entry.Join number old ∷ es) h = each_call Q es (All-tail (λ (e : HistoryEntry). (c : Call) → e ≡ entry.Call c → Q c) (entry.Join number old) es h)

@@ -12,7 +12,7 @@ use Rattle.farm_model.specs.State.{State as FarmState}
 use Rattle.farm_board.specs.Views.{opening_view, IsResting}
 use Rattle.farm_board.specs.Passes.{IsSoundView}
 use Rattle.farm_board.specs.Rules.{Fits, IsIdle, IsConsistent}
-use Rattle.farm_board.specs.declared.entries.Entry.{Entry}
+use Rattle.farm_board.specs.declared.entries.HistoryEntry.{HistoryEntry}
 use Rattle.farm_board.specs.declared.view.View.{View}
 use Rattle.farm_board.proofs.Numbers.{in_here, in_single}
 use Rattle.farm_board.proofs.Histories.{whole_if_alone}
@@ -74,7 +74,7 @@ closes {S} state_of start words slots id v at_rest own alone f =
     let live = at_rest.live in
     let fit = r.each id v at live in
     let whole : r.history ≡ v.seen = whole_if_alone start v.number v.seen r.history fit.seen r.legal (subst (λ (z : BoardState). IsAlone v.number (board_after z v.seen)) fit.start alone) (fit.mine ∙ sym own) in
-    let alone_now : IsAlone v.number (board_after start r.history) = subst (λ (z : BoardState × List Entry). IsAlone v.number (board_after z.0 z.1)) (λ k. (fit.start k, sym whole k)) alone in
+    let alone_now : IsAlone v.number (board_after start r.history) = subst (λ (z : BoardState × List HistoryEntry). IsAlone v.number (board_after z.0 z.1)) (λ k. (fit.start k, sym whole k)) alone in
     let idle : IsIdle s.views = λ i u e. none_turn u.turn (λ on. dead_or u.ended
     (λ u_live.
     let same : u.number ≡ v.number = alone_now u.number ((r.each i u e u_live).out u.number (inl refl)) in
@@ -83,7 +83,7 @@ closes {S} state_of start words slots id v at_rest own alone f =
     (λ dead. not_both u.turn (r.over i u e dead).turn on)) in
     let home = r.home idle in
     let h = home.0 in
-    (h, f.4 0 (Some h) (ap (λ (hs : List (Home (Option S))). get_elem? hs 0) home.1), home.2 ∙ (ap (λ (z : BoardState). board_after z r.history) (sym fit.start) ∙ ap (λ (z : List Entry). board_after v.start.value z) whole))
+    (h, f.4 0 (Some h) (ap (λ (hs : List (Home (Option S))). get_elem? hs 0) home.1), home.2 ∙ (ap (λ (z : BoardState). board_after z r.history) (sym fit.start) ∙ ap (λ (z : List HistoryEntry). board_after v.start.value z) whole))
 
 pub third : {P Q R : Type 0} → P × Q × R → R
 third t = t.2

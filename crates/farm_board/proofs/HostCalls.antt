@@ -19,20 +19,20 @@ use Rattle.case_run.specs.Values.{case_value}
 use Rattle.farm_board.specs.Benches.{is_host_entry, pending_case, posted_by}
 use Rattle.farm_board.specs.Passes.{PassValue, call_of}
 use Rattle.farm_board.specs.Trusts.{Admits, is_value_of}
-use Rattle.farm_board.specs.declared.entries.Entry.{Entry}
-use Rattle.farm_board.specs.declared.entries.Entry.TheVariants as entry
+use Rattle.farm_board.specs.declared.entries.HistoryEntry.{HistoryEntry}
+use Rattle.farm_board.specs.declared.entries.HistoryEntry.TheVariants as entry
 
-all_and_one : (p : Entry → Bool) (es : List Entry) (e : Entry) → list_all p es ≡ true → p e ≡ true → list_all p (es ++ e ∷ []) ≡ true
+all_and_one : (p : HistoryEntry → Bool) (es : List HistoryEntry) (e : HistoryEntry) → list_all p es ≡ true → p e ≡ true → list_all p (es ++ e ∷ []) ≡ true
 all_and_one p [] e h is = and_from (p e) true is refl
 all_and_one p (x ∷ es) e h is =
     let parts : (p x ≡ true) × (list_all p es ≡ true) = and_parts (p x) (list_all p es) h in
     and_from (p x) (list_all p (es ++ e ∷ [])) parts.0 (all_and_one p es e parts.1 is)
 
 -- one more entry of the host
-pub own_more : (admits : Admits) (host : List ℕ) (old new : PassValue) (e : Entry) → new.mine ≡ old.mine ++ e ∷ []
+pub own_more : (admits : Admits) (host : List ℕ) (old new : PassValue) (e : HistoryEntry) → new.mine ≡ old.mine ++ e ∷ []
     → list_all (is_host_entry admits host) old.mine ≡ true → is_host_entry admits host e ≡ true → list_all (is_host_entry admits host) new.mine ≡ true
 own_more admits host old new e mine h is =
-    subst (λ (es : List Entry). list_all (is_host_entry admits host) es ≡ true) (sym mine) (all_and_one (is_host_entry admits host) old.mine e h is)
+    subst (λ (es : List HistoryEntry). list_all (is_host_entry admits host) es ≡ true) (sym mine) (all_and_one (is_host_entry admits host) old.mine e h is)
 
 -- a claim is the host's own
 pub claim_is_own : (admits : Admits) (host : List ℕ) (number : ℕ) (r : Reply) → is_host_entry admits host (entry.Call (call_of number (event.Claim host) r)) ≡ true

@@ -15,7 +15,7 @@ use Rattle.farm_board.specs.Histories.{board_after, IsOut, entries_by}
 use Rattle.farm_board.specs.Views.{split_left, split_right, joined_view, ended_view, IsFree}
 use Rattle.farm_board.specs.Passes.{IsGiving}
 use Rattle.farm_board.specs.Rules.{HasNumber, Fits, IsOver, Apart, SameTicket, Owns, SameNumber, SomeHasSeenAll, IsConsistent}
-use Rattle.farm_board.specs.declared.entries.Entry.{Entry}
+use Rattle.farm_board.specs.declared.entries.HistoryEntry.{HistoryEntry}
 use Rattle.farm_board.specs.declared.view.View.{View}
 use Rattle.farm_board.proofs.Prefixes.{prefix_length, prefix_whole}
 use Rattle.farm_board.proofs.Views.{set_at, same_view, each_set, each_more, apart_less, apart_more, total_left_set, total_spare_set, total_left_more, total_spare_more, waiting_set, waiting_more, whole_set, whole_more, idle_set, idle_less}
@@ -52,7 +52,7 @@ splits {S} state_of start id g share v is few s r at =
     let spare' = total_spare_more (set s.views id l) w in
     let bound = r.bound in
     let room = r.room in
-    let none_comes : (x : Entry) → v.coming ≡ Some x → ⊥ = λ x some_is. let no : None ≡ Some x = sym is.resting.coming ∙ some_is in absurd (cc no) in
+    let none_comes : (x : HistoryEntry) → v.coming ≡ Some x → ⊥ = λ x some_is. let no : None ≡ Some x = sym is.resting.coming ∙ some_is in absurd (cc no) in
     let none_taken : (n : ℕ) → v.taken_in ≡ Some n → ⊥ = λ n some_is. let no : None ≡ Some n = sym is.taken_in ∙ some_is in absurd (cc no) in
     let no_ticket : (k : ℕ) → v.ticket ≡ Some k → ⊥ = λ k some_is. let no : None ≡ Some k = sym is.resting.ticket ∙ some_is in absurd (cc no) in
     let left_fits : Fits start r.history r.served r.drawn l = record {
@@ -114,11 +114,11 @@ splits {S} state_of start id g share v is few s r at =
 
 -- Joining
 
-longer_fits : (history xs ys : List Entry) (b : Bool) → IsPrefix xs history → IsPrefix ys history → IsPrefix (if b then ys else xs) history
+longer_fits : (history xs ys : List HistoryEntry) (b : Bool) → IsPrefix xs history → IsPrefix ys history → IsPrefix (if b then ys else xs) history
 longer_fits history xs ys true p q = q
 longer_fits history xs ys false p q = p
 
-whole_either : (history xs ys : List Entry) → IsPrefix xs history → IsPrefix ys history → (xs ≡ history) ⊎ (ys ≡ history) → (b : Bool) → nat_lt (length xs) (length ys) ≡ b → (if b then ys else xs) ≡ history
+whole_either : (history xs ys : List HistoryEntry) → IsPrefix xs history → IsPrefix ys history → (xs ≡ history) ⊎ (ys ≡ history) → (b : Bool) → nat_lt (length xs) (length ys) ≡ b → (if b then ys else xs) ≡ history
 whole_either history xs ys p q is true e =
     let more : length xs < length ys = grind (arith, nat_tests) in
     ⊎_elim (λ (a : xs ≡ history). let l = prefix_length ys history q in let n : length xs ≡ length history = ap length a in absurd (omega arith)) (λ (a : ys ≡ history). a) is

@@ -24,7 +24,7 @@ use Rattle.lease_book.proofs.held.Held.TheSendSync as held
 use Rattle.lease_book.specs.contracts.book.LeaseBook as book
 use Rattle.judging_core.specs.contracts.judge.Judge as judge
 use Rattle.farm_core.specs.contracts.names.Names as names
-use Rattle.farm_core.specs.contracts.contest.Contest as contest
+use Rattle.farm_core.specs.contracts.contest.ContestState as contest
 use Rattle.farm_core.specs.contracts.farm.Farm as farm
 use Rattle.atomic_table.specs.declared.shared.TableRule.{Ghosts as RuleGhosts}
 use Rattle.farm_board.specs.declared.trust.Admission.{Ghosts}
@@ -34,7 +34,7 @@ use Rattle.farm_board.specs.contracts.board.PassOf as pass
 use Rattle.farm_board.specs.contracts.contents.Contents as contents
 use Rattle.farm_board.specs.contracts.contents.Contents.TheInside as inside
 use Rattle.farm_board.specs.contracts.entries.Call as call
-use Rattle.farm_board.specs.contracts.entries.History as history
+use Rattle.farm_board.specs.contracts.entries.CallJournal as history
 use Rattle.farm_board.specs.contracts.contents.TrustedContents as trusted
 use Rattle.farm_board.specs.contracts.rule.BoardRule as rule
 use Rattle.farm_board.specs.contracts.rule.BoardRuleTableRuleSlotViewSnapshotContents.TheImpl as rules

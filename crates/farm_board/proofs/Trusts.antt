@@ -23,7 +23,7 @@ use Rattle.farm_board.specs.BoardState.{BoardState}
 use Rattle.farm_board.specs.Histories.{is_no_memory, journal_with_call, board_after_call, opening_board, next_board}
 use Rattle.farm_board.specs.Trusts.{Admits, IsAdmitted, AreBacked, AreAdmitted, IsTrusted}
 use Rattle.farm_board.specs.declared.entries.Call.{Call}
-use Rattle.farm_board.specs.declared.entries.Entry.TheVariants as entry
+use Rattle.farm_board.specs.declared.entries.HistoryEntry.TheVariants as entry
 
 -- A step of the farm
 

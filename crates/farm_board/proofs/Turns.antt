@@ -15,8 +15,8 @@ use Rattle.farm_board.specs.Views.{with_ticket, with_turn, with_coming, with_ent
 use Rattle.farm_board.specs.Rules.{IsComing, HasNumber, Fits, IsOver, SameTicket, Owns, SameNumber, IsIdle, IsConsistent}
 use Rattle.farm_board.specs.Steps.{KnowsHistory, DrawsTicket, LooksForTurn, GoesOn, MarksEntry, FinishesTurn, KeepsTicket, GivesTicketUp}
 use Rattle.farm_board.specs.declared.entries.Call.{Call}
-use Rattle.farm_board.specs.declared.entries.Entry.{Entry}
-use Rattle.farm_board.specs.declared.entries.Entry.TheVariants as entry
+use Rattle.farm_board.specs.declared.entries.HistoryEntry.{HistoryEntry}
+use Rattle.farm_board.specs.declared.entries.HistoryEntry.TheVariants as entry
 use Rattle.farm_board.specs.declared.view.View.{View}
 use Rattle.farm_board.proofs.Prefixes.{prefix_self, prefix_more}
 use Rattle.farm_board.proofs.Numbers.{in_end}
@@ -36,7 +36,7 @@ dead_or false live dead = live refl
 
 -- Drawing
 
-more_drawn : (start : BoardState) (history : List Entry) (served drawn more : ℕ) (v : View) → drawn ≤ more → Fits start history served drawn v → Fits start history served more v
+more_drawn : (start : BoardState) (history : List HistoryEntry) (served drawn more : ℕ) (v : View) → drawn ≤ more → Fits start history served drawn v → Fits start history served more v
 more_drawn start history served drawn more v le f = record {
   start = f.start;
   seen = f.seen;
@@ -109,7 +109,7 @@ draws {S} state_of start slots id me at_rest some_left s r _ at small =
 
 -- Looking, and taking what lies in the slot
 
-knows : (start : BoardState) (history : List Entry) (served drawn : ℕ) (v : View) → Fits start history served drawn v → IsLegal start history → length (board_after start history).out + v.spare ≤ start.seats → (board_after start history).given ≤ 4611686018427387904 → IsOpening start → KnowsHistory v history
+knows : (start : BoardState) (history : List HistoryEntry) (served drawn : ℕ) (v : View) → Fits start history served drawn v → IsLegal start history → length (board_after start history).out + v.spare ≤ start.seats → (board_after start history).given ≤ 4611686018427387904 → IsOpening start → KnowsHistory v history
 knows start history served drawn v f legal room few begins = record {
   longer = f.seen;
   legal = subst (λ (z : BoardState). IsLegal z history) (sym f.start) legal;
@@ -205,7 +205,7 @@ looks {S} state_of start slots id me empty no_turn no_entry live s r _ at small 
 
 -- Going on with the ticket that was kept
 
-knows_after : (v : View) (k : ℕ) (history : List Entry) → KnowsHistory v history → KnowsHistory (with_ticket v k) history
+knows_after : (v : View) (k : ℕ) (history : List HistoryEntry) → KnowsHistory v history → KnowsHistory (with_ticket v k) history
 knows_after v k history t = record { longer = t.longer; legal = t.legal; mine = t.mine; taken_in = t.taken_in; out = t.out; room = t.room; few = t.few; small = t.small; given = t.given; fresh = t.fresh }
 
 pub goes_on : {S : Type 0} (state_of : S → BoardState) (start : BoardState) (slots id : ℕ) (me : Me (Option S) View) → me.1 ≡ [] → IsKeeping me.0
@@ -281,12 +281,12 @@ goes_on {S} state_of start slots id me empty keeping s r _ at small =
 
 -- Marking
 
-suits_coming : (e : Entry) (v : View) → Suits e v → Suits e (with_coming v e)
+suits_coming : (e : HistoryEntry) (v : View) → Suits e v → Suits e (with_coming v e)
 suits_coming (entry.Call call) v h = h
 suits_coming (entry.Split number new) v h = h
 suits_coming (entry.Join number old) v h = h
 
-pub marks : {S : Type 0} (state_of : S → BoardState) (start : BoardState) (slots id : ℕ) (me : Me (Option S) View) (e : Entry) → me.0.turn ≡ true → me.0.ended ≡ false
+pub marks : {S : Type 0} (state_of : S → BoardState) (start : BoardState) (slots id : ℕ) (me : Me (Option S) View) (e : HistoryEntry) → me.0.turn ≡ true → me.0.ended ≡ false
     → pass_number e ≡ me.0.number → IsNext (board_after me.0.start.value me.0.seen) e → Suits e me.0
     → Allows (IsConsistent state_of start) slots id me 1 (λ n. n) (MarksEntry e (step slots 1 0 0 none) me)
 marks {S} state_of start slots id me e on live own next suits s r _ at small =
@@ -298,10 +298,10 @@ marks {S} state_of start slots id me e on live own next suits s r _ at small =
     let spare = total_spare_set s.views id me.0 w at in
     let bound = r.bound in
     let room = r.room in
-    let may : IsNext (board_after start r.history) e = subst (λ (z : BoardState × List Entry). IsNext (board_after z.0 z.1) e) (λ k. (f.start k, (f.turn on).1 k)) next in
-    let comes : (x : Entry) → Some e ≡ Some x → IsComing (board_after start r.history) w x = λ x is.
+    let may : IsNext (board_after start r.history) e = subst (λ (z : BoardState × List HistoryEntry). IsNext (board_after z.0 z.1) e) (λ k. (f.start k, (f.turn on).1 k)) next in
+    let comes : (x : HistoryEntry) → Some e ≡ Some x → IsComing (board_after start r.history) w x = λ x is.
     let same : e ≡ x = cc is in
-    subst (λ (z : Entry). IsComing (board_after start r.history) w z) same record { turn = on; own = own; next = may; suits = suits_coming e me.0 suits } in
+    subst (λ (z : HistoryEntry). IsComing (board_after start r.history) w z) same record { turn = on; own = own; next = may; suits = suits_coming e me.0 suits } in
     let new : IsConsistent state_of start record { words = r.drawn ∷ r.served ∷ []; homes = s.homes; views = set s.views id w } = record {
       history = r.history;
       drawn = r.drawn;
@@ -344,34 +344,34 @@ one_home [] x e = absurd (omega arith)
 one_home (y ∷ []) x e = refl
 one_home (y ∷ z ∷ hs) x e = absurd (omega arith)
 
-pub stays_apart : (e : Entry) (v : View) (n : ℕ) → Suits e v → ((m : ℕ) → v.taken_in ≡ Some m → n ≢ m) → Stays n e
+pub stays_apart : (e : HistoryEntry) (v : View) (n : ℕ) → Suits e v → ((m : ℕ) → v.taken_in ≡ Some m → n ≢ m) → Stays n e
 stays_apart (entry.Call call) v n h apart = tt
 stays_apart (entry.Split number new) v n h apart = tt
 stays_apart (entry.Join number old) v n h apart = apart old h.1
 
 -- a number to give is the next one
-gift_new : (s : BoardState) (e : Entry) (n : ℕ) → IsNext s e → to_give_after e ≡ Some n → n ≡ s.given + 1
+gift_new : (s : BoardState) (e : HistoryEntry) (n : ℕ) → IsNext s e → to_give_after e ≡ Some n → n ≡ s.given + 1
 gift_new s (entry.Call call) n h is = absurd (cc is)
 gift_new s (entry.Split number new) n h is = let same : new ≡ n = cc is in sym same ∙ h.2
 gift_new s (entry.Join number old) n h is = absurd (cc is)
 
-pub gift_out : (s : BoardState) (e : Entry) (n : ℕ) → to_give_after e ≡ Some n → IsOut n (next_board s e)
+pub gift_out : (s : BoardState) (e : HistoryEntry) (n : ℕ) → to_give_after e ≡ Some n → IsOut n (next_board s e)
 gift_out s (entry.Call call) n is = absurd (cc is)
 gift_out s (entry.Split number new) n is = let same : new ≡ n = cc is in subst (λ (z : ℕ). IsOut z (next_board s (entry.Split number new))) same (in_end new s.out)
 gift_out s (entry.Join number old) n is = absurd (cc is)
 
 -- the view of the pass that ends its turn
-fits_after_turn : (start : BoardState) (history : List Entry) (served later drawn : ℕ) (v : View) (e : Entry) → Fits start history served drawn v → v.turn ≡ true → IsComing (board_after start history) v e → IsLegal start history → IsOpening start
+fits_after_turn : (start : BoardState) (history : List HistoryEntry) (served later drawn : ℕ) (v : View) (e : HistoryEntry) → Fits start history served drawn v → v.turn ≡ true → IsComing (board_after start history) v e → IsLegal start history → IsOpening start
     → Fits start (history ++ e ∷ []) later drawn (with_entry v e)
 fits_after_turn start history served later drawn v e f on c legal begins =
     let now : BoardState = board_after start history in
     let below : OutWereGiven now = given_after start history legal (given_opening start begins) in
     let is_next : board_after start (history ++ e ∷ []) ≡ next_board now e = board_after_snoc start history e in
     let there : v.number ≤ now.given = below v.number (f.out v.number (inl refl)) in
-    let seen : v.seen ++ e ∷ [] ≡ history ++ e ∷ [] = ap (λ (z : List Entry). z ++ e ∷ []) (f.turn on).1 in record {
+    let seen : v.seen ++ e ∷ [] ≡ history ++ e ∷ [] = ap (λ (z : List HistoryEntry). z ++ e ∷ []) (f.turn on).1 in record {
       start = f.start;
-      seen = subst (λ (z : List Entry). IsPrefix z (history ++ e ∷ [])) (sym seen) (prefix_self (history ++ e ∷ []));
-      mine = entries_mine v.number history e c.own ∙ ap (λ (z : List Entry). z ++ e ∷ []) f.mine;
+      seen = subst (λ (z : List HistoryEntry). IsPrefix z (history ++ e ∷ [])) (sym seen) (prefix_self (history ++ e ∷ []));
+      mine = entries_mine v.number history e c.own ∙ ap (λ (z : List HistoryEntry). z ++ e ∷ []) f.mine;
       to_give = λ n is.
           let is_new = gift_new now e n c.next is in
           let own = c.own in (
@@ -390,7 +390,7 @@ fits_after_turn start history served later drawn v e f on c legal begins =
     }
 
 -- the view of another pass
-beside_turn : (start : BoardState) (history : List Entry) (served later drawn : ℕ) (v u : View) (e : Entry) → Fits start history served drawn u → IsComing (board_after start history) v e → v.ended ≡ false
+beside_turn : (start : BoardState) (history : List HistoryEntry) (served later drawn : ℕ) (v u : View) (e : HistoryEntry) → Fits start history served drawn u → IsComing (board_after start history) v e → v.ended ≡ false
     → later ≤ served + 1 → u.ticket ≢ Some served → ((n : ℕ) → HasNumber n u → HasNumber n v → ⊥)
     → Fits start (history ++ e ∷ []) later drawn u
 beside_turn start history served later drawn v u e g c live next waits apart =
@@ -410,7 +410,7 @@ beside_turn start history served later drawn v u e g c live next waits apart =
       coming = λ x is. not_both u.turn off (g.coming x is).turn;
     }
 
-pub finishes : {S : Type 0} (state_of : S → BoardState) (start : BoardState) (slots id : ℕ) (v : View) (h : S) (e : Entry) → v.turn ≡ true → v.ended ≡ false → v.coming ≡ Some e
+pub finishes : {S : Type 0} (state_of : S → BoardState) (start : BoardState) (slots id : ℕ) (v : View) (h : S) (e : HistoryEntry) → v.turn ≡ true → v.ended ≡ false → v.coming ≡ Some e
     → state_of h ≡ board_after v.start.value (v.seen ++ e ∷ [])
     → Allows (IsConsistent state_of start) slots id (v, (0, Some h) ∷ []) 1 (λ n. (n + 1) % 18446744073709551616) (FinishesTurn (step slots 1 1 0 none) (v, (0, Some h) ∷ []))
 finishes {S} state_of start slots id v h e on live coming now_is s r _ at small =
@@ -421,7 +421,7 @@ finishes {S} state_of start slots id v h e on live coming now_is s r _ at small 
     let t = f.turn on in
     let c = f.coming e coming in
     let w : View = with_entry v e in
-    let history : List Entry = r.history ++ e ∷ [] in
+    let history : List HistoryEntry = r.history ++ e ∷ [] in
     let now : BoardState = board_after start r.history in
     let is_next : board_after start history ≡ next_board now e = board_after_snoc start r.history e in
     let drawn_more = f.ticket r.served t.0 in
@@ -440,7 +440,7 @@ finishes {S} state_of start slots id v h e on live coming now_is s r _ at small 
     let not_new : (n : ℕ) (j : ℕ) (u : View) → get_elem? s.views j ≡ some u → Owns n u → to_give_after e ≡ Some n → ⊥ = λ n j u there o is.
     let is_new = gift_new now e n c.next is in
     let given = below n ((r.each j u there o.0).out n o.1) in absurd (omega arith) in
-    let seen : v.seen ++ e ∷ [] ≡ history = ap (λ (z : List Entry). z ++ e ∷ []) t.1 in
+    let seen : v.seen ++ e ∷ [] ≡ history = ap (λ (z : List HistoryEntry). z ++ e ∷ []) t.1 in
     let new : IsConsistent state_of start record { words = r.drawn ∷ (r.served + 1) % 18446744073709551616 ∷ []; homes = set s.homes 0 (some (Some h)); views = set s.views id w } = record {
       history = history;
       drawn = r.drawn;
@@ -472,11 +472,11 @@ finishes {S} state_of start slots id v h e on live coming now_is s r _ at small 
           (λ j u other there same. ⊎_elim (λ (is : same.0 ≡ v.number). other (r.one_number j id u v there at (same.0, same.1, (live, inl is))))
           (λ q. ⊎_elim (λ is. not_new same.0 j u there same.1 is) (λ (none_is : None ≡ Some same.0). absurd (cc none_is)) q) same.2.1);
       whole = (id, w, set_at s.views id v w at, live, seen);
-      home = λ _. (h, one_home s.homes (some (Some h)) r.one_slot, subst (λ (z : BoardState × List Entry). state_of h ≡ board_after z.0 z.1) (λ k. (f.start k, seen k)) now_is);
+      home = λ _. (h, one_home s.homes (some (Some h)) r.one_slot, subst (λ (z : BoardState × List HistoryEntry). state_of h ≡ board_after z.0 z.1) (λ k. (f.start k, seen k)) now_is);
     } in
-    subst P (sym r.words) (w, gives, tt, new, λ x is. let same : e ≡ x = cc (coming, is) in ap (λ (z : Entry). (with_entry v z, [])) same)
+    subst P (sym r.words) (w, gives, tt, new, λ x is. let same : e ≡ x = cc (coming, is) in ap (λ (z : HistoryEntry). (with_entry v z, [])) same)
 
-pub ends : {S : Type 0} (state_of : S → BoardState) (start : BoardState) (slots id : ℕ) (v : View) (h : S) (e : Entry) (me : Me (Option S) View) → me ≡ (v, (0, Some h) ∷ []) → v.turn ≡ true → v.ended ≡ false → v.coming ≡ Some e
+pub ends : {S : Type 0} (state_of : S → BoardState) (start : BoardState) (slots id : ℕ) (v : View) (h : S) (e : HistoryEntry) (me : Me (Option S) View) → me ≡ (v, (0, Some h) ∷ []) → v.turn ≡ true → v.ended ≡ false → v.coming ≡ Some e
     → state_of h ≡ board_after v.start.value (v.seen ++ e ∷ [])
     → Allows (IsConsistent state_of start) slots id me 1 (λ n. (n + 1) % 18446744073709551616) (FinishesTurn (step slots 1 1 0 none) me)
 ends {S} state_of start slots id v h e me is on live coming now_is =
@@ -490,14 +490,14 @@ pub keeps_ticket : {S : Type 0} (state_of : S → BoardState) (start : BoardStat
     → Allows (IsConsistent state_of start) slots id (v, (0, Some h) ∷ []) 1 (λ n. n) (KeepsTicket (step slots 1 0 0 none) (v, (0, Some h) ∷ []))
 keeps_ticket {S} state_of start slots id v h call on live coming now_is s r _ at small =
     let me : Me (Option S) View = (v, (0, Some h) ∷ []) in
-    let e : Entry = entry.Call call in
+    let e : HistoryEntry = entry.Call call in
     let P : List ℕ → Type 0 = λ ws. (x : View) × (a : Act (Option S)) × Valid s.homes me.1 a
     × IsConsistent state_of start (stepped (at_words s ws) 1 (get_or ws 1 0) id me.1 x a) × KeepsTicket (step slots 1 0 0 none) me (get_or ws 1 0) (x, carried_after me.1 a) in
     let f = r.each id v at live in
     let t = f.turn on in
     let c = f.coming e coming in
     let w : View = with_kept_ticket v e in
-    let history : List Entry = r.history ++ e ∷ [] in
+    let history : List HistoryEntry = r.history ++ e ∷ [] in
     let now : BoardState = board_after start r.history in
     let is_next : board_after start history ≡ next_board now e = board_after_snoc start r.history e in
     let few : (board_after start history).given ≤ r.served = (let is_given = ap (λ (z : BoardState). z.given) is_next in let same = after_call_given (is_no_memory call.reply) now call in let few = r.few in omega arith) in
@@ -510,7 +510,7 @@ keeps_ticket {S} state_of start slots id v h call on live coming now_is s r _ at
     let seats_are = board_after_seats start r.history in
     let room = room_next_board now e v all.0 c.next c.suits (omega arith) in
     let out_is : length (board_after start history).out ≡ length (next_board now e).out = ap (λ (z : BoardState). length z.out) is_next in
-    let seen : v.seen ++ e ∷ [] ≡ history = ap (λ (z : List Entry). z ++ e ∷ []) t.1 in
+    let seen : v.seen ++ e ∷ [] ≡ history = ap (λ (z : List HistoryEntry). z ++ e ∷ []) t.1 in
     let ended = fits_after_turn start r.history r.served r.served r.drawn v e f on c r.legal r.begins in
     let numbers : (n : ℕ) → HasNumber n w → HasNumber n v = λ n o. ⊎_elim (λ (is : n ≡ v.number). inl is)
     (λ q. ⊎_elim (λ (is : None ≡ Some n). absurd (cc is)) (λ (is : None ≡ Some n). absurd (cc is)) q) o in
@@ -550,9 +550,9 @@ keeps_ticket {S} state_of start slots id v h call on live coming now_is s r _ at
           (λ u same. (same.0, (live, numbers same.0 same.1.1), same.2))
           (λ u same. (same.0, same.1, (live, numbers same.0 same.2.1))) r.one_number;
       whole = (id, w, set_at s.views id v w at, live, seen);
-      home = λ _. (h, one_home s.homes (some (Some h)) r.one_slot, subst (λ (z : BoardState × List Entry). state_of h ≡ board_after z.0 z.1) (λ k. (f.start k, seen k)) now_is);
+      home = λ _. (h, one_home s.homes (some (Some h)) r.one_slot, subst (λ (z : BoardState × List HistoryEntry). state_of h ≡ board_after z.0 z.1) (λ k. (f.start k, seen k)) now_is);
     } in
-    subst P (sym r.words) (w, gives, tt, new, λ x is. let same : e ≡ x = cc (coming, is) in ap (λ (z : Entry). (with_kept_ticket v z, [])) same)
+    subst P (sym r.words) (w, gives, tt, new, λ x is. let same : e ≡ x = cc (coming, is) in ap (λ (z : HistoryEntry). (with_kept_ticket v z, [])) same)
 
 pub keeps_its_ticket : {S : Type 0} (state_of : S → BoardState) (start : BoardState) (slots id : ℕ) (v : View) (h : S) (call : Call) (me : Me (Option S) View) → me ≡ (v, (0, Some h) ∷ []) → v.turn ≡ true → v.ended ≡ false → v.coming ≡ Some (entry.Call call)
     → state_of h ≡ board_after v.start.value (v.seen ++ entry.Call call ∷ [])
@@ -564,7 +564,7 @@ keeps_its_ticket {S} state_of start slots id v h call me is on live coming now_i
 -- Giving the ticket up
 
 -- another view, where the ticket that is served was given up
-beside_given_up : (start : BoardState) (history : List Entry) (served drawn : ℕ) (u : View) → Fits start history served drawn u → u.ticket ≢ Some served → Fits start history (served + 1) drawn u
+beside_given_up : (start : BoardState) (history : List HistoryEntry) (served drawn : ℕ) (u : View) → Fits start history served drawn u → u.ticket ≢ Some served → Fits start history (served + 1) drawn u
 beside_given_up start history served drawn u g waits = record {
   start = g.start;
   seen = g.seen;

@@ -6,7 +6,7 @@ use mathlib.Core.Option.{some, some-injective, some-ne-none}
 use native.Mathlib.Decide.{ℕ_discrete}
 use lib.ListN.{get_elem?}
 use Rattle.atomic_table.proofs.Lists.{at_set, set_here, set_else, at_longer}
-use Rattle.farm_board.specs.declared.entries.Entry.{Entry}
+use Rattle.farm_board.specs.declared.entries.HistoryEntry.{HistoryEntry}
 use Rattle.farm_board.specs.declared.view.View.{View}
 use Rattle.farm_board.specs.Rules.{total_left, total_spare, Apart, SomeHasTicket, SomeHasSeenAll, IsIdle}
 
@@ -110,12 +110,12 @@ waiting_set views id v w k at same q = dite (ℕ_discrete q.0 id)
 pub waiting_more : (views : List View) (w : View) (k : ℕ) → SomeHasTicket views k → SomeHasTicket (views ++ w ∷ []) k
 waiting_more views w k q = (q.0, q.1, at_longer views (w ∷ []) q.0 q.1 q.2, q.3)
 
-pub whole_set : (history : List Entry) (views : List View) (id : ℕ) (v w : View) → get_elem? views id ≡ some v → w.ended ≡ false → (v.seen ≡ history → w.seen ≡ history) → SomeHasSeenAll history views → SomeHasSeenAll history (set views id w)
+pub whole_set : (history : List HistoryEntry) (views : List View) (id : ℕ) (v w : View) → get_elem? views id ≡ some v → w.ended ≡ false → (v.seen ≡ history → w.seen ≡ history) → SomeHasSeenAll history views → SomeHasSeenAll history (set views id w)
 whole_set history views id v w at live same q = dite (ℕ_discrete q.0 id)
     (λ is. (id, w, set_at views id v w at, live, same (ap (λ (z : View). z.seen) (sym (same_view views q.0 id q.1 v is q.2 at)) ∙ q.4)))
     (λ other. (q.0, q.1, set_else views id q.0 w other ∙ q.2, q.3, q.4))
 
-pub whole_more : (history : List Entry) (views : List View) (w : View) → SomeHasSeenAll history views → SomeHasSeenAll history (views ++ w ∷ [])
+pub whole_more : (history : List HistoryEntry) (views : List View) (w : View) → SomeHasSeenAll history views → SomeHasSeenAll history (views ++ w ∷ [])
 whole_more history views w q = (q.0, q.1, at_longer views (w ∷ []) q.0 q.1 q.2, q.3, q.4)
 
 -- no view has the turn if none has it once the view is set, which has not got it either

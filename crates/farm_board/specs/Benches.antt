@@ -16,8 +16,8 @@ use Rattle.judgehost.specs.declared.bench.Claimed.{Claimed}
 use Rattle.judgehost.specs.declared.bench.Claimed.TheVariants as claimed
 use Rattle.farm_board.specs.Passes.{BoardId, PassValue, Calls}
 use Rattle.farm_board.specs.Trusts.{Admits}
-use Rattle.farm_board.specs.declared.entries.Entry.{Entry}
-use Rattle.farm_board.specs.declared.entries.Entry.TheVariants as entry
+use Rattle.farm_board.specs.declared.entries.HistoryEntry.{HistoryEntry}
+use Rattle.farm_board.specs.declared.entries.HistoryEntry.TheVariants as entry
 
 -- a claim of the host, or a result of it that is admitted
 abbrev pub is_host_event : Admits → List ℕ → Event → Bool
@@ -26,7 +26,7 @@ is_host_event admits host (event.Result name j test kind) = bytes_eq name host &
 is_host_event admits host e = false
 
 -- the entry is a call with such an event
-abbrev pub is_host_entry : Admits → List ℕ → Entry → Bool
+abbrev pub is_host_entry : Admits → List ℕ → HistoryEntry → Bool
 is_host_entry admits host (entry.Call call) = is_host_event admits host call.event
 is_host_entry admits host (entry.Split number new) = false
 is_host_entry admits host (entry.Join number old) = false

@@ -7,8 +7,8 @@ use Rattle.farm_kinds.specs.declared.events.Reply.{Reply}
 use Rattle.farm_kinds.specs.declared.events.Reply.TheVariants as reply
 use Rattle.farm_board.specs.BoardState.{BoardState}
 use Rattle.farm_board.specs.declared.entries.Call.{Call}
-use Rattle.farm_board.specs.declared.entries.Entry.{Entry}
-use Rattle.farm_board.specs.declared.entries.Entry.TheVariants as entry
+use Rattle.farm_board.specs.declared.entries.HistoryEntry.{HistoryEntry}
+use Rattle.farm_board.specs.declared.entries.HistoryEntry.TheVariants as entry
 
 -- the reply says that memory ran out
 abbrev pub is_no_memory : Reply → Bool
@@ -35,7 +35,7 @@ pub record IsOpening (s : BoardState) : Type 0 where
 -- One entry
 
 -- the number of the pass that makes the entry
-abbrev pub pass_number : Entry → ℕ
+abbrev pub pass_number : HistoryEntry → ℕ
 pass_number (entry.Call call) = call.number
 pass_number (entry.Split number new) = number
 pass_number (entry.Join number old) = number
@@ -63,7 +63,7 @@ board_after_call false s call =
     record s { state = (farm_step s.state call.event).0; journal = journal_with_call s.journal call }
 
 -- the board after one more entry
-abbrev pub next_board : BoardState → Entry → BoardState
+abbrev pub next_board : BoardState → HistoryEntry → BoardState
 next_board s (entry.Call call) = board_after_call (is_no_memory call.reply) s call
 next_board s (entry.Split number new) = record s { out = s.out ++ new ∷ []; given = s.given + 1 }
 next_board s (entry.Join number old) = record s { out = without old s.out }
@@ -78,7 +78,7 @@ pub record IsReply (s : BoardState) (event : Event) (r : Reply) : Type 0 where
   pub answer : r ≢ reply.NoMemory → r ≡ (farm_step s.state event).1
 
 -- the entry may come next
-abbrev pub IsNext : BoardState → Entry → Type 0
+abbrev pub IsNext : BoardState → HistoryEntry → Type 0
 IsNext s (entry.Call call) = IsOut call.number s × IsReply s call.event call.reply
 IsNext s (entry.Split number new) = IsOut number s × (length s.out < s.seats) × (new ≡ s.given + 1)
 IsNext s (entry.Join number old) = IsOut number s × IsOut old s × (old ≢ number)
@@ -86,17 +86,17 @@ IsNext s (entry.Join number old) = IsOut number s × IsOut old s × (old ≢ num
 -- Histories
 
 -- the board after the entries
-abbrev pub board_after : BoardState → List Entry → BoardState
+abbrev pub board_after : BoardState → List HistoryEntry → BoardState
 board_after s [] = s
 board_after s (e ∷ es) = board_after (next_board s e) es
 
 -- each entry may come where it stands
-abbrev pub IsLegal : BoardState → List Entry → Type 0
+abbrev pub IsLegal : BoardState → List HistoryEntry → Type 0
 IsLegal s [] = Unit {0}
 IsLegal s (e ∷ es) = IsNext s e × IsLegal (next_board s e) es
 
 -- the entries of one number
-abbrev pub entries_by : ℕ → List Entry → List Entry
+abbrev pub entries_by : ℕ → List HistoryEntry → List HistoryEntry
 entries_by n [] = []
 entries_by n (e ∷ es) = if pass_number e == n then e ∷ entries_by n es else entries_by n es
 
@@ -105,7 +105,7 @@ call_unless true call calls = calls
 call_unless false call calls = call ∷ calls
 
 -- the calls of a history, those that ran out of memory left out
-abbrev pub effective_calls : List Entry → List Call
+abbrev pub effective_calls : List HistoryEntry → List Call
 effective_calls [] = []
 effective_calls (entry.Call call ∷ es) = call_unless (is_no_memory call.reply) call (effective_calls es)
 effective_calls (entry.Split number new ∷ es) = effective_calls es
@@ -131,7 +131,7 @@ abbrev pub IsOutWithin : ℕ → BoardState → Type 0
 IsOutWithin k s = (n : ℕ) → IsOut n s → n ≤ k
 
 -- the entry gives no number above k
-abbrev pub GivesAtMost : ℕ → Entry → Type 0
+abbrev pub GivesAtMost : ℕ → HistoryEntry → Type 0
 GivesAtMost k (entry.Call call) = Unit {0}
 GivesAtMost k (entry.Split number new) = new ≤ k
 GivesAtMost k (entry.Join number old) = Unit {0}

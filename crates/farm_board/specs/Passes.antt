@@ -11,8 +11,8 @@ use Rattle.farm_board.specs.BoardState.{BoardState}
 use Rattle.farm_board.specs.Histories.{board_after, IsLegal, IsOut, IsGone, entries_by}
 use Rattle.farm_board.specs.Views.{IsResting}
 use Rattle.farm_board.specs.declared.entries.Call.{Call}
-use Rattle.farm_board.specs.declared.entries.Entry.{Entry}
-use Rattle.farm_board.specs.declared.entries.Entry.TheVariants as entry
+use Rattle.farm_board.specs.declared.entries.HistoryEntry.{HistoryEntry}
+use Rattle.farm_board.specs.declared.entries.HistoryEntry.TheVariants as entry
 use Rattle.farm_board.specs.declared.view.View.{View}
 
 -- tells boards apart
@@ -32,9 +32,9 @@ pub record PassValue : Type 0 where
   -- what the board began with
   pub start : BoardState
   -- the history as far as the pass knows it
-  pub seen : List Entry
+  pub seen : List HistoryEntry
   -- the pass's own entries
-  pub mine : List Entry
+  pub mine : List HistoryEntry
   -- how many passes it may split off
   pub spare : ℕ
   -- how many calls it may still make
@@ -70,8 +70,8 @@ call_of number event reply = record { number = number; event = event; reply = re
 
 -- The history that the pass has seen begins with what it had seen before, is legal, and ends with the entry, by which
 -- alone its own entries grow. These are all that the history has of its number.
-pub record GrowsBy (old new : PassValue) (e : Entry) : Type 0 where
-  pub between : List Entry
+pub record GrowsBy (old new : PassValue) (e : HistoryEntry) : Type 0 where
+  pub between : List HistoryEntry
   pub seen : new.seen ≡ (old.seen ++ between) ++ e ∷ []
   pub legal : IsLegal old.start new.seen
   pub mine : new.mine ≡ old.mine ++ e ∷ []
@@ -101,7 +101,7 @@ pub record SplitsOff (old new other : PassValue) (share : ℕ) : Type 0 where
 -- The pass takes another in. The history begins with what either had seen, and the entries that it has of the other's
 -- number are those that the other made.
 pub record TakesIn (old other new : PassValue) : Type 0 where
-  pub before : List Entry
+  pub before : List HistoryEntry
   pub seen : new.seen ≡ before ++ entry.Join old.number other.number ∷ []
   pub begins : IsPrefix old.seen before
   pub other_begins : IsPrefix other.seen before
@@ -116,7 +116,7 @@ pub record TakesIn (old other new : PassValue) : Type 0 where
   pub start : new.start ≡ old.start
 
 -- the pass of this number was joined, and the history has these entries of it
-pub record IsJoined (n : ℕ) (pass : PassValue) (its : List Entry) : Type 0 where
+pub record IsJoined (n : ℕ) (pass : PassValue) (its : List HistoryEntry) : Type 0 where
   pub gone : IsGone n (board_seen pass)
   pub entries : entries_by n pass.seen ≡ its
 

@@ -10,13 +10,13 @@ use Rattle.farm_board.specs.Homes.{Home}
 use Rattle.farm_board.specs.BoardState.{BoardState}
 use Rattle.farm_board.specs.Histories.{board_after, IsLegal, IsNext, IsOut, entries_by, pass_number, IsOpening}
 use Rattle.farm_board.specs.Views.{Suits}
-use Rattle.farm_board.specs.declared.entries.Entry.{Entry}
+use Rattle.farm_board.specs.declared.entries.HistoryEntry.{HistoryEntry}
 use Rattle.farm_board.specs.declared.view.View.{View}
 
 -- One view
 
 -- the view has the turn, and the entry may come next
-pub record IsComing (s : BoardState) (v : View) (e : Entry) : Type 0 where
+pub record IsComing (s : BoardState) (v : View) (e : HistoryEntry) : Type 0 where
   pub turn : v.turn ≡ true
   pub own : pass_number e ≡ v.number
   pub next : IsNext s e
@@ -27,17 +27,17 @@ abbrev pub HasNumber : ℕ → View → Type 0
 HasNumber n v = (n ≡ v.number) ⊎ ((v.to_give ≡ Some n) ⊎ (v.taken_in ≡ Some n))
 
 -- the history has no entries of a number to give
-abbrev pub IsNewNumber : List Entry → View → ℕ → Type 0
+abbrev pub IsNewNumber : List HistoryEntry → View → ℕ → Type 0
 IsNewNumber history v n = (entries_by n history ≡ []) × (n ≢ v.number)
 
 -- the entries of a number that was taken in are those that came with it
-abbrev pub IsTakenIn : List Entry → View → ℕ → Type 0
+abbrev pub IsTakenIn : List HistoryEntry → View → ℕ → Type 0
 IsTakenIn history v n =
     (entries_by n history ≡ v.taken_in_mine) × (n ≢ v.number) × (v.to_give ≢ Some n)
     × IsPrefix v.taken_in_seen history × IsPrefix v.seen_before history
 
 -- the view agrees with the history, and with how many tickets were served and drawn
-pub record Fits (s : BoardState) (history : List Entry) (served drawn : ℕ) (v : View) : Type 0 where
+pub record Fits (s : BoardState) (history : List HistoryEntry) (served drawn : ℕ) (v : View) : Type 0 where
   pub start : v.start.value ≡ s
   pub seen : IsPrefix v.seen history
   pub mine : entries_by v.number history ≡ v.mine
@@ -47,7 +47,7 @@ pub record Fits (s : BoardState) (history : List Entry) (served drawn : ℕ) (v 
   pub ticket : (k : ℕ) → v.ticket ≡ Some k → (served ≤ k) × (k < drawn)
   pub turn : v.turn ≡ true → (v.ticket ≡ Some served) × (v.seen ≡ history)
   pub kept : v.kept ≡ true → (v.ticket ≡ Some served) × (v.seen ≡ history)
-  pub coming : (e : Entry) → v.coming ≡ Some e → IsComing (board_after s history) v e
+  pub coming : (e : HistoryEntry) → v.coming ≡ Some e → IsComing (board_after s history) v e
 
 -- an ended view has no calls left, and takes part in nothing
 pub record IsOver (v : View) : Type 0 where
@@ -84,7 +84,7 @@ abbrev pub SomeHasTicket : List View → ℕ → Type 0
 SomeHasTicket views k = (i : ℕ) × (v : View) × (get_elem? views i ≡ some v) × (v.ticket ≡ Some k)
 
 -- some view that is not ended has seen the whole history
-abbrev pub SomeHasSeenAll : List Entry → List View → Type 0
+abbrev pub SomeHasSeenAll : List HistoryEntry → List View → Type 0
 SomeHasSeenAll history views =
     (i : ℕ) × (v : View) × (get_elem? views i ≡ some v) × (v.ended ≡ false) × (v.seen ≡ history)
 
@@ -100,7 +100,7 @@ IsAtHome {S} state_of now homes = (h : S) × (homes ≡ some (Some h) ∷ []) ×
 
 pub record IsConsistent {S : Type 0} (state_of : S → BoardState) (start : BoardState) (s : State (Option S) View)
     : Type 0 where
-  pub history : List Entry
+  pub history : List HistoryEntry
   pub drawn : ℕ
   pub served : ℕ
   pub words : s.words ≡ drawn ∷ served ∷ []

@@ -5,8 +5,8 @@ use Rattle.std.specs.declared.snapshot.Snapshot.{Snapshot}
 use Rattle.farm_model.specs.State.{start, standard_settings}
 use Rattle.farm_board.specs.BoardState.{BoardState}
 use Rattle.farm_board.specs.Histories.{opening_board}
-use Rattle.farm_board.specs.declared.entries.Entry.{Entry}
-use Rattle.farm_board.specs.declared.entries.Entry.TheVariants as entry
+use Rattle.farm_board.specs.declared.entries.HistoryEntry.{HistoryEntry}
+use Rattle.farm_board.specs.declared.entries.HistoryEntry.TheVariants as entry
 use Rattle.farm_board.specs.declared.view.View.{View}
 
 -- of the opening pass, which has seen nothing
@@ -37,26 +37,26 @@ abbrev pub with_ticket : View → ℕ → View
 with_ticket v k = record v { left = v.left - 1; ticket = Some k; kept = false }
 
 -- the ticket's turn has come
-abbrev pub with_turn : View → List Entry → View
+abbrev pub with_turn : View → List HistoryEntry → View
 with_turn v history = record v { seen = history; turn = true }
 
 -- the entry was marked as the one to come
-abbrev pub with_coming : View → Entry → View
+abbrev pub with_coming : View → HistoryEntry → View
 with_coming v e = record v { coming = Some e }
 
-abbrev pub spare_after : ℕ → Entry → ℕ
+abbrev pub spare_after : ℕ → HistoryEntry → ℕ
 spare_after n (entry.Call call) = n
 spare_after n (entry.Split number new) = n - 1
 spare_after n (entry.Join number old) = n + 1
 
 -- the number to give after the entry
-abbrev pub to_give_after : Entry → Option ℕ
+abbrev pub to_give_after : HistoryEntry → Option ℕ
 to_give_after (entry.Call call) = None
 to_give_after (entry.Split number new) = Some new
 to_give_after (entry.Join number old) = None
 
 -- the turn ended with the entry
-abbrev pub with_entry : View → Entry → View
+abbrev pub with_entry : View → HistoryEntry → View
 with_entry v e = record v {
   seen = v.seen ++ e ∷ [];
   mine = v.mine ++ e ∷ [];
@@ -73,7 +73,7 @@ with_entry v e = record v {
 }
 
 -- the entry joined the history, and the ticket is kept
-abbrev pub with_kept_ticket : View → Entry → View
+abbrev pub with_kept_ticket : View → HistoryEntry → View
 with_kept_ticket v e = record (with_entry v e) { ticket = v.ticket; kept = true }
 
 -- the kept ticket was given up
@@ -81,7 +81,7 @@ abbrev pub without_ticket : View → View
 without_ticket v = record v { ticket = None; kept = false }
 
 -- what a view needs for the entry: only one that joins has taken a number in
-abbrev pub Suits : Entry → View → Type 0
+abbrev pub Suits : HistoryEntry → View → Type 0
 Suits (entry.Call call) v = (v.to_give ≡ None) × (v.taken_in ≡ None)
 Suits (entry.Split number new) v = (v.to_give ≡ None) × (v.taken_in ≡ None) × (0 < v.spare)
 Suits (entry.Join number old) v = (v.to_give ≡ None) × (v.taken_in ≡ Some old)
@@ -102,7 +102,7 @@ split_right share v = record v {
   to_give = None;
 }
 
-abbrev pub longer : List Entry → List Entry → List Entry
+abbrev pub longer : List HistoryEntry → List HistoryEntry → List HistoryEntry
 longer xs ys = if nat_lt (length xs) (length ys) then ys else xs
 
 -- the second view is taken in by the first

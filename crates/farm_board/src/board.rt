@@ -5,7 +5,7 @@ ghost use Rattle.farm_board.specs.Trusts.{IsAdmitted, AreBacked, AreAdmitted, Ad
 
 use crate::calls::{call, call_and_keep, join, split};
 use crate::contents::{Contents, TrustedContents};
-use crate::entries::History;
+use crate::entries::CallJournal;
 use crate::rule::{BoardRule, Slot};
 use crate::trust::{Admission, Trust};
 use crate::turn::let_go;
@@ -215,7 +215,7 @@ impl<R: Trust + Drop, A: Admission> Board<R, A> {
     }
 
     /// The farm after all that the pass has seen, and the journal where one was kept. No other pass may be out.
-    pub fn close(self, pass: Pass<A>) -> (Farm, Option<History>)
+    pub fn close(self, pass: Pass<A>) -> (Farm, Option<CallJournal>)
         requires board { pass.board ≡ self.id }
         requires alone { IsAlone pass.number (board_seen pass) }
         ensures farm { result.0 ≡ (board_seen pass).state }

@@ -4,7 +4,7 @@ ghost use Rattle.farm_board.specs.Views.{with_coming, split_left, split_right, S
 ghost use Rattle.farm_board.specs.Steps.{EndsTurn};
 ghost use Rattle.farm_board.specs.Passes.{pass_of, call_of, IsSeated, IsGiving, IsSoundView, Calls, SplitsOff, TakesIn};
 ghost use Rattle.farm_board.specs.Trusts.{IsAdmitted, AdmitsOne, NeverDiffers};
-ghost use Rattle.farm_board.specs.declared.entries.Entry.TheVariants as entry;
+ghost use Rattle.farm_board.specs.declared.entries.HistoryEntry.TheVariants as entry;
 
 use crate::rule::{BoardSeat, JoinSeat, MarkEntry, PicksEntry, PicksShare, SharedBoard, SplitSeat};
 use crate::trust::Admission;

@@ -3,9 +3,9 @@ ghost use Rattle.std.specs.Vec.{vec_capacity};
 ghost use Rattle.farm_board.specs.Histories.{opening_board, next_board, without, IsReply};
 ghost use Rattle.farm_board.specs.Passes.{call_of};
 ghost use Rattle.farm_board.specs.Trusts.{IsAdmitted, IsTrusted, AreBacked, AreAdmitted, AdmitsOne, NeverDiffers};
-ghost use Rattle.farm_board.specs.declared.entries.Entry.TheVariants as entry;
+ghost use Rattle.farm_board.specs.declared.entries.HistoryEntry.TheVariants as entry;
 
-use crate::entries::History;
+use crate::entries::CallJournal;
 use crate::trust::Admission;
 use farm_core::Farm;
 use farm_kinds::{Event, NoMemory, Reply};
@@ -19,7 +19,7 @@ pub struct Contents {
     seats: u16,
     out: Vec<u64>,
     given: u64,
-    journal: Option<History>,
+    journal: Option<CallJournal>,
 }
 
 impl Model for Contents {
@@ -50,7 +50,7 @@ impl Contents {
         let mut out = Vec::with_capacity(alloc, usize::from(seats))?;
         out.push_reserved(0);
         let journal = if journal {
-            Some(History::new(alloc))
+            Some(CallJournal::new(alloc))
         } else {
             None
         };
@@ -90,7 +90,7 @@ impl Contents {
         remove_number(&mut self.out, old);
     }
 
-    fn into_parts(self) -> (Farm, Option<History>)
+    fn into_parts(self) -> (Farm, Option<CallJournal>)
         ensures { (result.0 ≡ self.state) × (result.1 ≡ self.journal) }
     {
         let Contents { farm, journal, .. } = self;
@@ -167,7 +167,7 @@ impl<A: Admission> TrustedContents<A> {
     }
 
     /// The farm and the journal.
-    pub(crate) fn into_parts(self) -> (Farm, Option<History>)
+    pub(crate) fn into_parts(self) -> (Farm, Option<CallJournal>)
         ensures parts { (result.0 ≡ self.contents.state) × (result.1 ≡ self.contents.journal) }
         ensures trusted { AreBacked A.admits result.0 × AreAdmitted A.admits result.1 }
     {

@@ -17,7 +17,7 @@ pub struct Call {
 }
 
 /// An entry of a board's history. No value of it is made.
-pub enum Entry {
+pub enum HistoryEntry {
     /// A call of the board.
     Call(Call),
     /// The pass split off one with the number `new`.
@@ -28,12 +28,12 @@ pub enum Entry {
 
 /// The calls that took effect, in their order. Contracts see a list.
 #[derive(Debug, Drop)]
-pub struct History {
+pub struct CallJournal {
     alloc: Global,
     calls: Vec<Call>,
 }
 
-impl Model for History {
+impl Model for CallJournal {
     ghost use Rattle.std.specs.Prelude.{List};
     ghost use Rattle.farm_board.specs.declared.entries.Call.{Call};
 
@@ -42,12 +42,12 @@ impl Model for History {
     ghost view = { λ h. h.calls.items };
 }
 
-impl History {
+impl CallJournal {
     /// No calls.
-    pub(crate) fn new(alloc: Global) -> History
+    pub(crate) fn new(alloc: Global) -> CallJournal
         ensures { result ≡ [] }
     {
-        History {
+        CallJournal {
             alloc,
             calls: Vec::new(alloc),
         }

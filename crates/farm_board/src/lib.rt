@@ -22,6 +22,6 @@ mod turn;
 mod view;
 
 pub use board::{Board, BoardOf, Pass, PassOf};
-pub use entries::{Call, History};
+pub use entries::{Call, CallJournal};
 pub use local_bench::LocalBench;
 pub use trust::{Admission, Anyone, Proved, Trust};

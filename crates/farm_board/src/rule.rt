@@ -1,6 +1,6 @@
 ghost use Rattle.std.specs.Prelude.{ℕ};
-ghost use Rattle.farm_board.specs.declared.entries.Entry.{Entry};
-ghost use Rattle.farm_board.specs.declared.entries.Entry.TheVariants as entry;
+ghost use Rattle.farm_board.specs.declared.entries.HistoryEntry.{HistoryEntry};
+ghost use Rattle.farm_board.specs.declared.entries.HistoryEntry.TheVariants as entry;
 ghost use Rattle.farm_board.specs.Views.{opening_view, split_left, split_right, joined_view, ended_view};
 ghost use Rattle.farm_board.specs.Rules.{IsConsistent};
 ghost use Rattle.farm_board.specs.Steps.{DrawsTicket, LooksForTurn, GoesOn, MarksEntry, FinishesTurn, KeepsTicket, GivesTicketUp};
@@ -55,7 +55,7 @@ impl<A: Admission> Play<Slot<A>, View> for GoOn {
 
 /// The entry that is to come. The function that marks it picks it.
 pub trait PicksEntry {
-    ghost entry: { Entry };
+    ghost entry: { HistoryEntry };
 }
 
 impl PicksEntry for Brand {

@@ -4,8 +4,8 @@ ghost use Rattle.farm_board.specs.Views.{with_entry, with_kept_ticket, without_t
 ghost use Rattle.farm_board.specs.Steps.{GetsTurn, InTurn};
 ghost use Rattle.farm_board.specs.Passes.{at_rest, pass_of, IsSeated, IsSoundView};
 ghost use Rattle.farm_board.specs.declared.entries.Call.{Call};
-ghost use Rattle.farm_board.specs.declared.entries.Entry.{Entry};
-ghost use Rattle.farm_board.specs.declared.entries.Entry.TheVariants as entry;
+ghost use Rattle.farm_board.specs.declared.entries.HistoryEntry.{HistoryEntry};
+ghost use Rattle.farm_board.specs.declared.entries.HistoryEntry.TheVariants as entry;
 
 use crate::contents::TrustedContents;
 use crate::rule::{
@@ -128,9 +128,9 @@ pub(crate) fn end_turn<A: Admission>(
     requires table { IsSeated seat.old.table_id shared.now.table_id }
     requires turn { (seat.old.me.0.turn ≡ true) × (seat.old.me.0.ended ≡ false) }
     requires slot { seat.old.me.1 ≡ (0, None) ∷ [] }
-    requires entry { (e : Entry) × (seat.old.me.0.coming ≡ Some e) × (held.contents ≡ board_after seat.old.me.0.start.value (seat.old.me.0.seen ++ e ∷ [])) }
+    requires entry { (e : HistoryEntry) × (seat.old.me.0.coming ≡ Some e) × (held.contents ≡ board_after seat.old.me.0.start.value (seat.old.me.0.seen ++ e ∷ [])) }
     ensures table { (seat.new.table_id ≡ seat.old.table_id) × (seat.new.id ≡ seat.old.id) }
-    ensures view { (e : Entry) → seat.old.me.0.coming ≡ Some e → seat.new.me ≡ (with_entry seat.old.me.0 e, []) }
+    ensures view { (e : HistoryEntry) → seat.old.me.0.coming ≡ Some e → seat.new.me ≡ (with_entry seat.old.me.0 e, []) }
 {
     drop(shared.exchange(seat, 0, Some(held)));
     shared.fetch_add::<FinishTurn>(seat, 1, 1);
@@ -147,7 +147,7 @@ pub(crate) fn keep_ticket<A: Admission>(
     requires slot { seat.old.me.1 ≡ (0, None) ∷ [] }
     requires entry { (c : Call) × (seat.old.me.0.coming ≡ Some (entry.Call c)) × (held.contents ≡ board_after seat.old.me.0.start.value (seat.old.me.0.seen ++ entry.Call c ∷ [])) }
     ensures table { (seat.new.table_id ≡ seat.old.table_id) × (seat.new.id ≡ seat.old.id) }
-    ensures view { (e : Entry) → seat.old.me.0.coming ≡ Some e → seat.new.me ≡ (with_kept_ticket seat.old.me.0 e, []) }
+    ensures view { (e : HistoryEntry) → seat.old.me.0.coming ≡ Some e → seat.new.me ≡ (with_kept_ticket seat.old.me.0 e, []) }
 {
     drop(shared.exchange(seat, 0, Some(held)));
     shared.load::<KeepTicket>(seat, 1);

@@ -15,7 +15,7 @@ use Rattle.record_store.proofs.Images.{quiet_leaves}
 use Rattle.stored_events.specs.Opening.{HoldsOrBegins}
 use Rattle.store_listing.specs.Listing.{store_text}
 use Rattle.script_commands.specs.Scripted.{Streams, PrefixDone, ScriptIsDone}
-use Rattle.script_commands.specs.Stored.{StoreState, StoreUse, IsUnopened, IsUnplayed, lines_before, IsListingFront, StoredIsDone, ListIsDone}
+use Rattle.script_commands.specs.Stored.{StoreState, StoreUse, IsUnopened, IsUnplayed, lines_before, IsListingPrefix, StoredIsDone, ListIsDone}
 use Rattle.farm_cli.specs.Commands.{CommandEnds, CommandIsDone}
 use Rattle.judge_commands.specs.Judged.{ContestIsDone}
 use Rattle.farm_cli.specs.ServedContest.{DoorUse, IsUnasked}
@@ -37,10 +37,10 @@ nothing_done at = record {
 }
 
 -- no line of a store was written
-nothing_listed : (store : StoreUse) (held : Option (List ℕ)) → IsUnopened store → IsListingFront store held held
+nothing_listed : (store : StoreUse) (held : Option (List ℕ)) → IsUnopened store → IsListingPrefix store held held
 nothing_listed store held shut = record {
   still = λ told. ap (λ (s : StoreState). s.time) shut;
-  wrote = λ told. record { text = []; after = store_text (lines_before store); put = Appends-nil held; front = refl };
+  wrote = λ told. record { text = []; after = store_text (lines_before store); put = Appends-nil held; prefix = refl };
 }
 
 -- no store was opened

@@ -20,7 +20,7 @@ use Rattle.remote_host.specs.Standing.{Line}
 use Rattle.remote_host.specs.Ends.{WorkedAs}
 use Rattle.exit_status.specs.declared.exit.Exit.{Exit}
 use Rattle.exit_status.specs.declared.exit.Exit.TheVariants as exit
-use Rattle.judge_commands.specs.Judged.{Writes, WritesFront}
+use Rattle.judge_commands.specs.Judged.{Writes, WritesPrefix}
 
 -- What is told of the connections of a link, and where the gate may let the host die; and the link with the count of its
 -- faults, before a command and after it.
@@ -146,7 +146,7 @@ ToldEnds name claims posts wrong end faults held held' unwritten exit.Usage = �
 ToldEnds name claims posts wrong end faults held held' unwritten exit.BadContest = ⊥
 ToldEnds name claims posts wrong end faults held held' unwritten exit.ReadFault = ⊥
 ToldEnds name claims posts wrong end faults held held' unwritten exit.WriteFault =
-    WritesFront (IsHostLine name claims posts end) held held'
+    WritesPrefix (IsHostLine name claims posts end) held held'
 ToldEnds name claims posts wrong end faults held held' unwritten exit.Memory = unwritten
 ToldEnds name claims posts wrong end faults held held' unwritten exit.TreeFault = ⊥
 ToldEnds name claims posts wrong end faults held held' unwritten exit.DoorFault = ⊥
@@ -203,7 +203,7 @@ NoPasswordEnds files path held held' unwritten exit.Done = ⊥
 NoPasswordEnds files path held held' unwritten exit.Usage = ⊥
 NoPasswordEnds files path held held' unwritten exit.BadContest = Writes (IsBadPasswordLine files path) held held'
 NoPasswordEnds files path held held' unwritten exit.ReadFault = ⊥
-NoPasswordEnds files path held held' unwritten exit.WriteFault = WritesFront (IsBadPasswordLine files path) held held'
+NoPasswordEnds files path held held' unwritten exit.WriteFault = WritesPrefix (IsBadPasswordLine files path) held held'
 NoPasswordEnds files path held held' unwritten exit.Memory = unwritten
 NoPasswordEnds files path held held' unwritten exit.TreeFault = unwritten
 NoPasswordEnds files path held held' unwritten exit.DoorFault = ⊥

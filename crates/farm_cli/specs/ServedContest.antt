@@ -15,7 +15,7 @@ use Rattle.contest_server.specs.Visits.{Watch, on_board}
 use Rattle.contest_server.specs.Served.{Serves}
 use Rattle.exit_status.specs.declared.exit.Exit.{Exit}
 use Rattle.exit_status.specs.declared.exit.Exit.TheVariants as exit
-use Rattle.judge_commands.specs.Judged.{ContestIs, Writes, WritesFront, IsFaultLine}
+use Rattle.judge_commands.specs.Judged.{ContestIs, Writes, WritesPrefix, IsFaultLine}
 
 -- what is told of connections and of the clock by which they are served, and the door to which they come, before a
 -- command and after it
@@ -66,7 +66,7 @@ ServeEnds files folder at lanes connections door held held' unwritten exit.BadCo
 ServeEnds files folder at lanes connections door held held' unwritten exit.ReadFault = ⊥
 ServeEnds files folder at lanes connections door held held' unwritten exit.WriteFault =
     IsServed files folder at lanes connections door held held' end.WriteFault
-    ⊎ (IsUnasked door × WritesFront (IsFaultLine files folder) held held')
+    ⊎ (IsUnasked door × WritesPrefix (IsFaultLine files folder) held held')
 ServeEnds files folder at lanes connections door held held' unwritten exit.Memory =
     IsServed files folder at lanes connections door held held' end.NoMemory ⊎ (IsUnasked door × unwritten)
 ServeEnds files folder at lanes connections door held held' unwritten exit.TreeFault = IsUnasked door × unwritten

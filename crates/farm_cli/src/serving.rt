@@ -1,7 +1,7 @@
 ghost use Rattle.std.specs.Prelude.{◌≡◌, ◌≢◌, ◌⊎◌, ◌≤◌, ℕ, Option, List, Ok};
 ghost use Rattle.farm_io.specs.Streams.{Rose};
 ghost use Rattle.farm_tree.specs.declared.reads.TreeFile.{TreeFile};
-ghost use Rattle.judge_server.specs.Exchanges.{around_of};
+ghost use Rattle.farm_api.specs.Exchanges.{around_of};
 ghost use Rattle.contest_server.specs.Visits.{watch};
 ghost use Rattle.judge_commands.specs.Judged.{ContestIs, HasContest};
 ghost use Rattle.farm_cli.specs.ServedContest.{DoorUse, ServeEnds, exit_of};

@@ -1,7 +1,7 @@
 ghost use Rattle.std.specs.Prelude.{◌≡◌, ◌≢◌, ◌↔◌, ◌≤◌, ◌+◌, None, IfSome, map, string_bytes};
 ghost use Rattle.farm_io.specs.Streams.{Rose};
 ghost use Rattle.command_line.specs.CommandLine.{command_of};
-ghost use Rattle.judge_server.specs.Exchanges.{around_of};
+ghost use Rattle.farm_api.specs.Exchanges.{around_of};
 ghost use Rattle.contest_server.specs.Visits.{watch};
 ghost use Rattle.farm_cli.specs.Commands.{file_of, UnlessServing, UnlessHosting, UnlessStoring, CommandEnds, CommandIsDone};
 
@@ -86,7 +86,7 @@ where
     // that verdict is what running every test in rank order on one thread gives; final stays; each result counts
     // once. A contest's verdicts are the same whatever the number of its hosts, the gate and the schedule. What a host on
     // another machine asks and posts is its talk, in which each result is the value of the case that it was sent. Where events
-    // are stored, a crash at any moment leaves those that the store held and a front of this run's, and with the end those
+    // are stored, a crash at any moment leaves those that the store held and a prefix of this run's, and with the end those
     // of each reply of which a part was written; the file that is opened is the one that the words name.
     ensures ends { IfSome (command_of (map string_bytes words.now)) (λ command. CommandEnds (T.files tree.old) command
         (record { watch = watch D.Conn.left D.Conn.held D.Conn.Source.faults D.Conn.Sink.faults (around_of (C.shows clock.now) D.Conn.Peer.asks); old = D.state door.old; new = D.state door.new })

@@ -42,15 +42,15 @@ all_known s (n ∷ list) none =
 
 -- The order of the refusals
 
-front_found : {R : Type 0} (xs ys : List (Option R)) (r : R) → first_of xs ≡ Some r → first_of (xs ++ ys) ≡ Some r
-front_found [] ys r e = cc
-front_found (None ∷ xs) ys r e = front_found xs ys r e
-front_found (Some x ∷ xs) ys r e = e
+prefix_found : {R : Type 0} (xs ys : List (Option R)) (r : R) → first_of xs ≡ Some r → first_of (xs ++ ys) ≡ Some r
+prefix_found [] ys r e = cc
+prefix_found (None ∷ xs) ys r e = prefix_found xs ys r e
+prefix_found (Some x ∷ xs) ys r e = e
 
-front_none : {R : Type 0} (xs ys : List (Option R)) → first_of xs ≡ None → first_of (xs ++ ys) ≡ first_of ys
-front_none [] ys e = refl
-front_none (None ∷ xs) ys e = front_none xs ys e
-front_none (Some x ∷ xs) ys e = cc
+prefix_none : {R : Type 0} (xs ys : List (Option R)) → first_of xs ≡ None → first_of (xs ++ ys) ≡ first_of ys
+prefix_none [] ys e = refl
+prefix_none (None ∷ xs) ys e = prefix_none xs ys e
+prefix_none (Some x ∷ xs) ys e = cc
 
 twice_same : (o : Option ℕ) → option_map reply.Twice o ≡ option_map fault_reply (option_map fault.Twice o)
 twice_same None = refl
@@ -111,11 +111,11 @@ book_answers rs list = had_memory (reserve_refusal rs list) (no_want rs list)
 
 pub list_refused : (s : State) (list : List ℕ) (r : Reply) → list_refusal s list ≡ Some r → rejudge_refusal s list ≡ Some r
 list_refused s list r refusal =
-    front_found (list_refusals s list) (twice_refusal reply.Twice list ∷ busy_refusal reply.Busy s.rejudgings list ∷ []) r refusal
+    prefix_found (list_refusals s list) (twice_refusal reply.Twice list ∷ busy_refusal reply.Busy s.rejudgings list ∷ []) r refusal
 
 pub rest_refuses : (s : State) (list : List ℕ) → list_refusal s list ≡ None → rejudge_refusal s list ≡ option_map fault_reply (reserve_refusal s.rejudgings list)
 rest_refuses s list none =
-    front_none (list_refusals s list) (twice_refusal reply.Twice list ∷ busy_refusal reply.Busy s.rejudgings list ∷ []) none
+    prefix_none (list_refusals s list) (twice_refusal reply.Twice list ∷ busy_refusal reply.Busy s.rejudgings list ∷ []) none
     ∙ book_refusals s.rejudgings list
 
 apart : {R : Type 0} (xs ys : List (Option R)) → first_of (xs ++ ys) ≡ None → (first_of xs ≡ None) × (first_of ys ≡ None)

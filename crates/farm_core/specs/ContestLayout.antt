@@ -3,7 +3,7 @@ use Rattle.std.specs.Prelude.{◌≡◌, ◌≤◌, [], length, map}
 use Rattle.farm_model.specs.Limits.{max_problems, max_hosts, max_submissions}
 use Rattle.farm_model.specs.State.{State}
 use Rattle.farm_core.specs.FarmShape.{AreShort, AreKept}
-use Rattle.farm_core.specs.declared.contest.Contest.TheInside.{Inside}
+use Rattle.farm_core.specs.declared.contest.ContestState.TheInside.{Inside}
 
 -- a farm whose audit log is empty
 abbrev pub contest_value : Inside → State

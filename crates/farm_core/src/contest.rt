@@ -23,7 +23,7 @@ use std::marker::Model;
 /// All of a farm but its audit log: the problems, the hosts, the submissions with their judgings, and the
 /// rejudgings. Contracts see a farm whose audit log is empty.
 #[derive(Drop)]
-pub struct Contest {
+pub struct ContestState {
     alloc: Global,
     judge: Judge,
     /// How far judgings are judged, but for those of the problems in `modes`.
@@ -42,7 +42,7 @@ pub struct Contest {
     book: RejudgeBook,
 }
 
-impl Model for Contest {
+impl Model for ContestState {
     ghost use Rattle.farm_model.specs.State.{State};
 
     ghost Value = { State };
@@ -54,12 +54,12 @@ impl Model for Contest {
     ghost invariant = { IsContestLayout };
 }
 
-impl Contest {
+impl ContestState {
     /// A contest of nothing, with these settings.
-    pub fn new(alloc: Global, settings: Settings) -> Contest
+    pub fn new(alloc: Global, settings: Settings) -> ContestState
         ensures { result ≡ start settings }
     {
-        Contest {
+        ContestState {
             alloc,
             judge: Judge::new(alloc, settings.rule(), settings.lease()),
             mode: settings.mode(),

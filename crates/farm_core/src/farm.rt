@@ -9,7 +9,7 @@ ghost use Rattle.farm_model.specs.Farm.{Stepped};
 ghost use Rattle.farm_laws.specs.Laws.{reached, StepKeepsPromise};
 ghost use Rattle.farm_core.specs.FarmShape.{HadMemory};
 
-use crate::contest::Contest;
+use crate::contest::ContestState;
 use crate::entries::make_entry;
 use audit_log::Audit;
 use farm_kinds::{Answer, Event, NoMemory, Reply};
@@ -21,7 +21,7 @@ use std::marker::Model;
 #[derive(Drop)]
 pub struct Farm {
     alloc: Global,
-    contest: Contest,
+    contest: ContestState,
     audit: Audit,
 }
 
@@ -44,7 +44,7 @@ impl Farm {
     {
         Farm {
             alloc,
-            contest: Contest::new(alloc, settings),
+            contest: ContestState::new(alloc, settings),
             audit: Audit::new(alloc),
         }
     }

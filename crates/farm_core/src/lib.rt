@@ -3,7 +3,7 @@
 //!
 //! Where things stand: `farm.rt` is `Farm`: a contest and an audit log, the answer to each event, and the one path
 //! of the jury's events (refused, or the entry is made ready, the contest changes, the entry is added).
-//! `contest.rt` is `Contest`, all but the log; `contest/` has its events by subject: `problems.rt`, `hosts.rt`,
+//! `contest.rt` is `ContestState`, all but the log; `contest/` has its events by subject: `problems.rt`, `hosts.rt`,
 //! `submissions.rt`, `judged.rt` (those that the judge answers), `asking.rt`, `rejudgings.rt`, `verifying.rt`,
 //! `reading.rt` (show and board), and `jury.rt`, which finds the refusal and the change of an event of the jury.
 //! Beside them: `entries.rt` (entries of the log), `names.rt` (`Names`, the names of problems or of hosts in order,

@@ -81,7 +81,7 @@ impl<W: Write> Sink for WriteSink<W> {
     }
 }
 
-/// Puts the whole piece, or a front of it up to the first error. That no byte is taken is an error too.
+/// Puts the whole piece, or a prefix of it up to the first error. That no byte is taken is an error too.
 pub fn write_whole<W: Write>(writer: &mut W, piece: &[u8]) -> PutEnd
     ensures { Puts (W.contents writer.old) (W.contents writer.new) result piece.now }
 {

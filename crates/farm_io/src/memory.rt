@@ -119,13 +119,13 @@ fn take_from(bytes: &[u8], at: &mut usize, room: &mut [u8]) -> Taken
     if rest.is_empty() {
         return Taken::End;
     }
-    let count = copy_front(rest, room);
+    let count = copy_prefix(rest, room);
     *at += count;
     Taken::Bytes(count)
 }
 
 /// Copies as much as there is and as there is room for.
-fn copy_front(rest: &[u8], room: &mut [u8]) -> usize
+fn copy_prefix(rest: &[u8], room: &mut [u8]) -> usize
     requires rest { 0 < length rest.now }
     requires room { 0 < length room.old }
     ensures least { 1 ≤ result }

@@ -124,7 +124,7 @@ impl<R: rt::Clock> Write for Sending<'_, R> {
     }
 }
 
-/// Puts the whole piece while patience lasts, or a front of it.
+/// Puts the whole piece while patience lasts, or a prefix of it.
 fn send<R: rt::Clock>(clock: &R, talk: &Talk, patience: Duration, piece: &[u8]) -> PutEnd {
     let Ok(begun) = Instant::now(clock) else {
         return PutEnd::Failed;

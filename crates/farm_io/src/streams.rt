@@ -18,7 +18,7 @@ pub enum Taken {
 pub enum PutEnd {
     /// The whole piece was put.
     Done,
-    /// The sink failed, and perhaps a front of the piece was put.
+    /// The sink failed, and perhaps a prefix of the piece was put.
     Failed,
 }
 

@@ -2,7 +2,7 @@
 ghost use Rattle.std.specs.Prelude.{◌≡◌, ◌≢◌, ◌≤◌, ◌<◌, ◌+◌, ◌⊎◌, ◌++◌, ◌∷◌, [], ◌^◌, ◌==◌, ◌&&◌, ℕ, List, length, take, drop, slice_index, true, false, IsTrue, IfOk, IfErr, IsErrOf, OnOk, OnErr, Ok, Err, Some, None, nat_le, Option};
 ghost use Rattle.hex.specs.Hex.{IsBytes};
 ghost use Rattle.record_store.specs.Model.{AtEachMoment, IsQuiet, OnlySynced, Rose};
-ghost use Rattle.record_store.specs.Held.{held, IsFront, IsRead, Rests};
+ghost use Rattle.record_store.specs.Held.{held, IsRecordPrefix, IsRead, Rests};
 ghost use Rattle.record_store.specs.Reading.{IsAhead};
 ghost use Rattle.farm_model.specs.Farm.{farm_step};
 ghost use Rattle.farm_model.specs.State.{State};
@@ -119,10 +119,10 @@ fn replay_records<Y: Disk, P: Player>(
     requires within { from < len }
     requires len { IsTrue (Y.tells disk.old) → len ≡ length (Y.time disk.old).now.seen }
     ensures within { IfOk result (λ end. end < len) }
-    ensures read { IsTrue (Y.tells disk.old) → (front : List (List ℕ)) → IsFront (take from (Y.time disk.old).now.seen) front
-        → IfOk result (ReplaysTo (Y.time disk.old).now.seen front (P.state farm.old) (P.state farm.new)) }
-    ensures bad { IsTrue (Y.tells disk.old) → (front : List (List ℕ)) → IsFront (take from (Y.time disk.old).now.seen) front
-        → IfErr result (FailsAt (Y.time disk.old).now.seen front (P.state farm.old)) }
+    ensures read { IsTrue (Y.tells disk.old) → (prefix : List (List ℕ)) → IsRecordPrefix (take from (Y.time disk.old).now.seen) prefix
+        → IfOk result (ReplaysTo (Y.time disk.old).now.seen prefix (P.state farm.old) (P.state farm.new)) }
+    ensures bad { IsTrue (Y.tells disk.old) → (prefix : List (List ℕ)) → IsRecordPrefix (take from (Y.time disk.old).now.seen) prefix
+        → IfErr result (FailsAt (Y.time disk.old).now.seen prefix (P.state farm.old)) }
     ensures path { Y.opened disk.new ≡ Y.opened disk.old }
     ensures tells { Y.tells disk.new ≡ Y.tells disk.old }
     ensures still { IsTrue (Y.tells disk.old) → Y.time disk.new ≡ Y.time disk.old }
@@ -158,7 +158,7 @@ fn go_on<Y: Disk, P: Player>(
     requires inside { 3 + length line.now < len }
     requires len { IsTrue (Y.tells disk.old) → len ≡ length (Y.time disk.old).now.seen }
     requires quiet { IsTrue (Y.tells disk.old) → IsQuiet (Y.time disk.old).now }
-    requires first { IsTrue (Y.tells disk.old) → IsFront (take (3 + length line.now) (Y.time disk.old).now.seen) (line.now ∷ []) }
+    requires first { IsTrue (Y.tells disk.old) → IsRecordPrefix (take (3 + length line.now) (Y.time disk.old).now.seen) (line.now ∷ []) }
     ensures opened { IsTrue (Y.tells disk.old) → IfOk result (λ end. (opened_of digest.now (P.state farm.old) (Y.time disk.old).now.seen ≡ Ok (P.state farm.new))
         × Rests (Y.time disk.new).now (opened_lines digest.now (held (Y.time disk.old).now.seen)) end) }
     ensures bad { IsTrue (Y.tells disk.old) → IfErr result (λ f. IsTold f (opened_of digest.now (P.state farm.old) (Y.time disk.old).now.seen)) }
@@ -189,7 +189,7 @@ fn go_on_as<Y: Disk, P: Player>(
     requires inside { 3 + length line.now < len }
     requires len { IsTrue (Y.tells disk.old) → len ≡ length (Y.time disk.old).now.seen }
     requires quiet { IsTrue (Y.tells disk.old) → IsQuiet (Y.time disk.old).now }
-    requires first { IsTrue (Y.tells disk.old) → IsFront (take (3 + length line.now) (Y.time disk.old).now.seen) (line.now ∷ []) }
+    requires first { IsTrue (Y.tells disk.old) → IsRecordPrefix (take (3 + length line.now) (Y.time disk.old).now.seen) (line.now ∷ []) }
     ensures opened { IsTrue (Y.tells disk.old) → IfOk result (λ end. (opened_of digest.now (P.state farm.old) (Y.time disk.old).now.seen ≡ Ok (P.state farm.new))
         × Rests (Y.time disk.new).now (opened_lines digest.now (held (Y.time disk.old).now.seen)) end) }
     ensures bad { IsTrue (Y.tells disk.old) → IfErr result (λ f. IsTold f (opened_of digest.now (P.state farm.old) (Y.time disk.old).now.seen)) }

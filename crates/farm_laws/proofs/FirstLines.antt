@@ -12,16 +12,16 @@ abbrev pub Feedless : List ℕ → Type 0
 Feedless bytes = Each (λ b. eqb b 10 ≡ false) bytes
 
 -- whatever follows a whole line
-pub first_line_front : (xs ys line : List ℕ) → first_line xs ≡ Some line → first_line (xs ++ ys) ≡ Some line
-first_line_front [] ys line h = cc
-first_line_front (b ∷ xs) ys line h =
+pub first_line_prefix : (xs ys line : List ℕ) → first_line xs ≡ Some line → first_line (xs ++ ys) ≡ Some line
+first_line_prefix [] ys line h = cc
+first_line_prefix (b ∷ xs) ys line h =
     let onto : List ℕ → List ℕ = λ rest. b ∷ rest in
     elim (eqb b 10) as (λ c. cond c (Some []) (option_map onto (first_line xs)) ≡ Some line → cond c (Some []) (option_map onto (first_line (xs ++ ys))) ≡ Some line) [
       | true ↦ λ e. e
       | false ↦ λ e.
           elim (first_line xs) as (λ o. first_line xs ≡ o → option_map onto o ≡ Some line → option_map onto (first_line (xs ++ ys)) ≡ Some line) [
             | None ↦ λ k f. cc
-            | Some rest ↦ λ k f. ap (option_map onto) (first_line_front xs ys rest k) ∙ f
+            | Some rest ↦ λ k f. ap (option_map onto) (first_line_prefix xs ys rest k) ∙ f
           ] refl e
     ] h
 
@@ -61,11 +61,11 @@ first_line_begins (b ∷ text) line h =
           ] refl f
     ] refl h
 
--- what stands behind a front of a text that was written in part
-pub written_behind : (front text more rest line : List ℕ) → text ++ more ≡ front ++ rest → first_line (drop (length front) text) ≡ Some line → drop (length front) text ++ more ≡ rest
+-- what stands behind a prefix of a text that was written in part
+pub written_behind : (prefix text more rest line : List ℕ) → text ++ more ≡ prefix ++ rest → first_line (drop (length prefix) text) ≡ Some line → drop (length prefix) text ++ more ≡ rest
 written_behind [] text more rest line e h = e
-written_behind (a ∷ front) [] more rest line e h = cc
-written_behind (a ∷ front) (b ∷ text) more rest line e h = written_behind front text more rest line (let tails : text ++ more ≡ front ++ rest = cc in tails) h
+written_behind (a ∷ prefix) [] more rest line e h = cc
+written_behind (a ∷ prefix) (b ∷ text) more rest line e h = written_behind prefix text more rest line (let tails : text ++ more ≡ prefix ++ rest = cc in tails) h
 
 -- Digits
 

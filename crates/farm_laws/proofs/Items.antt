@@ -47,13 +47,13 @@ change_at xs n m f ne (Some x) e = with_other xs n m (f x) (item_at xs n x e).0 
 pub change_other : {X : Type 0} (xs : List X) (n m : ℕ) (f : X → X) → n ≢ m → item_of (with_change xs n f) m ≡ item_of xs m
 change_other xs n m f ne = change_at xs n m f ne (item_of xs n) refl
 
-front_item : {X : Type 0} (xs ys : List X) (i : ℕ) (x : X) → slice_get xs i ≡ Some x → slice_get (xs ++ ys) i ≡ Some x
-front_item [] ys i x h = cc
-front_item (z ∷ xs) ys zero x h = h
-front_item (z ∷ xs) ys (suc i) x h = front_item xs ys i x h
+prefix_item : {X : Type 0} (xs ys : List X) (i : ℕ) (x : X) → slice_get xs i ≡ Some x → slice_get (xs ++ ys) i ≡ Some x
+prefix_item [] ys i x h = cc
+prefix_item (z ∷ xs) ys zero x h = h
+prefix_item (z ∷ xs) ys (suc i) x h = prefix_item xs ys i x h
 
 pub item_append : {X : Type 0} (xs ys : List X) (n : ℕ) (x : X) → item_of xs n ≡ Some x → item_of (xs ++ ys) n ≡ Some x
-item_append xs ys n x h = let a = item_at xs n x h in item_by (xs ++ ys) n x a.0 (front_item xs ys (n - 1) x a.1)
+item_append xs ys n x h = let a = item_at xs n x h in item_by (xs ++ ys) n x a.0 (prefix_item xs ys (n - 1) x a.1)
 
 seen_in : {X Y : Type 0} (view : X → Y) (b : Bool) (o : Option X) → cond b (option_map view o) None ≡ option_map view (cond b o None)
 seen_in view true o = refl

@@ -27,7 +27,7 @@ use Rattle.farm_model.specs.Replay.{state_after, reply_to, answered, given_by, i
 use Rattle.farm_laws.specs.Laws.{reached, Reports, ReplyKeepsPromise}
 use Rattle.farm_laws.specs.Output.{events_in, events_before, IsReadAs, first_line, written_at, IsTold, IsWritten, FinalStaysWritten, IsResultOf, CountedOnceWritten, PrefixKeepsPromise, WholeIsWritten}
 use Rattle.farm_laws.proofs.Items.{there}
-use Rattle.farm_laws.proofs.FirstLines.{first_line_front, written_behind}
+use Rattle.farm_laws.proofs.FirstLines.{first_line_prefix, written_behind}
 use Rattle.farm_laws.proofs.Outputs.{events_in-append, take_later, events_next, reached_next, output_around}
 use Rattle.farm_laws.proofs.ReplyTexts.{HasLine, HandsSome, BatchesSome, AppliesSome, reply_line, counted_told, handed_told, batch_told, applied_told, shown_told, none_told, counted_line, handed_line, batch_line, applied_line, shown_line}
 use Rattle.farm_laws.proofs.Runs.{one_more}
@@ -88,15 +88,15 @@ same_some x y h = cc
 written_reply : (settings : SettingsValue) (bytes text more : List ℕ) (n : ℕ) (e : Event) → text ++ more ≡ script_output settings bytes
     → IsReadAs bytes n e → IsWritten settings bytes text n
     → written_at settings bytes text n ≡ first_line (reply_text (reply_to (reached settings (events_before bytes n)) e))
-written_reply settings bytes text more n e front is written =
+written_reply settings bytes text more n e prefix is written =
     let around = output_around settings bytes n e is in
     let before = output_from (start settings) (take n (lines_of bytes)) in
     let said = reply_text (reply_to (reached settings (events_before bytes n)) e) in
     let line = there (written_at settings bytes text n) written in
-    let behind : drop (length before) text ++ more ≡ said ++ around.0 = written_behind before text more (said ++ around.0) line.0 (front ∙ around.1) line.1 in
+    let behind : drop (length before) text ++ more ≡ said ++ around.0 = written_behind before text more (said ++ around.0) line.0 (prefix ∙ around.1) line.1 in
     let own = reply_line (reply_to (reached settings (events_before bytes n)) e) in
     let both : Some line.0 ≡ Some own.0 =
-    sym (first_line_front (drop (length before) text) more line.0 line.1) ∙ ap first_line behind ∙ first_line_front said around.0 own.0 own.1 in
+    sym (first_line_prefix (drop (length before) text) more line.0 line.1) ∙ ap first_line behind ∙ first_line_prefix said around.0 own.0 own.1 in
     line.1 ∙ both ∙ sym own.1
 
 shown_or_none : (s : State) (j : ℕ) (b : Bool) (answer : Answer)
@@ -143,17 +143,17 @@ text_tells s e told line = record {
 -- what is told at the place of a line is the reply to it
 pub line_tells : (settings : SettingsValue) (bytes text more : List ℕ) (n : ℕ) (e : Event) → text ++ more ≡ script_output settings bytes
     → IsReadAs bytes n e → IsWritten settings bytes text n → Tells (reached settings (events_before bytes n)) e (reply_to (reached settings (events_before bytes n)) e) (IsTold settings bytes text n)
-line_tells settings bytes text more n e front is written =
-    let same = written_reply settings bytes text more n e front is written in
+line_tells settings bytes text more n e prefix is written =
+    let same = written_reply settings bytes text more n e prefix is written in
     text_tells (reached settings (events_before bytes n)) e (IsTold settings bytes text n) (λ x. (λ h. sym same ∙ h, λ h. same ∙ h))
 
 line_keeps : (settings : SettingsValue) (bytes text more : List ℕ) → text ++ more ≡ script_output settings bytes → (n : ℕ) (e : Event) → IsReadAs bytes n e → IsWritten settings bytes text n
     → ReplyKeepsPromise settings (events_before bytes n) e (reached settings (events_before bytes (n + 1))) (IsTold settings bytes text n)
-line_keeps settings bytes text more front n e is written =
+line_keeps settings bytes text more prefix n e is written =
     let es = events_before bytes n in
     let s = reached settings es in
     let r = reply_to s e in
-    let kept = told_keeps settings es e (farm_step s e).0 r (IsTold settings bytes text n) (line_tells settings bytes text more n e front is written) (step_keeps_promise settings es e) in
+    let kept = told_keeps settings es e (farm_step s e).0 r (IsTold settings bytes text n) (line_tells settings bytes text more n e prefix is written) (step_keeps_promise settings es e) in
     subst (λ (t : State). ReplyKeepsPromise settings es e t (IsTold settings bytes text n)) (sym (reached_next settings bytes n e is)) kept
 
 -- Several lines
@@ -168,10 +168,10 @@ told_written : (settings : SettingsValue) (bytes text : List ℕ) (n : ℕ) (r :
 told_written settings bytes text n r h = ap is_some h
 
 final_stays_written : (settings : SettingsValue) (bytes text more : List ℕ) → text ++ more ≡ script_output settings bytes → FinalStaysWritten settings bytes text
-final_stays_written settings bytes text more front n m j v lt is is' written told =
+final_stays_written settings bytes text more prefix n m j v lt is is' written told =
     let later = events_later bytes n m (omega (arith, lt)) in
-    let tells = line_tells settings bytes text more n (event.Show j) front is (told_written settings bytes text n (reply.Shown (Final v)) told) in
-    (line_keeps settings bytes text more front m (event.Show j) is' written).final_stays (events_before bytes n) later.0 j v (inl refl) later.1 (tells.shown j (Final v) (inl refl) told)
+    let tells = line_tells settings bytes text more n (event.Show j) prefix is (told_written settings bytes text n (reply.Shown (Final v)) told) in
+    (line_keeps settings bytes text more prefix m (event.Show j) is' written).final_stays (events_before bytes n) later.0 j v (inl refl) later.1 (tells.shown j (Final v) (inl refl) told)
 
 answered-append : (s : State) (es later : List Event) → answered s (es ++ later) ≡ answered s es ++ answered (state_after s es) later
 answered-append s [] later = refl
@@ -198,9 +198,9 @@ counted_later s es e later task kind given counts =
     let others = counted_in (state_after s (es ++ e ∷ [])) later in
     let all = ap (λ ps. times_counted ps task) (counted_in-append s (es ++ e ∷ []) later ∙ ap (λ ps. ps ++ others) (counted_in-append s es (e ∷ []) ∙ ap (λ ps. first ++ ps) one)) in
     let sum = times-append (first ++ (task, kind) ∷ []) others task in
-    let front = times-append first ((task, kind) ∷ []) task in
+    let prefix = times-append first ((task, kind) ∷ []) task in
     let once = one_time task kind in
-    omega (arith, all, sum, front, once)
+    omega (arith, all, sum, prefix, once)
 
 same_given : (p q : Task × Kind) → Some p ≡ Some q → p.0 ≡ q.0
 same_given p q h = cc
@@ -208,13 +208,13 @@ same_given p q h = cc
 -- two lines with a result of the same task are not both counted, the one before the other
 never_both : (settings : SettingsValue) (bytes text more : List ℕ) → text ++ more ≡ script_output settings bytes → (n m : ℕ) (task : Task) → n < m
     → IsResultOf bytes n task → IsResultOf bytes m task → IsTold settings bytes text n reply.Counted → IsTold settings bytes text m reply.Counted → ⊥
-never_both settings bytes text more front n m task lt is is' told told' =
+never_both settings bytes text more prefix n m task lt is is' told told' =
     let es = events_before bytes n in
-    let tells = line_tells settings bytes text more n is.0 front is.2 (told_written settings bytes text n reply.Counted told) in
+    let tells = line_tells settings bytes text more n is.0 prefix is.2 (told_written settings bytes text n reply.Counted told) in
     let later = events_later bytes (n + 1) m (omega (arith, lt)) in
     let before : events_before bytes m ≡ (es ++ is.0 ∷ []) ++ later.0 = later.1 ∙ ap (λ events. events ++ later.0) (events_next bytes n is.0 is.2) in
     let some = counted_later (start settings) es is.0 later.0 task is.1 is.3 (tells.counted told) in
-    let result = (line_keeps settings bytes text more front m is'.0 is'.2 (told_written settings bytes text m reply.Counted told')).counted_fills told' in
+    let result = (line_keeps settings bytes text more prefix m is'.0 is'.2 (told_written settings bytes text m reply.Counted told')).counted_fills told' in
     let same : result.task ≡ task = same_given (result.task, result.kind) (task, is'.1) (sym result.given ∙ is'.3) in
     let none : times_counted (counted_in (start settings) ((es ++ is.0 ∷ []) ++ later.0)) task ≡ 0 =
     ap (λ events. times_counted (counted_in (start settings) events) task) (sym before) ∙ ap (λ (t : Task). times_counted (counted_in (start settings) (events_before bytes m)) t) (sym same) ∙ result.first in
@@ -227,19 +227,19 @@ order (suc n) zero = inr (inl (omega arith))
 order (suc n) (suc m) = elim (order n m) [ inl h ↦ inl (omega (arith, h)) | inr (inl h) ↦ inr (inl (omega (arith, h))) | inr (inr h) ↦ inr (inr (ap (λ k. suc k) h)) ]
 
 counted_once_written : (settings : SettingsValue) (bytes text more : List ℕ) → text ++ more ≡ script_output settings bytes → CountedOnceWritten settings bytes text
-counted_once_written settings bytes text more front n m task is is' told told' = elim (order n m) [
-  | inl h ↦ absurd (never_both settings bytes text more front n m task h is is' told told')
-  | inr (inl h) ↦ absurd (never_both settings bytes text more front m n task h is' is told' told)
+counted_once_written settings bytes text more prefix n m task is is' told told' = elim (order n m) [
+  | inl h ↦ absurd (never_both settings bytes text more prefix n m task h is is' told told')
+  | inr (inl h) ↦ absurd (never_both settings bytes text more prefix m n task h is' is told' told)
   | inr (inr h) ↦ h
 ]
 
 -- The promise
 
 pub prefix_keeps_promise : (settings : SettingsValue) (bytes : List ℕ) → PrefixKeepsPromise settings bytes
-prefix_keeps_promise settings bytes text more front = record {
-  each_line = line_keeps settings bytes text more front;
-  final_stays = final_stays_written settings bytes text more front;
-  counted_once = counted_once_written settings bytes text more front;
+prefix_keeps_promise settings bytes text more prefix = record {
+  each_line = line_keeps settings bytes text more prefix;
+  final_stays = final_stays_written settings bytes text more prefix;
+  counted_once = counted_once_written settings bytes text more prefix;
 }
 
 pub whole_is_written : (settings : SettingsValue) (bytes : List ℕ) → WholeIsWritten settings bytes
@@ -249,4 +249,4 @@ whole_is_written settings bytes n e is =
     let said = reply_text (reply_to (reached settings (events_before bytes n)) e) in
     let own = reply_line (reply_to (reached settings (events_before bytes n)) e) in
     let rest : drop (length before) (script_output settings bytes) ≡ said ++ around.0 = ap (drop (length before)) around.1 ∙ drop-append_seam before (said ++ around.0) in
-    ap is_some (ap first_line rest ∙ first_line_front said around.0 own.0 own.1)
+    ap is_some (ap first_line rest ∙ first_line_prefix said around.0 own.0 own.1)

@@ -204,7 +204,7 @@ pub fn read_whole<F: Read + Drop>(file: F, len: u64, alloc: Global) -> Result<Te
     ensures large { (len : ℕ) → result ≡ Err (TreeErr.TooLarge len) → IfSome (F.remaining file) (λ left. file_limit < length left) }
 {
     let limit = FILE_LIMIT as u64 + 1;
-    let bytes = read_front(file, len, limit, alloc)?;
+    let bytes = read_prefix(file, len, limit, alloc)?;
     let len = bytes.len() as u64;
     if len > FILE_LIMIT as u64 {
         return Err(TreeErr::TooLarge { len });
@@ -214,13 +214,13 @@ pub fn read_whole<F: Read + Drop>(file: F, len: u64, alloc: Global) -> Result<Te
 
 /// So many bytes of a file, or all where it has no more. They are read into place where it has the length that was
 /// told: the room for one byte more is where its end is met.
-fn read_front<F: Read + Drop>(
+fn read_prefix<F: Read + Drop>(
     file: F,
     told: u64,
     limit: u64,
     alloc: Global,
 ) -> Result<Vec<u8>, TreeErr>
-    ensures front { IfOk result (λ bytes. IfSome (F.remaining file) (λ left. bytes.items ≡ take limit left)) }
+    ensures prefix { IfOk result (λ bytes. IfSome (F.remaining file) (λ left. bytes.items ≡ take limit left)) }
     ensures not_large { (len : ℕ) → result ≢ Err (TreeErr.TooLarge len) }
 {
     let room = told.saturating_add(1).min(limit);

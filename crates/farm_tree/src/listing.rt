@@ -26,7 +26,7 @@ pub(crate) fn list_files(
     let mut entries = Entries::new(alloc);
     for file in files {
         if let Some(rest) = below(folder, file.path.as_slice()) {
-            enter(alloc, &mut entries, rest).map_err(|_| TreeErr::NoMemory)?;
+            add_entry(alloc, &mut entries, rest).map_err(|_| TreeErr::NoMemory)?;
         }
     }
     if entries.as_slice().is_empty() {
@@ -45,7 +45,7 @@ pub fn below<'a>(folder: &str, path: &'a [u8]) -> Option<&'a [u8]>
 }
 
 /// Adds the entry that leads to what lies below the folder, where it is not among the entries.
-fn enter(alloc: Global, entries: &mut Entries, rest: &[u8]) -> Result<(), NoMemory>
+fn add_entry(alloc: Global, entries: &mut Entries, rest: &[u8]) -> Result<(), NoMemory>
     ensures { OnOk result (entries.new ≡ with_entry (entry_to rest.now) entries.old) }
 {
     let (name, folder) = first_component(rest);

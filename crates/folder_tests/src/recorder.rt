@@ -25,8 +25,8 @@ impl Recorder {
     }
 
     /// Adds a line.
-    fn push(&mut self, front: &str, text: &str) -> Result<(), AllocError> {
-        self.told.push_str(front)?;
+    fn push(&mut self, prefix: &str, text: &str) -> Result<(), AllocError> {
+        self.told.push_str(prefix)?;
         self.told.push_str(text)?;
         self.told.push('\n')
     }

@@ -70,7 +70,7 @@ framing_more bytes more f y = (y.0, y.1 ++ more, head_more bytes y.0 y.1 more y.
 overflow_more : (room : ℕ) (bytes more : List ℕ) → ResponseOverflows room bytes → ResponseOverflows room (bytes ++ more)
 overflow_more room bytes more y = λ after h rest x. y (more ++ after) h rest (subst (λ (z : List ℕ). ReadsResponse z h rest) (append_assoc bytes more after) x)
 
--- a front of more bytes goes on from that of fewer
+-- a prefix of more bytes goes on from that of fewer
 front_more_at : (n : ℕ) (xs ys : List ℕ) → (length xs < n) ⊎ (n ≤ length xs) → (zs : List ℕ) × (take n (xs ++ ys) ≡ take n xs ++ zs)
 front_more_at n xs ys (inl h) =
     let d = n - length xs in
@@ -108,8 +108,8 @@ bad_apart bytes a rest x (inl (inl y)) =
     let over = y (drop head_limit bytes) x.head (a.body ++ rest) whole in
     omega (arith, over, x.is_head.few)
 bad_apart bytes a rest x (inl (inr y)) =
-    let front = head_in_front head_limit bytes x.head (a.body ++ rest) x.is_head.reads x.is_head.short in
-    y.none x.head front.0 front.1
+    let prefix = head_in_front head_limit bytes x.head (a.body ++ rest) x.is_head.reads x.is_head.short in
+    y.none x.head prefix.0 prefix.1
 bad_apart bytes a rest x (inr y) = framing_apart bytes a rest framing.BadLength x y (λ n e. cc)
 
 -- a response does not stand where the bytes have another end

@@ -35,7 +35,7 @@ pub reads_answer : (l1 l2 : Option (List ℕ)) (old w new : WindowValue) (whole 
 reads_answer l1 l2 old w new whole f x n =
     rw n
     (record {
-      front = f.front;
+      prefix = f.prefix;
       took = f.took;
       gives = subst (λ (z : List ℕ). GivesIn z (drop whole.seen.len w.ahead) (given.Answer whole.seen.code whole.len)) f.whole (answer_given w.ahead whole x);
       end = λ e. cc;
@@ -44,7 +44,7 @@ reads_answer l1 l2 old w new whole f x n =
 -- no response stands there
 pub reads_end : (l1 l2 : Option (List ℕ)) (before now : ℕ) (old new : WindowValue) (e : AnswerEnding) → Fills l1 l2 old new → Stops l2 before now new.ahead e → ReadsIn l1 l2 old new (given.Ended e)
 reads_end l1 l2 before now old new e f s = record {
-  front = f.front;
+  prefix = f.prefix;
   took = f.took;
   gives = (subst (EndsAs e) f.whole s.ends, f.whole);
   end = λ k. s.end (ended_same e ending.Cut k);
@@ -53,7 +53,7 @@ reads_end l1 l2 before now old new e f s = record {
 -- want of memory leaves all
 pub reads_nothing : (l : Option (List ℕ)) (old new : WindowValue) → new.ahead ≡ old.ahead → ReadsIn l l old new (given.Ended ending.NoMemory)
 reads_nothing l old new e = record {
-  front = [];
+  prefix = [];
   took = Consumes-nil l;
   gives = (tt, e ∙ sym (append-nil old.ahead));
   end = λ k. cc;

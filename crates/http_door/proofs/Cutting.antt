@@ -62,7 +62,7 @@ framing_more bytes more f y = (y.0, y.1 ++ more, head_more bytes y.0 y.1 more y.
 overflow_more : (room : ℕ) (bytes more : List ℕ) → RequestOverflows room bytes → RequestOverflows room (bytes ++ more)
 overflow_more room bytes more y = λ after h rest x. y (more ++ after) h rest (subst (λ (z : List ℕ). ReadsRequest z h rest) (append_assoc bytes more after) x)
 
--- a front of more bytes goes on from that of fewer
+-- a prefix of more bytes goes on from that of fewer
 front_more_at : (n : ℕ) (xs ys : List ℕ) → (length xs < n) ⊎ (n ≤ length xs) → (zs : List ℕ) × (take n (xs ++ ys) ≡ take n xs ++ zs)
 front_more_at n xs ys (inl h) =
     let d = n - length xs in
@@ -109,8 +109,8 @@ request_apart bytes r rest end.BadHead x o (inl y) =
     omega (arith, over, x.is_head.few)
 request_apart bytes r rest end.BadHead x o (inr y) = framing_apart bytes r rest framing.BadLength x y (λ n e. cc)
 request_apart bytes r rest (end.HeadTooLong n) x o y =
-    let front = head_in_front head_limit bytes x.head (r.body ++ rest) x.is_head.reads x.is_head.short in
-    y.1.none x.head front.0 front.1
+    let prefix = head_in_front head_limit bytes x.head (r.body ++ rest) x.is_head.reads x.is_head.short in
+    y.1.none x.head prefix.0 prefix.1
 request_apart bytes r rest (end.BodyTooLong n) x o y = framing_apart bytes r rest (framing.TooLong n) x y (λ m e. cc)
 request_apart bytes r rest end.NoLength x o y = framing_apart bytes r rest framing.NoLength x y (λ n e. cc)
 request_apart bytes r rest end.ReadFault x o y = unfinished_apart bytes r rest x y

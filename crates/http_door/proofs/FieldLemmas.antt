@@ -14,7 +14,7 @@ pub list_any-map : {X Y : Type 0} (p : X → Bool) (f : Y → X) (ys : List Y) �
 list_any-map p f [] = refl
 list_any-map p f (y ∷ ys) = ap (λ b. p (f y) || b) (list_any-map p f ys)
 
--- what lies within a front lies within the whole
+-- what lies within a prefix lies within the whole
 pub headers_within : (m n : ℕ) (hs : List HeaderSpan) → m ≤ n → All (IsHeaderWithin m) hs → All (IsHeaderWithin n) hs
 headers_within m n hs le all =
     All-weaker (IsHeaderWithin m) (IsHeaderWithin n) (λ x w. ((w.0.0, omega (arith, w.0.1, le)), (w.1.0, omega (arith, w.1.1, le)))) hs all

@@ -30,29 +30,29 @@ take_min_at lim bytes (inr h) = let e : min (length bytes) lim ≡ lim = omega a
 pub take_min : (lim : ℕ) (bytes : List ℕ) → take (min (length bytes) lim) bytes ≡ take lim bytes
 take_min lim bytes = take_min_at lim bytes (cases_lt (length bytes) lim)
 
-pub looked_more : (bytes front : List ℕ) → front ≡ take head_limit bytes → length bytes < head_limit → HasNoRequest front × MayBecomeRequest front → IsWithinHead bytes
-looked_more bytes front is short h =
-    let e : front ≡ bytes = is ∙ take_all head_limit bytes (omega (arith, short)) in
+pub looked_more : (bytes prefix : List ℕ) → prefix ≡ take head_limit bytes → length bytes < head_limit → HasNoRequest prefix × MayBecomeRequest prefix → IsWithinHead bytes
+looked_more bytes prefix is short h =
+    let e : prefix ≡ bytes = is ∙ take_all head_limit bytes (omega (arith, short)) in
     record { short = short; none = subst HasNoRequest e h.0; may = subst MayBecomeRequest e h.1 }
 
-pub looked_long : (bytes front : List ℕ) → front ≡ take head_limit bytes → head_limit ≤ length bytes → HasNoRequest front × MayBecomeRequest front → IsLongHead bytes
-looked_long bytes front is long h = record { long = long; none = subst HasNoRequest is h.0; may = subst MayBecomeRequest is h.1 }
+pub looked_long : (bytes prefix : List ℕ) → prefix ≡ take head_limit bytes → head_limit ≤ length bytes → HasNoRequest prefix × MayBecomeRequest prefix → IsLongHead bytes
+looked_long bytes prefix is long h = record { long = long; none = subst HasNoRequest is h.0; may = subst MayBecomeRequest is h.1 }
 
--- a span in a front is the same in the whole
+-- a span in a prefix is the same in the whole
 span_front : (xs ys : List ℕ) (s : Span) → s.start ≤ s.end → s.end ≤ length xs → span_bytes (xs ++ ys) s ≡ span_bytes xs s
 span_front xs ys s order within =
     let le : s.start ≤ length xs = omega arith in
     let room : s.end - s.start ≤ length (drop s.start xs) = omega (arith, length-drop s.start xs) in
     ap (take (s.end - s.start)) (drop-append-le s.start xs ys le) ∙ take-append-le (s.end - s.start) (drop s.start xs) ys room
 
-shown_more : (front more : List ℕ) (h : RequestHead) (s : Seen) → ShowsHead front h s → ShowsHead (front ++ more) h s
-shown_more front more h s x = record {
-  is_head = subst (λ (z : List ℕ). IsHead (front ++ more) h z) (sym (drop-append-le s.len front more x.within)) (head_more front h (drop s.len front) more x.is_head);
+shown_more : (prefix more : List ℕ) (h : RequestHead) (s : Seen) → ShowsHead prefix h s → ShowsHead (prefix ++ more) h s
+shown_more prefix more h s x = record {
+  is_head = subst (λ (z : List ℕ). IsHead (prefix ++ more) h z) (sym (drop-append-le s.len prefix more x.within)) (head_more prefix h (drop s.len prefix) more x.is_head);
   short = x.short;
-  within = omega (arith, x.within, length-append front more);
-  method = span_front front more s.method x.method_within.0 (omega (arith, x.method_within.1, x.within)) ∙ x.method;
+  within = omega (arith, x.within, length-append prefix more);
+  method = span_front prefix more s.method x.method_within.0 (omega (arith, x.method_within.1, x.within)) ∙ x.method;
   method_within = x.method_within;
-  target = span_front front more s.target x.target_within.0 (omega (arith, x.target_within.1, x.within)) ∙ x.target;
+  target = span_front prefix more s.target x.target_within.0 (omega (arith, x.target_within.1, x.within)) ∙ x.target;
   target_within = x.target_within;
   framing = x.framing;
   close = x.close;
@@ -62,8 +62,8 @@ shown_more front more h s x = record {
 pub shown_still : (bytes more all : List ℕ) (h : RequestHead) (s : Seen) → all ≡ bytes ++ more → ShowsHead bytes h s → ShowsHead all h s
 shown_still bytes more all h s e x = subst (λ (z : List ℕ). ShowsHead z h s) (sym e) (shown_more bytes more h s x)
 
-seen_front : (front : List ℕ) (h : RequestHead) (s : Seen) → length front ≤ head_limit → Shows front h s → ShowsHead front h s
-seen_front front h s short x = record {
+seen_front : (prefix : List ℕ) (h : RequestHead) (s : Seen) → length prefix ≤ head_limit → Shows prefix h s → ShowsHead prefix h s
+seen_front prefix h s short x = record {
   is_head = record { reads = x.reads; short = omega (arith, x.len, x.within, short); few = x.few };
   short = omega (arith, x.within, short);
   within = x.within;
@@ -75,10 +75,10 @@ seen_front front h s short x = record {
   close = x.close;
 }
 
-pub looked_head : (bytes front : List ℕ) (h : RequestHead) (s : Seen) → front ≡ take head_limit bytes → Shows front h s → ShowsHead bytes h s
-looked_head bytes front h s is x =
-    let short : length front ≤ head_limit = omega (arith, ap length is, length-take head_limit bytes) in
-    shown_still front (drop head_limit bytes) bytes h s (sym (take-append-drop head_limit bytes) ∙ ap (λ z. z ++ drop head_limit bytes) (sym is)) (seen_front front h s short x)
+pub looked_head : (bytes prefix : List ℕ) (h : RequestHead) (s : Seen) → prefix ≡ take head_limit bytes → Shows prefix h s → ShowsHead bytes h s
+looked_head bytes prefix h s is x =
+    let short : length prefix ≤ head_limit = omega (arith, ap length is, length-take head_limit bytes) in
+    shown_still prefix (drop head_limit bytes) bytes h s (sym (take-append-drop head_limit bytes) ∙ ap (λ z. z ++ drop head_limit bytes) (sym is)) (seen_front prefix h s short x)
 
 refusal_end : (e : Ending) (left : Option (List ℕ)) → IsRefusal e → IsEndOf e left
 refusal_end ending.End left h = absurd h

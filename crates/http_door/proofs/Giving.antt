@@ -45,7 +45,7 @@ pub reads_request : (l1 l2 : Option (List ℕ)) (old w new : WindowValue) (bytes
 reads_request l1 l2 old w new bytes whole h f x is e n =
     rw n
     (record {
-      front = f.front;
+      prefix = f.prefix;
       took = f.took;
       count = f.count;
       size = f.size;
@@ -67,13 +67,13 @@ gives_some bytes rest body next.NoMemory x k = absurd k
 -- each request brings the end nearer
 pub budget_falls : (l1 l2 : Option (List ℕ)) (old new : ReaderValue) (r : Next) → Reads l1 l2 old new r → new.taken ≤ input_limit → IsRequestGiven r → budget new < budget old
 budget_falls l1 l2 old new r x few k =
-    omega (arith, gives_some (old.ahead ++ x.front) new.ahead new.body r x.gives k, x.count, few, length-append old.ahead x.front)
+    omega (arith, gives_some (old.ahead ++ x.prefix) new.ahead new.body r x.gives k, x.count, few, length-append old.ahead x.prefix)
 
 -- the same over a window
 pub falls_in : (l1 l2 : Option (List ℕ)) (old new : WindowValue) (h : Head) (n : ℕ) → ReadsIn l1 l2 old new (given.Request h n) → new.taken ≤ input_limit
     → (input_limit - new.taken) + length (drop n new.ahead) < (input_limit - old.taken) + length old.ahead
 falls_in l1 l2 old new h n x few =
-    omega (arith, request_some (old.ahead ++ x.front) (request_with h (take n new.ahead)) (drop n new.ahead) x.gives.1, x.count, few, length-append old.ahead x.front)
+    omega (arith, request_some (old.ahead ++ x.prefix) (request_with h (take n new.ahead)) (drop n new.ahead) x.gives.1, x.count, few, length-append old.ahead x.prefix)
 
 -- an end leaves all the bytes
 pub leaves_all : (e : Ending) (bytes rest body : List ℕ) → LeavesAll e bytes rest → Gives bytes rest body (next_of e)
@@ -95,7 +95,7 @@ pub reads_ended : (left : Option (List ℕ)) (r : ReaderValue) (e : Ending) → 
 reads_ended left r e is h =
     let none : r.ahead ++ [] ≡ r.ahead = append-nil r.ahead in
     record {
-      front = [];
+      prefix = [];
       took = Consumes-nil left;
       count = omega arith;
       gives = leaves_all e (r.ahead ++ []) r.ahead r.body (subst (EndsAs e) (sym none) (ended_at r e is h), sym none);
@@ -105,9 +105,9 @@ reads_ended left r e is h =
 pub reads_end : (l1 l2 : Option (List ℕ)) (old new : ReaderValue) (v w : WindowValue) (e : Ending) → ReadsIn l1 l2 v w (given.Ended e)
     → v.ahead ≡ old.ahead → v.taken ≡ old.taken → w.ahead ≡ new.ahead → w.taken ≡ new.taken → Reads l1 l2 old new (next_of e)
 reads_end l1 l2 old new v w e x a t b u = record {
-  front = x.front;
+  prefix = x.prefix;
   took = x.took;
-  count = sym u ∙ x.count ∙ ap (λ n. n + length x.front) t;
-  gives = leaves_all e (old.ahead ++ x.front) new.ahead new.body
-      (subst (λ (z : List ℕ). LeavesAll e (z ++ x.front) new.ahead) a (subst (λ (z : List ℕ). LeavesAll e (v.ahead ++ x.front) z) b x.gives));
+  count = sym u ∙ x.count ∙ ap (λ n. n + length x.prefix) t;
+  gives = leaves_all e (old.ahead ++ x.prefix) new.ahead new.body
+      (subst (λ (z : List ℕ). LeavesAll e (z ++ x.prefix) new.ahead) a (subst (λ (z : List ℕ). LeavesAll e (v.ahead ++ x.prefix) z) b x.gives));
 }

@@ -27,55 +27,55 @@ line_end_feed lf = (0, omega arith, refl)
 head_feed : (h : RequestHead) → HasFeed (print_request h)
 unfolding print_request
 head_feed h =
-    let front : List ℕ = print_blank h.blank ++ h.method ++ space ∷ h.target ++ space ∷ print_version h.minor in
-    Contains-append_left (front ++ print_end h.line_end) (print_section h.fields h.last) line_feed
-    (Contains-append_right front (print_end h.line_end) line_feed (line_end_feed h.line_end))
+    let prefix : List ℕ = print_blank h.blank ++ h.method ++ space ∷ h.target ++ space ∷ print_version h.minor in
+    Contains-append_left (prefix ++ print_end h.line_end) (print_section h.fields h.last) line_feed
+    (Contains-append_right prefix (print_end h.line_end) line_feed (line_end_feed h.line_end))
 
 -- no whole head stands in bytes that were looked at, since it has a line feed
 pub lacks_looked : (bytes : List ℕ) → (HasFeed bytes → IsLooked bytes None) → ¬ HoldsHead bytes
 lacks_looked bytes fed (h, rest, x) =
     (fed (subst HasFeed (sym x.reads.1) (Contains-append_left (print_request h) rest line_feed (head_feed h)))).none h rest x.reads
 
-last_feed : (front : List ℕ) (e : LineEnd) → (before : List ℕ) × (front ++ print_end e ≡ before ++ line_feed ∷ [])
-last_feed front crlf = (front ++ 13 ∷ [], sym (append_assoc front (13 ∷ []) (line_feed ∷ [])))
-last_feed front lf = (front, refl)
+last_feed : (prefix : List ℕ) (e : LineEnd) → (before : List ℕ) × (prefix ++ print_end e ≡ before ++ line_feed ∷ [])
+last_feed prefix crlf = (prefix ++ 13 ∷ [], sym (append_assoc prefix (13 ∷ []) (line_feed ∷ [])))
+last_feed prefix lf = (prefix, refl)
 
 -- a head ends in a line feed
 head_last : (h : RequestHead) → (before : List ℕ) × (print_request h ≡ before ++ line_feed ∷ [])
 unfolding print_request
 head_last h =
-    let front : List ℕ = print_blank h.blank ++ h.method ++ space ∷ h.target ++ space ∷ print_version h.minor ++ print_end h.line_end in
+    let prefix : List ℕ = print_blank h.blank ++ h.method ++ space ∷ h.target ++ space ∷ print_version h.minor ++ print_end h.line_end in
     let fields : List ℕ = flat_map print_field h.fields in
-    let last = last_feed (front ++ fields) h.last in
-    (last.0, sym (append_assoc front fields (print_end h.last)) ∙ last.1)
+    let last = last_feed (prefix ++ fields) h.last in
+    (last.0, sym (append_assoc prefix fields (print_end h.last)) ∙ last.1)
 
 feed_behind : (n : ℕ) (before rest : List ℕ) → n ≤ length before → HasFeed (drop n (before ++ line_feed ∷ rest))
 feed_behind n before rest le =
     subst HasFeed (sym (drop-append-le n before (line_feed ∷ rest) le)) (Contains-append_right (drop n before) (line_feed ∷ rest) line_feed (0, omega arith, refl))
 
 -- a head that is no longer than the bytes held stood there before more came
-head_before : (old front new : List ℕ) (h : RequestHead) (rest : List ℕ) → new ≡ old ++ front → IsHead new h rest → length (print_request h) ≤ length old → HoldsHead old
-head_before old front new h rest e x le =
+head_before : (old prefix new : List ℕ) (h : RequestHead) (rest : List ℕ) → new ≡ old ++ prefix → IsHead new h rest → length (print_request h) ≤ length old → HoldsHead old
+head_before old prefix new h rest e x le =
     let P = print_request h in
     let d = length old - length P in
     let sum : length P + d ≡ length old = omega arith in
-    let cut : take (length old) new ≡ old = ap (take (length old)) e ∙ take-append-le (length old) old front (omega arith) ∙ take_all (length old) old (omega arith) in
+    let cut : take (length old) new ≡ old = ap (take (length old)) e ∙ take-append-le (length old) old prefix (omega arith) ∙ take_all (length old) old (omega arith) in
     let head : take (length old) new ≡ P ++ take d rest = ap (take (length old)) x.reads.1 ∙ subst (λ (z : ℕ). take z (P ++ rest) ≡ P ++ take d rest) sum (take-append-add P rest d) in
     (h, take d rest, record { reads = (x.reads.0, sym cut ∙ head); short = x.short; few = x.few })
 
-lacks_at : (old front new : List ℕ) (h : RequestHead) (rest : List ℕ) → new ≡ old ++ front → ¬ HoldsHead old → (HasFeed (drop (length old) new) → IsLooked new None) → IsHead new h rest
+lacks_at : (old prefix new : List ℕ) (h : RequestHead) (rest : List ℕ) → new ≡ old ++ prefix → ¬ HoldsHead old → (HasFeed (drop (length old) new) → IsLooked new None) → IsHead new h rest
     → (length old < length (print_request h)) ⊎ (length (print_request h) ≤ length old) → ⊥
-lacks_at old front new h rest e none fed x (inl longer) =
+lacks_at old prefix new h rest e none fed x (inl longer) =
     let last = head_last h in
     let all : new ≡ last.0 ++ line_feed ∷ rest = x.reads.1 ∙ ap (λ z. z ++ rest) last.1 ∙ append_assoc last.0 (line_feed ∷ []) rest in
     let le : length old ≤ length last.0 = omega (arith, longer, ap length last.1, length-append last.0 (line_feed ∷ [])) in
     (fed (subst (λ (z : List ℕ). HasFeed (drop (length old) z)) (sym all) (feed_behind (length old) last.0 rest le))).none h rest x.reads
-lacks_at old front new h rest e none fed x (inr shorter) = none (head_before old front new h rest e x shorter)
+lacks_at old prefix new h rest e none fed x (inr shorter) = none (head_before old prefix new h rest e x shorter)
 
 -- nor in more bytes, where those that came were looked at
-pub lacks_more : (old front new : List ℕ) → new ≡ old ++ front → ¬ HoldsHead old → (HasFeed (drop (length old) new) → IsLooked new None) → ¬ HoldsHead new
-lacks_more old front new e none fed (h, rest, x) =
-    lacks_at old front new h rest e none fed x (cases_lt (length old) (length (print_request h)))
+pub lacks_more : (old prefix new : List ℕ) → new ≡ old ++ prefix → ¬ HoldsHead old → (HasFeed (drop (length old) new) → IsLooked new None) → ¬ HoldsHead new
+lacks_more old prefix new e none fed (h, rest, x) =
+    lacks_at old prefix new h rest e none fed x (cases_lt (length old) (length (print_request h)))
 
 refusal_bytes : (e : Ending) → IsRefusal e → IsOfBytes e
 refusal_bytes end.End h = absurd h

@@ -13,22 +13,22 @@ use Rattle.http_door.specs.WindowValue.{WindowValue, Fills, Refills, CountWithin
 
 -- nothing came
 pub Fills-refl : (left : Option (List ℕ)) (w : WindowValue) → Fills left left w w
-Fills-refl left w = record { front = []; took = Consumes-nil left; count = omega arith; whole = sym (append-nil w.ahead); size = omega arith }
+Fills-refl left w = record { prefix = []; took = Consumes-nil left; count = omega arith; whole = sym (append-nil w.ahead); size = omega arith }
 
 pub Fills-none : (left left' : Option (List ℕ)) (w v : WindowValue) → Consumes left left' [] → v ≡ w → Fills left left' w v
-Fills-none left left' w v k e = rw e (record { front = []; took = k; count = omega arith; whole = sym (append-nil w.ahead); size = omega arith })
+Fills-none left left' w v k e = rw e (record { prefix = []; took = k; count = omega arith; whole = sym (append-nil w.ahead); size = omega arith })
 
 -- nothing came, and there may be room for more
 pub Fills-more : (left : Option (List ℕ)) (w v : WindowValue) → v.ahead ≡ w.ahead → v.taken ≡ w.taken → w.size ≤ v.size → Fills left left w v
-Fills-more left w v e t le = record { front = []; took = Consumes-nil left; count = omega (arith, t); whole = e ∙ sym (append-nil w.ahead); size = le }
+Fills-more left w v e t le = record { prefix = []; took = Consumes-nil left; count = omega (arith, t); whole = e ∙ sym (append-nil w.ahead); size = le }
 
 -- one piece after another
 pub Fills-trans : (l1 l2 l3 : Option (List ℕ)) (a b c : WindowValue) → Fills l1 l2 a b → Fills l2 l3 b c → Fills l1 l3 a c
 Fills-trans l1 l2 l3 a b c h k = record {
-  front = h.front ++ k.front;
-  took = Consumes-trans l1 l2 l3 h.front k.front h.took k.took;
-  count = omega (arith, h.count, k.count, length-append h.front k.front);
-  whole = k.whole ∙ ap (λ z. z ++ k.front) h.whole ∙ append_assoc a.ahead h.front k.front;
+  prefix = h.prefix ++ k.prefix;
+  took = Consumes-trans l1 l2 l3 h.prefix k.prefix h.took k.took;
+  count = omega (arith, h.count, k.count, length-append h.prefix k.prefix);
+  whole = k.whole ∙ ap (λ z. z ++ k.prefix) h.whole ∙ append_assoc a.ahead h.prefix k.prefix;
   size = omega (arith, h.size, k.size);
 }
 
@@ -39,7 +39,7 @@ range-zero xs n = let e : n - 0 ≡ n = omega arith in rw e refl
 pub refilled : (left left' : Option (List ℕ)) (moved bytes' ahead : List ℕ) (held room : ℕ) (r : Taken)
     → take held moved ≡ ahead → take held bytes' ≡ take held moved → Takes left left' r (slice_range bytes' held (held + room))
     → Refills left left' ahead r held bytes'
-refilled left left' moved bytes' ahead held room (taken.Bytes n) is front took =
+refilled left left' moved bytes' ahead held room (taken.Bytes n) is prefix took =
     let space = slice_range bytes' held (held + room) in
     let le : n ≤ length space = took.1 in (
       take n space,
@@ -47,19 +47,19 @@ refilled left left' moved bytes' ahead held room (taken.Bytes n) is front took =
       omega (arith, le, length-take n space),
       range-zero bytes' (held + n)
           ∙ take-add held n bytes'
-          ∙ ap (λ z. z ++ take n (drop held bytes')) (front ∙ is)
+          ∙ ap (λ z. z ++ take n (drop held bytes')) (prefix ∙ is)
           ∙ ap (λ z. ahead ++ z) (sym (take-range bytes' held room n (omega (arith, le, length-range_le bytes' held room)))),
     )
-refilled left left' moved bytes' ahead held room taken.End is front took =
-    (Consumes-kept left left left' [] (Consumes-nil left) took.1, took.2, range-zero bytes' held ∙ front ∙ is)
-refilled left left' moved bytes' ahead held room taken.Failed is front took =
-    (Consumes-kept left left left' [] (Consumes-nil left) took, range-zero bytes' held ∙ front ∙ is)
+refilled left left' moved bytes' ahead held room taken.End is prefix took =
+    (Consumes-kept left left left' [] (Consumes-nil left) took.1, took.2, range-zero bytes' held ∙ prefix ∙ is)
+refilled left left' moved bytes' ahead held room taken.Failed is prefix took =
+    (Consumes-kept left left left' [] (Consumes-nil left) took, range-zero bytes' held ∙ prefix ∙ is)
 
 -- a piece came behind what was ahead
 pub filled : (l1 l2 : Option (List ℕ)) (old new : WindowValue) (ahead bytes : List ℕ) (held n : ℕ) → Refills l1 l2 ahead (taken.Bytes n) held bytes
     → old.ahead ≡ ahead → new.ahead ≡ slice_range bytes 0 (held + n) → new.taken ≡ old.taken + n → old.size ≤ new.size → Fills l1 l2 old new
 filled l1 l2 old new ahead bytes held n r a b t le = record {
-  front = r.0;
+  prefix = r.0;
   took = r.1;
   count = t ∙ ap (λ z. old.taken + z) (sym r.2);
   whole = b ∙ r.3 ∙ ap (λ z. z ++ r.0) (sym a);

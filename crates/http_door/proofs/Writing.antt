@@ -5,7 +5,7 @@ use Rattle.std.proofs.lemmas.List.{length-append}
 use Rattle.std.proofs.Math.Seq.{take-append-add}
 use Rattle.std.proofs.KnownBytes.{Appends-trans}
 
--- a front of the second piece behind the whole first one is a front of both
+-- a prefix of the second piece behind the whole first one is a prefix of both
 pub second_front : (a b c : Option (List ℕ)) (xs ys : List ℕ) → Appends a b xs → (n : ℕ) × (n ≤ length ys) × Appends b c (take n ys)
     → (n : ℕ) × (n ≤ length (xs ++ ys)) × Appends a c (take n (xs ++ ys))
 second_front a b c xs ys h k =

@@ -18,12 +18,12 @@ abbrev pub Gives : List ℕ → List ℕ → List ℕ → Result ℕ AnswerEndin
 Gives bytes rest body (Ok code) = IsAnswer bytes (answer_with code body) rest
 Gives bytes rest body (Err e) = EndsAs e bytes × (rest ≡ bytes)
 
--- A front of what the source had left was taken, behind what the reader held. Where the bytes were cut, the source has
+-- A prefix of what the source had left was taken, behind what the reader held. Where the bytes were cut, the source has
 -- nothing left.
 pub record Reads (left left' : Option (List ℕ)) (old new : ReaderValue) (result : Result ℕ AnswerEnding) : Type 0 where
-  pub front : List ℕ
-  pub took : Consumes left left' front
-  pub gives : Gives (old.ahead ++ front) new.ahead new.body result
+  pub prefix : List ℕ
+  pub took : Consumes left left' prefix
+  pub gives : Gives (old.ahead ++ prefix) new.ahead new.body result
   pub end : result ≡ Err ending.Cut → IsAtEnd left'
 
 -- the same over a window, where the body is still part of what is left
@@ -33,9 +33,9 @@ GivesIn bytes ahead (given.Answer code n) =
 GivesIn bytes ahead (given.Ended e) = EndsAs e bytes × (ahead ≡ bytes)
 
 pub record ReadsIn (left left' : Option (List ℕ)) (old new : WindowValue) (result : Given) : Type 0 where
-  pub front : List ℕ
-  pub took : Consumes left left' front
-  pub gives : GivesIn (old.ahead ++ front) new.ahead result
+  pub prefix : List ℕ
+  pub took : Consumes left left' prefix
+  pub gives : GivesIn (old.ahead ++ prefix) new.ahead result
   pub end : result ≡ given.Ended ending.Cut → IsAtEnd left'
 
 -- the count of the source's faults never falls, and rises where the source failed

@@ -48,12 +48,12 @@ Gives bytes rest body next.ReadFault = LeavesAll ending.ReadFault bytes rest
 Gives bytes rest body next.InputLimit = LeavesAll ending.InputLimit bytes rest
 Gives bytes rest body next.NoMemory = LeavesAll ending.NoMemory bytes rest
 
--- a front of what the source had left was taken, behind what the reader held
+-- a prefix of what the source had left was taken, behind what the reader held
 pub record Reads (left left' : Option (List ℕ)) (old new : ReaderValue) (result : Next) : Type 0 where
-  pub front : List ℕ
-  pub took : Consumes left left' front
-  pub count : new.taken ≡ old.taken + length front
-  pub gives : Gives (old.ahead ++ front) new.ahead new.body result
+  pub prefix : List ℕ
+  pub took : Consumes left left' prefix
+  pub count : new.taken ≡ old.taken + length prefix
+  pub gives : Gives (old.ahead ++ prefix) new.ahead new.body result
 
 -- the same over a window, where the body is still part of what is left
 abbrev pub GivesIn : List ℕ → List ℕ → Given → Type 0
@@ -62,11 +62,11 @@ GivesIn bytes ahead (given.Request h n) =
 GivesIn bytes ahead (given.Ended e) = LeavesAll e bytes ahead
 
 pub record ReadsIn (left left' : Option (List ℕ)) (old new : WindowValue) (result : Given) : Type 0 where
-  pub front : List ℕ
-  pub took : Consumes left left' front
-  pub count : new.taken ≡ old.taken + length front
+  pub prefix : List ℕ
+  pub took : Consumes left left' prefix
+  pub count : new.taken ≡ old.taken + length prefix
   pub size : old.size ≤ new.size
-  pub gives : GivesIn (old.ahead ++ front) new.ahead result
+  pub gives : GivesIn (old.ahead ++ prefix) new.ahead result
 
 -- a request leaves the reader going, and every other answer ends it
 abbrev pub EndsWith : Next → Option Ending → Type 0

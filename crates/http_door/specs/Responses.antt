@@ -56,7 +56,7 @@ response_with closing status body = content_response content.Json closing status
 abbrev pub response_text : ℕ → List ℕ → List ℕ
 response_text status body = response_with false status body
 
--- the whole text was put; or a front of it; or nothing
+-- the whole text was put; or a prefix of it; or nothing
 abbrev pub Writes : Option (List ℕ) → Option (List ℕ) → List ℕ → Result (Unit {0}) ResponseFault → Type 0
 Writes held held' text (Ok u) = Appends held held' text
 Writes held held' text (Err fault.WriteFault) = (n : ℕ) × (n ≤ length text) × Appends held held' (take n text)

@@ -19,7 +19,7 @@ pub enum Content {
 /// Why a response was not written whole.
 #[derive(Clone, Copy, Debug, PartialEq, Eq)]
 pub enum ResponseFault {
-    /// The sink failed, and perhaps a front of the response was put.
+    /// The sink failed, and perhaps a prefix of the response was put.
     WriteFault,
     /// No memory was left, and nothing was put.
     NoMemory,

@@ -147,7 +147,7 @@ fn refill<S: Source>(bytes: &mut [u8], from: usize, to: usize, most: u64, source
 fn take_behind<S: Source>(bytes: &mut [u8], at: usize, room: usize, source: &mut S) -> Taken
     requires some { 0 < room }
     requires within { at + room ≤ length bytes.old }
-    ensures front { take at bytes.new ≡ take at bytes.old }
+    ensures prefix { take at bytes.new ≡ take at bytes.old }
     ensures bytes { Takes (S.left source.old) (S.left source.new) result (slice_range bytes.new at (at + room)) }
     ensures cause { HasCauseTaken (S.faults source.old) (S.faults source.new) result }
     ensures beside { S.beside source.new ≡ S.beside source.old }
@@ -171,7 +171,7 @@ fn lengthen(bytes: &mut Vec<u8>, size: usize) -> Result<(), NoMemory>
     requires { length bytes.old.items < size }
     ensures ok { OnOk result (length bytes.new.items ≡ size) }
     ensures err { OnErr result (length bytes.new.items ≡ length bytes.old.items) }
-    ensures front { take (length bytes.old.items) bytes.new.items ≡ bytes.old.items }
+    ensures prefix { take (length bytes.old.items) bytes.new.items ≡ bytes.old.items }
     ensures more { length bytes.old.items ≤ length bytes.new.items }
 {
     bytes.reserve_exact(size - bytes.len())?;

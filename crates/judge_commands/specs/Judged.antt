@@ -65,7 +65,7 @@ pub record Writes (IsText : List ℕ → Type 0) (held held' : Option (List ℕ)
   pub wrote : Appends held held' text
 
 -- a prefix of such a text was written, perhaps no byte of it
-pub record WritesFront (IsText : List ℕ → Type 0) (held held' : Option (List ℕ)) : Type 0 where
+pub record WritesPrefix (IsText : List ℕ → Type 0) (held held' : Option (List ℕ)) : Type 0 where
   pub text : List ℕ
   pub is_text : IsText text
   pub count : ℕ
@@ -81,7 +81,7 @@ NoContestEnds files folder held held' unwritten exit.Done = ⊥
 NoContestEnds files folder held held' unwritten exit.Usage = ⊥
 NoContestEnds files folder held held' unwritten exit.BadContest = Writes (IsFaultLine files folder) held held'
 NoContestEnds files folder held held' unwritten exit.ReadFault = ⊥
-NoContestEnds files folder held held' unwritten exit.WriteFault = WritesFront (IsFaultLine files folder) held held'
+NoContestEnds files folder held held' unwritten exit.WriteFault = WritesPrefix (IsFaultLine files folder) held held'
 NoContestEnds files folder held held' unwritten exit.Memory = unwritten
 NoContestEnds files folder held held' unwritten exit.TreeFault = unwritten
 NoContestEnds files folder held held' unwritten exit.DoorFault = ⊥
@@ -101,7 +101,7 @@ JudgeEnds files folder hosts journal held held' unwritten exit.Usage = ⊥
 JudgeEnds files folder hosts journal held held' unwritten exit.BadContest = Writes (IsFaultLine files folder) held held'
 JudgeEnds files folder hosts journal held held' unwritten exit.ReadFault = ⊥
 JudgeEnds files folder hosts journal held held' unwritten exit.WriteFault =
-    WritesFront (IsWritten files folder hosts journal) held held'
+    WritesPrefix (IsWritten files folder hosts journal) held held'
 JudgeEnds files folder hosts journal held held' unwritten exit.Memory = unwritten
 JudgeEnds files folder hosts journal held held' unwritten exit.TreeFault = unwritten
 JudgeEnds files folder hosts journal held held' unwritten exit.DoorFault = ⊥

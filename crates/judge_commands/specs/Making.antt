@@ -16,7 +16,7 @@ use Rattle.work_maker.specs.Files.{contest_folder, made_files}
 use Rattle.command_line.specs.Ranges.{Size}
 use Rattle.exit_status.specs.declared.exit.Exit.{Exit}
 use Rattle.exit_status.specs.declared.exit.Exit.TheVariants as exit
-use Rattle.judge_commands.specs.Judged.{Writes, WritesFront}
+use Rattle.judge_commands.specs.Judged.{Writes, WritesPrefix}
 
 -- how many rows have the verdict of this name
 abbrev pub verdict_count : List TableRow → List ℕ → ℕ
@@ -50,7 +50,7 @@ MakeEnds number size held held' unwritten exit.Done = Writes (IsSummary number s
 MakeEnds number size held held' unwritten exit.Usage = ⊥
 MakeEnds number size held held' unwritten exit.BadContest = ⊥
 MakeEnds number size held held' unwritten exit.ReadFault = ⊥
-MakeEnds number size held held' unwritten exit.WriteFault = WritesFront (IsSummary number size) held held'
+MakeEnds number size held held' unwritten exit.WriteFault = WritesPrefix (IsSummary number size) held held'
 MakeEnds number size held held' unwritten exit.Memory = unwritten
 MakeEnds number size held held' unwritten exit.TreeFault = ⊥
 MakeEnds number size held held' unwritten exit.DoorFault = ⊥

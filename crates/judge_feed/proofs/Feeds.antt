@@ -14,8 +14,8 @@ use Rattle.farm_model.specs.Farm.{farm_step}
 use Rattle.farm_board.specs.BoardState.{BoardState}
 use Rattle.farm_board.specs.Histories.{IsLegal, board_after}
 use Rattle.farm_board.specs.Passes.{BoardId, PassValue, Calls, call_of}
-use Rattle.farm_board.specs.declared.entries.Entry.{Entry}
-use Rattle.farm_board.specs.declared.entries.Entry.TheVariants as entry
+use Rattle.farm_board.specs.declared.entries.HistoryEntry.{HistoryEntry}
+use Rattle.farm_board.specs.declared.entries.HistoryEntry.TheVariants as entry
 use Rattle.farm_board.proofs.Histories.{board_after_append, legal_at}
 use Rattle.judge_feed.specs.Showing.{Shown, AreShown, is_look, are_looks}
 use Rattle.judge_feed.specs.Refreshing.{KeepsPass, KeepsFeed, IsFresh}
@@ -27,7 +27,7 @@ use Rattle.judge_feed.proofs.Showing.{not_nil, shown_more, shown_snoc, last_belo
 rows_of : (s : State) (rows : List Answer) → reply.Board rows ≡ (farm_step s event.Board).1 → rows ≡ public_answers s
 rows_of s rows e = cc e
 
-call_rows : (s : BoardState) (es : List Entry) (number : ℕ) (rows : List Answer)
+call_rows : (s : BoardState) (es : List HistoryEntry) (number : ℕ) (rows : List Answer)
     → IsLegal s (es ++ entry.Call (call_of number event.Board (reply.Board rows)) ∷ [])
     → rows ≡ public_answers (board_after s (es ++ entry.Call (call_of number event.Board (reply.Board rows)) ∷ [])).state
 call_rows s es number rows legal =
@@ -38,7 +38,7 @@ call_rows s es number rows legal =
 
 module _ (start : BoardState) (old new : PassValue) (rows : List Answer) (begins : old.start ≡ start)
     (calls : Calls old new event.Board (reply.Board rows)) where
-  abbrev asked : Entry
+  abbrev asked : HistoryEntry
   asked = entry.Call (call_of old.number event.Board (reply.Board rows))
 
   legal_now : IsLegal start new.seen
@@ -47,25 +47,25 @@ module _ (start : BoardState) (old new : PassValue) (rows : List Answer) (begins
   -- the rows are what the public sees after all that the pass has then seen
   rows_now : rows ≡ public_answers (board_after start new.seen).state
   rows_now =
-      call_rows start (old.seen ++ calls.grows.between) old.number rows (subst (λ (zs : List Entry). IsLegal start zs) calls.grows.seen legal_now)
-      ∙ ap (λ (zs : List Entry). public_answers (board_after start zs).state) (sym calls.grows.seen)
+      call_rows start (old.seen ++ calls.grows.between) old.number rows (subst (λ (zs : List HistoryEntry). IsLegal start zs) calls.grows.seen legal_now)
+      ∙ ap (λ (zs : List HistoryEntry). public_answers (board_after start zs).state) (sym calls.grows.seen)
 
   -- what the pass has then seen shows one version more
   shows_more : (vs : List (List Answer)) → Shown start vs old.seen → Shown start (vs ++ rows ∷ []) new.seen
   shows_more vs h =
-      let more : List Entry = calls.grows.between ++ asked ∷ [] in
+      let more : List HistoryEntry = calls.grows.between ++ asked ∷ [] in
       let whole : new.seen ≡ old.seen ++ more = calls.grows.seen ∙ append_assoc old.seen calls.grows.between (asked ∷ []) in
       let later : rows ≡ public_answers (board_after start (old.seen ++ more)).state =
-      rows_now ∙ ap (λ (zs : List Entry). public_answers (board_after start zs).state) whole in
+      rows_now ∙ ap (λ (zs : List HistoryEntry). public_answers (board_after start zs).state) whole in
       let some : more ≢ [] = not_nil calls.grows.between (asked ∷ []) (λ x. cc x) in
-      subst (λ (zs : List Entry). Shown start (vs ++ rows ∷ []) zs) (sym whole) (shown_snoc start vs old.seen more rows some later h)
+      subst (λ (zs : List HistoryEntry). Shown start (vs ++ rows ∷ []) zs) (sym whole) (shown_snoc start vs old.seen more rows some later h)
 
 -- what the pass has seen after any call shows what was shown
 call_shows : (start : BoardState) (old new : PassValue) (vs : List (List Answer)) (e : Event) (r : Reply)
     → Calls old new e r → Shown start vs old.seen → Shown start vs new.seen
 call_shows start old new vs e r calls h =
     let made = entry.Call (call_of old.number e r) in
-    subst (λ (zs : List Entry). Shown start vs zs)
+    subst (λ (zs : List HistoryEntry). Shown start vs zs)
     (sym (calls.grows.seen ∙ append_assoc old.seen calls.grows.between (made ∷ [])))
     (shown_more start vs old.seen (calls.grows.between ++ made ∷ []) h)
 

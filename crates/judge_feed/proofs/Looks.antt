@@ -4,8 +4,8 @@ use Rattle.std.specs.Prelude.{◌&&◌}
 use Rattle.farm_kinds.specs.declared.events.Event.{Event}
 use Rattle.farm_kinds.specs.declared.events.Reply.{Reply}
 use Rattle.farm_board.specs.Passes.{PassValue, Calls, call_of}
-use Rattle.farm_board.specs.declared.entries.Entry.{Entry}
-use Rattle.farm_board.specs.declared.entries.Entry.TheVariants as entry
+use Rattle.farm_board.specs.declared.entries.HistoryEntry.{HistoryEntry}
+use Rattle.farm_board.specs.declared.entries.HistoryEntry.TheVariants as entry
 use Rattle.judge_feed.specs.Showing.{is_look, is_look_entry, are_looks}
 
 both_true : (a b : Bool) → a ≡ true → b ≡ true → (a && b) ≡ true
@@ -21,7 +21,7 @@ right_true : (a b : Bool) → (a && b) ≡ true → b ≡ true
 right_true true b p = p
 right_true false b p = absurd (cc p)
 
-looks_snoc : (es : List Entry) (e : Entry) → are_looks es ≡ true → is_look_entry e ≡ true → are_looks (es ++ e ∷ []) ≡ true
+looks_snoc : (es : List HistoryEntry) (e : HistoryEntry) → are_looks es ≡ true → is_look_entry e ≡ true → are_looks (es ++ e ∷ []) ≡ true
 looks_snoc [] e h t = both_true (is_look_entry e) true t refl
 looks_snoc (x ∷ es) e h t =
     both_true (is_look_entry x) (are_looks (es ++ e ∷ [])) (left_true (is_look_entry x) (are_looks es) h)

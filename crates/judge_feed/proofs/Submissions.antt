@@ -17,8 +17,8 @@ use Rattle.farm_laws.proofs.Outcomes.{outcome}
 use Rattle.farm_board.specs.BoardState.{BoardState}
 use Rattle.farm_board.specs.Histories.{is_no_memory, board_after_call, next_board, board_after}
 use Rattle.farm_board.specs.declared.entries.Call.{Call}
-use Rattle.farm_board.specs.declared.entries.Entry.{Entry}
-use Rattle.farm_board.specs.declared.entries.Entry.TheVariants as entry
+use Rattle.farm_board.specs.declared.entries.HistoryEntry.{HistoryEntry}
+use Rattle.farm_board.specs.declared.entries.HistoryEntry.TheVariants as entry
 
 -- A list of submissions as long as before
 
@@ -83,12 +83,12 @@ call_grows : (b : Bool) (s : BoardState) (call : Call) → Grows s.state (board_
 call_grows true s call = le_refl (length s.state.submissions)
 call_grows false s call = step_grows s.state call.event
 
-entry_grows : (s : BoardState) (e : Entry) → Grows s.state (next_board s e).state
+entry_grows : (s : BoardState) (e : HistoryEntry) → Grows s.state (next_board s e).state
 entry_grows s (entry.Call call) = call_grows (is_no_memory call.reply) s call
 entry_grows s (entry.Split number new) = le_refl (length s.state.submissions)
 entry_grows s (entry.Join number old) = le_refl (length s.state.submissions)
 
-after_grows : (s : BoardState) (es : List Entry) → Grows s.state (board_after s es).state
+after_grows : (s : BoardState) (es : List HistoryEntry) → Grows s.state (board_after s es).state
 after_grows s [] = le_refl (length s.state.submissions)
 after_grows s (e ∷ es) = let a = entry_grows s e in let b = after_grows (next_board s e) es in omega arith
 
@@ -97,6 +97,6 @@ answers_length : (s : State) → length (public_answers s) ≡ length s.submissi
 answers_length s = length-map s.submissions (λ submission. public_answer s submission.current)
 
 -- no entries of a history lessen what the public sees
-pub answers_grow : (s : BoardState) (es : List Entry) → length (public_answers s.state) ≤ length (public_answers (board_after s es).state)
+pub answers_grow : (s : BoardState) (es : List HistoryEntry) → length (public_answers s.state) ≤ length (public_answers (board_after s es).state)
 answers_grow s es =
     let a = answers_length s.state in let b = answers_length (board_after s es).state in let more = after_grows s es in omega arith

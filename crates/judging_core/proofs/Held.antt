@@ -53,8 +53,8 @@ renewed_held hosts xs p until h = record {
   known x k = elim (p x) as (λ b. IsOfHosts hosts (cond b (record x { until = until }) x)) [ true ↦ k | false ↦ k ]
 
 -- the leases of the hosts but the last
-front_held : (hosts : ℕ) (xs : List Lease) → IsHeldWell (suc hosts) xs → IsHeldWell hosts (without_host xs (suc hosts))
-front_held hosts xs h =
+prefix_held : (hosts : ℕ) (xs : List Lease) → IsHeldWell (suc hosts) xs → IsHeldWell hosts (without_host xs (suc hosts))
+prefix_held hosts xs h =
     let left = some_held (suc hosts) (λ x. not (holds (suc hosts) x)) xs h in
     let passes = filter_passes (λ (x : Lease). not (holds (suc hosts) x)) xs in
     record {
@@ -70,7 +70,7 @@ pub few_in_all : (hosts : ℕ) (xs : List Lease) → IsHeldWell hosts xs → len
 few_in_all zero [] h = omega arith
 few_in_all zero (x ∷ xs) h = let a = All-head (IsOfHosts zero) x xs h.hosts_known in absurd (omega arith)
 few_in_all (suc hosts) xs h =
-    omega (arith, few_in_all hosts (without_host xs (suc hosts)) (front_held hosts xs h), length_kept (holds (suc hosts)) xs, h.few_each (suc hosts))
+    omega (arith, few_in_all hosts (without_host xs (suc hosts)) (prefix_held hosts xs h), length_kept (holds (suc hosts)) xs, h.few_each (suc hosts))
 
 -- and fewer, where a host holds fewer
 pub fewer_in_all : (hosts : ℕ) (xs : List Lease) (lease : Lease) → IsHeldWell hosts xs → IsOfHosts hosts lease → held_count xs lease.host < 64 → length xs < 64 * hosts

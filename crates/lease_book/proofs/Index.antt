@@ -9,7 +9,7 @@ use Rattle.farm_model.specs.declared.records.Lease.{Lease}
 use Rattle.farm_model.specs.Leases.{same_task, lease_on, holds, held_count, without_task}
 use Rattle.lease_tree.specs.declared.keys.Order.{Order}
 use Rattle.lease_tree.specs.declared.keys.Order.TheVariants as order
-use Rattle.lease_tree.specs.Keys.{rank_of, key_of, has_key, has_rank, IsAdded, IsTaken}
+use Rattle.lease_tree.specs.Keys.{group_of, key_of, has_key, has_group, IsAdded, IsTaken}
 use Rattle.lease_tree.specs.TreeValue.{OrderedLeases, no_leases}
 use Rattle.lease_book.specs.Book.{IsSinglyLeased}
 use Rattle.lease_book.specs.BookLayout.{AreSame, IsIndex}
@@ -70,7 +70,7 @@ index_added by xs n m x old new h order added spare less = record { order = orde
 
 -- what stands at a lease's key is on its task
 at_key : (by : Order) (x y : Lease) → has_key by (key_of by x) y ≡ true → on x.task y ≡ true
-at_key by x y k = (and_parts (eqb (rank_of by y) (rank_of by x)) (same_task y.task x.task) k).1
+at_key by x y k = (and_parts (eqb (group_of by y) (group_of by x)) (same_task y.task x.task) k).1
 
 -- where no lease is held on the task, none stands at the key
 pub free_same : (by : Order) (xs : List Lease) (n : ℕ) (x : Lease) (tree : OrderedLeases) → IsIndex by xs n tree → lease_on xs x.task ≡ None → find (has_key tree.order (key_of tree.order x)) tree.leases ≡ None
@@ -99,34 +99,34 @@ index_taken by xs n x old new taken h single e is order less spare =
 -- ---- what is read from a tree
 
 -- whether the lease is on the task, by its key
-key_on_task : (x : Lease) (task : Task) → has_key order.Judging (record { rank = task.judging; task = task }) x ≡ on task x
+key_on_task : (x : Lease) (task : Task) → has_key order.Judging (record { group = task.judging; task = task }) x ≡ on task x
 key_on_task x task =
     elim (same_task x.task task) as (λ t. same_task x.task task ≡ t → (eqb x.task.judging task.judging && t) ≡ t) [
       | true ↦ λ e. let first = (and_parts (eqb x.task.judging task.judging) (eqb x.task.test task.test) e).0 in rw first refl
       | false ↦ λ e. grind arith
     ] refl
 
-pub found_on_task : (xs : List Lease) (n : ℕ) (task : Task) (tree : OrderedLeases) → IsIndex order.Judging xs n tree → IsSinglyLeased xs → find (has_key tree.order (record { rank = task.judging; task = task })) tree.leases ≡ lease_on xs task
+pub found_on_task : (xs : List Lease) (n : ℕ) (task : Task) (tree : OrderedLeases) → IsIndex order.Judging xs n tree → IsSinglyLeased xs → find (has_key tree.order (record { group = task.judging; task = task })) tree.leases ≡ lease_on xs task
 found_on_task xs n task tree h single =
-    ap (λ b. find (has_key b (record { rank = task.judging; task = task })) tree.leases) h.order
-    ∙ find_agree (has_key order.Judging (record { rank = task.judging; task = task })) (on task) (λ x. key_on_task x task) tree.leases
+    ap (λ b. find (has_key b (record { group = task.judging; task = task })) tree.leases) h.order
+    ∙ find_agree (has_key order.Judging (record { group = task.judging; task = task })) (on task) (λ x. key_on_task x task) tree.leases
     ∙ find_same (on task) xs tree.leases h.same (single.most task) where
       find_agree : (p q : Lease → Bool) → ((x : Lease) → p x ≡ q x) → (xs : List Lease) → find p xs ≡ find q xs
       find_agree p q same [] = refl
       find_agree p q same (x ∷ xs) = rw (same x) (ap (λ o. cond (q x) (Some x) o) (find_agree p q same xs))
 
-pub held_of : (xs : List Lease) (n host : ℕ) (tree : OrderedLeases) → IsIndex order.Host xs n tree → count_by (has_rank tree.order host) tree.leases ≡ held_count xs host
+pub held_of : (xs : List Lease) (n host : ℕ) (tree : OrderedLeases) → IsIndex order.Host xs n tree → count_by (has_group tree.order host) tree.leases ≡ held_count xs host
 held_of xs n host tree h = rw h.order (sym (h.same.count (holds host)))
 
 -- what a tree by hosts or by judgings finds of a host or a judging ends one of its leases, and where it finds nothing there are none
-pub rank_ends_one : (p : Lease → Bool) (by : Order) (xs : List Lease) (n rank : ℕ) (tree : OrderedLeases) (x : Lease) → ((y : Lease) → has_rank by rank y ≡ p y) → IsIndex by xs n tree → IsSinglyLeased xs → find (has_rank tree.order rank) tree.leases ≡ Some x → EndsOne p xs x.task
-rank_ends_one p by xs n rank tree x same h single e =
-    let there = there_same (has_rank tree.order rank) xs tree.leases x h.same e in
-    let passes : has_rank by rank x ≡ true = subst (λ b. has_rank b rank x ≡ true) h.order (found_passes (has_rank tree.order rank) tree.leases x e) in
+pub group_ends_one : (p : Lease → Bool) (by : Order) (xs : List Lease) (n group : ℕ) (tree : OrderedLeases) (x : Lease) → ((y : Lease) → has_group by group y ≡ p y) → IsIndex by xs n tree → IsSinglyLeased xs → find (has_group tree.order group) tree.leases ≡ Some x → EndsOne p xs x.task
+group_ends_one p by xs n group tree x same h single e =
+    let there = there_same (has_group tree.order group) xs tree.leases x h.same e in
+    let passes : has_group by group x ≡ true = subst (λ b. has_group b group x ≡ true) h.order (found_passes (has_group tree.order group) tree.leases x e) in
     ends_one p xs x single (held_on xs x single there) (sym (same x) ∙ passes)
 
-pub rank_none : (p : Lease → Bool) (by : Order) (xs : List Lease) (n rank : ℕ) (tree : OrderedLeases) → ((y : Lease) → has_rank by rank y ≡ p y) → IsIndex by xs n tree → find (has_rank tree.order rank) tree.leases ≡ None → count_by p xs ≡ 0
-rank_none p by xs n rank tree same h e =
-    let none : count_by (has_rank by rank) tree.leases ≡ 0 = subst (λ b. count_by (has_rank b rank) tree.leases ≡ 0) h.order (none_counts (has_rank tree.order rank) tree.leases e) in
-    let wide = count_wider (has_rank by rank) p (λ y k. same y ∙ k) tree.leases in
+pub group_none : (p : Lease → Bool) (by : Order) (xs : List Lease) (n group : ℕ) (tree : OrderedLeases) → ((y : Lease) → has_group by group y ≡ p y) → IsIndex by xs n tree → find (has_group tree.order group) tree.leases ≡ None → count_by p xs ≡ 0
+group_none p by xs n group tree same h e =
+    let none : count_by (has_group by group) tree.leases ≡ 0 = subst (λ b. count_by (has_group b group) tree.leases ≡ 0) h.order (none_counts (has_group tree.order group) tree.leases e) in
+    let wide = count_wider (has_group by group) p (λ y k. same y ∙ k) tree.leases in
     omega (arith, none, wide, h.same.count p)

@@ -30,7 +30,7 @@ abbrev pub is_left : ℕ → ℕ → Option ℕ → Lease → Bool
 is_left host judging last lease = holds_of host judging lease && is_after last lease.task.test
 
 abbrev pub key_at : ℕ → ℕ → ℕ → Key
-key_at host judging test = record { rank = host; task = record { judging = judging; test = test } }
+key_at host judging test = record { group = host; task = record { judging = judging; test = test } }
 
 -- in the order of hosts the lease stands behind that on the last test, or no earlier than the host's on the judging
 abbrev pub stands_after : ℕ → ℕ → Option ℕ → Order → Lease → Bool

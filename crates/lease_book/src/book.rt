@@ -123,7 +123,7 @@ impl LeaseBook {
         ensures { result ≡ lease_on self.now.leases task }
     {
         self.by_judging.find(Key {
-            rank: task.judging as u64,
+            group: task.judging as u64,
             task,
         })
     }
@@ -193,7 +193,8 @@ impl LeaseBook {
         Some(lease)
     }
 
-    /// Ends the leases of the host, and counts them.
+    /// Ends the leases of the host, and counts them. A farm ends them one by one (`task_of_host`), since each task is shown
+    /// again; this is for whoever uses the book alone.
     pub fn end_host(&mut self, host: u32) -> u32
         ensures count { result ≡ held_count self.old.leases host }
         ensures leases { self.new.leases ≡ without_host self.old.leases host }
@@ -246,7 +247,7 @@ impl LeaseBook {
         ensures unchanged { IfNone result (self.new ≡ self.old) }
     {
         let Some(lease) = self.by_judging.remove(Key {
-            rank: task.judging as u64,
+            group: task.judging as u64,
             task,
         })
         else {
@@ -301,9 +302,9 @@ impl LeaseBook {
         ensures none { IfNone result (behind_count self.now.leases judging test ≡ 0) }
         ensures one { IfSome result (λ task. EndsOne (is_behind judging test) self.now.leases task) }
     {
-        let rank = judging as u64;
+        let group = judging as u64;
         let task = Task { judging, test };
-        let Some(lease) = self.by_judging.first_behind(Key { rank, task }) else {
+        let Some(lease) = self.by_judging.first_behind(Key { group, task }) else {
             return None;
         };
         if lease.task.judging != judging {
@@ -336,15 +337,15 @@ impl LeaseBook {
     fn first_after(&self, host: u32, judging: u32, last: Option<u16>) -> Option<Lease>
         ensures { FirstOf order.Host (stands_after host judging last order.Host) self.now.leases result }
     {
-        let rank = host as u64;
+        let group = host as u64;
         match last {
             None => {
                 let task = Task { judging, test: 0 };
-                self.by_host.first_from(Key { rank, task })
+                self.by_host.first_from(Key { group, task })
             }
             Some(test) => {
                 let task = Task { judging, test };
-                self.by_host.first_behind(Key { rank, task })
+                self.by_host.first_behind(Key { group, task })
             }
         }
     }

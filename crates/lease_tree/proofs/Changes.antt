@@ -21,12 +21,12 @@ added_left old new r rest x h = record {
   new_is = ap (λ xs. xs ++ r ∷ rest) h.new_is ∙ append_assoc h.before (x ∷ h.after) (r ∷ rest);
 }
 
-pub added_right : (front : List Lease) (r : Lease) (old new : List Lease) (x : Lease) → IsAdded old new x → IsAdded (front ++ r ∷ old) (front ++ r ∷ new) x
-added_right front r old new x h = record {
-  before = front ++ r ∷ h.before;
+pub added_right : (prefix : List Lease) (r : Lease) (old new : List Lease) (x : Lease) → IsAdded old new x → IsAdded (prefix ++ r ∷ old) (prefix ++ r ∷ new) x
+added_right prefix r old new x h = record {
+  before = prefix ++ r ∷ h.before;
   after = h.after;
-  old_is = ap (λ xs. front ++ r ∷ xs) h.old_is ∙ sym (append_assoc front (r ∷ h.before) h.after);
-  new_is = ap (λ xs. front ++ r ∷ xs) h.new_is ∙ sym (append_assoc front (r ∷ h.before) (x ∷ h.after));
+  old_is = ap (λ xs. prefix ++ r ∷ xs) h.old_is ∙ sym (append_assoc prefix (r ∷ h.before) h.after);
+  new_is = ap (λ xs. prefix ++ r ∷ xs) h.new_is ∙ sym (append_assoc prefix (r ∷ h.before) (x ∷ h.after));
 }
 
 each_added : (P : Lease → Type 0) (old new : List Lease) (x : Lease) → IsAdded old new x → Each P old → P x → Each P new
@@ -90,12 +90,12 @@ taken_left old new r rest x h = record {
   new_is = ap (λ xs. xs ++ r ∷ rest) h.new_is ∙ append_assoc h.before h.after (r ∷ rest);
 }
 
-pub taken_right : (front : List Lease) (r : Lease) (old new : List Lease) (x : Lease) → IsTaken old new x → IsTaken (front ++ r ∷ old) (front ++ r ∷ new) x
-taken_right front r old new x h = record {
-  before = front ++ r ∷ h.before;
+pub taken_right : (prefix : List Lease) (r : Lease) (old new : List Lease) (x : Lease) → IsTaken old new x → IsTaken (prefix ++ r ∷ old) (prefix ++ r ∷ new) x
+taken_right prefix r old new x h = record {
+  before = prefix ++ r ∷ h.before;
   after = h.after;
-  old_is = ap (λ xs. front ++ r ∷ xs) h.old_is ∙ sym (append_assoc front (r ∷ h.before) (x ∷ h.after));
-  new_is = ap (λ xs. front ++ r ∷ xs) h.new_is ∙ sym (append_assoc front (r ∷ h.before) h.after);
+  old_is = ap (λ xs. prefix ++ r ∷ xs) h.old_is ∙ sym (append_assoc prefix (r ∷ h.before) (x ∷ h.after));
+  new_is = ap (λ xs. prefix ++ r ∷ xs) h.new_is ∙ sym (append_assoc prefix (r ∷ h.before) h.after);
 }
 
 rising_taken : (by : Order) (xs : List Lease) (x : Lease) (ys : List Lease) → Rising by (xs ++ x ∷ ys) → Rising by (xs ++ ys)

@@ -1,6 +1,6 @@
 pub mod KeyOrder
 pub mod Rises
-pub mod Ranks
+pub mod Groups
 pub mod Changes
 pub mod Weights
 pub mod Bounds

@@ -9,8 +9,8 @@ use Rattle.std.proofs.lemmas.List.Sums.{sum_by-append, sum_by-cons}
 use Rattle.farm_model.specs.declared.records.Lease.{Lease}
 use Rattle.lease_tree.specs.declared.keys.Key.{Key}
 use Rattle.lease_tree.specs.declared.keys.Order.{Order}
-use Rattle.lease_tree.specs.Keys.{rank_of, key_of, is_key_before, is_before, has_rank, has_key, count_below, NoneBefore, Rising}
-use Rattle.lease_tree.proofs.KeyOrder.{before_trans, not_after, not_same, not_same_after, same_key, rank_before}
+use Rattle.lease_tree.specs.Keys.{group_of, key_of, is_key_before, is_before, has_group, has_key, count_below, NoneBefore, Rising}
+use Rattle.lease_tree.proofs.KeyOrder.{before_trans, not_after, not_same, not_same_after, same_key, group_before}
 
 abbrev pub Each : (Lease → Type 0) → List Lease → Type 0
 Each P xs = AllByRecursion P xs
@@ -108,33 +108,33 @@ key_here by xs x ys key h a b =
     let here : has_key by key x ≡ true = subst (λ (k : Key). has_key by k x ≡ true) same (grind (arith, nat_tests)) in
     found_right (has_key by key) xs (x ∷ ys) none ∙ rw here refl
 
--- ---- where a rank is found
+-- ---- where a group is found
 
-pub rank_behind : (by : Order) (x : Lease) (ys : List Lease) (rank : ℕ) → Each (λ y. is_before by x y ≡ true) ys → rank < rank_of by x → Each (λ y. has_rank by rank y ≡ false) ys
-rank_behind by x ys rank h lt =
-    each_weaker (λ y. is_before by x y ≡ true) (λ y. has_rank by rank y ≡ false) (λ y b. let le : rank_of by x ≤ rank_of by y = rank_before (key_of by x) (key_of by y) b in grind (arith, nat_tests, lt, le)) ys h
+pub group_behind : (by : Order) (x : Lease) (ys : List Lease) (group : ℕ) → Each (λ y. is_before by x y ≡ true) ys → group < group_of by x → Each (λ y. has_group by group y ≡ false) ys
+group_behind by x ys group h lt =
+    each_weaker (λ y. is_before by x y ≡ true) (λ y. has_group by group y ≡ false) (λ y b. let le : group_of by x ≤ group_of by y = group_before (key_of by x) (key_of by y) b in grind (arith, nat_tests, lt, le)) ys h
 
-pub rank_ahead : (by : Order) (x : Lease) (xs : List Lease) (rank : ℕ) → Each (λ y. is_before by y x ≡ true) xs → rank_of by x < rank → Each (λ y. has_rank by rank y ≡ false) xs
-rank_ahead by x xs rank h lt =
-    each_weaker (λ y. is_before by y x ≡ true) (λ y. has_rank by rank y ≡ false) (λ y b. let le : rank_of by y ≤ rank_of by x = rank_before (key_of by y) (key_of by x) b in grind (arith, nat_tests, lt, le)) xs h
+pub group_ahead : (by : Order) (x : Lease) (xs : List Lease) (group : ℕ) → Each (λ y. is_before by y x ≡ true) xs → group_of by x < group → Each (λ y. has_group by group y ≡ false) xs
+group_ahead by x xs group h lt =
+    each_weaker (λ y. is_before by y x ≡ true) (λ y. has_group by group y ≡ false) (λ y b. let le : group_of by y ≤ group_of by x = group_before (key_of by y) (key_of by x) b in grind (arith, nat_tests, lt, le)) xs h
 
-pub rank_left : (by : Order) (xs : List Lease) (x : Lease) (ys : List Lease) (rank : ℕ) → Rising by (xs ++ x ∷ ys) → rank < rank_of by x → find (has_rank by rank) (xs ++ x ∷ ys) ≡ find (has_rank by rank) xs
-rank_left by xs x ys rank h lt =
-    let no : has_rank by rank x ≡ false = grind (arith, nat_tests, lt) in
-    found_left (has_rank by rank) xs (x ∷ ys) (no, rank_behind by x ys rank (all_after by xs x ys h) lt)
+pub group_left : (by : Order) (xs : List Lease) (x : Lease) (ys : List Lease) (group : ℕ) → Rising by (xs ++ x ∷ ys) → group < group_of by x → find (has_group by group) (xs ++ x ∷ ys) ≡ find (has_group by group) xs
+group_left by xs x ys group h lt =
+    let no : has_group by group x ≡ false = grind (arith, nat_tests, lt) in
+    found_left (has_group by group) xs (x ∷ ys) (no, group_behind by x ys group (all_after by xs x ys h) lt)
 
-pub rank_right : (by : Order) (xs : List Lease) (x : Lease) (ys : List Lease) (rank : ℕ) → Rising by (xs ++ x ∷ ys) → rank_of by x < rank → find (has_rank by rank) (xs ++ x ∷ ys) ≡ find (has_rank by rank) ys
-rank_right by xs x ys rank h lt =
-    let no : has_rank by rank x ≡ false = grind (arith, nat_tests, lt) in
-    found_right (has_rank by rank) xs (x ∷ ys) (rank_ahead by x xs rank (all_before by xs x ys h) lt) ∙ rw no refl
+pub group_right : (by : Order) (xs : List Lease) (x : Lease) (ys : List Lease) (group : ℕ) → Rising by (xs ++ x ∷ ys) → group_of by x < group → find (has_group by group) (xs ++ x ∷ ys) ≡ find (has_group by group) ys
+group_right by xs x ys group h lt =
+    let no : has_group by group x ≡ false = grind (arith, nat_tests, lt) in
+    found_right (has_group by group) xs (x ∷ ys) (group_ahead by x xs group (all_before by xs x ys h) lt) ∙ rw no refl
 
-pub rank_here : (by : Order) (xs : List Lease) (x : Lease) (ys : List Lease) (rank : ℕ) → rank ≤ rank_of by x → rank_of by x ≤ rank → find (has_rank by rank) xs ≡ None → find (has_rank by rank) (xs ++ x ∷ ys) ≡ Some x
-rank_here by xs x ys rank a b none =
-    let here : has_rank by rank x ≡ true = grind (arith, nat_tests, a, b) in
-    find-append (has_rank by rank) xs (x ∷ ys) ∙ ap (λ (o : Option Lease). option_or o (find (has_rank by rank) (x ∷ ys))) none ∙ rw here refl
+pub group_here : (by : Order) (xs : List Lease) (x : Lease) (ys : List Lease) (group : ℕ) → group ≤ group_of by x → group_of by x ≤ group → find (has_group by group) xs ≡ None → find (has_group by group) (xs ++ x ∷ ys) ≡ Some x
+group_here by xs x ys group a b none =
+    let here : has_group by group x ≡ true = grind (arith, nat_tests, a, b) in
+    find-append (has_group by group) xs (x ∷ ys) ∙ ap (λ (o : Option Lease). option_or o (find (has_group by group) (x ∷ ys))) none ∙ rw here refl
 
-pub rank_first : (by : Order) (xs ys : List Lease) (x : Lease) (rank : ℕ) → find (has_rank by rank) xs ≡ Some x → find (has_rank by rank) (xs ++ ys) ≡ Some x
-rank_first by xs ys x rank some = find-append (has_rank by rank) xs ys ∙ ap (λ (o : Option Lease). option_or o (find (has_rank by rank) ys)) some
+pub group_first : (by : Order) (xs ys : List Lease) (x : Lease) (group : ℕ) → find (has_group by group) xs ≡ Some x → find (has_group by group) (xs ++ ys) ≡ Some x
+group_first by xs ys x group some = find-append (has_group by group) xs ys ∙ ap (λ (o : Option Lease). option_or o (find (has_group by group) ys)) some
 
 -- ---- the first
 
@@ -145,31 +145,31 @@ first_of_all by (x ∷ xs) h =
     let none : count_by (λ y. is_before by y x) (x ∷ xs) ≡ 0 = none_counted (λ y. is_before by y x) (x ∷ xs) (itself, each_weaker (λ y. is_before by x y ≡ true) (λ y. is_before by y x ≡ false) (λ y b. not_after (key_of by x) (key_of by y) b) xs h.0) in
     none
 
--- ---- how many have a lesser rank
+-- ---- how many are of a lesser group
 
 abbrev pub below : Order → ℕ → Lease → Bool
-below by rank lease = nat_lt (rank_of by lease) rank
+below by group lease = nat_lt (group_of by lease) group
 
--- a lease of no lesser rank: those behind it have none either
-pub count_left : (by : Order) (xs : List Lease) (x : Lease) (ys : List Lease) (rank : ℕ) → rank ≤ rank_of by x → Rising by (xs ++ x ∷ ys) → count_below by rank (xs ++ x ∷ ys) ≡ count_below by rank xs
-count_left by xs x ys rank le h =
-    let here : below by rank x ≡ false = grind (arith, nat_tests, le) in
-    let none : count_by (below by rank) ys ≡ 0 = none_counted (below by rank) ys (each_weaker (λ y. is_before by x y ≡ true) (λ y. below by rank y ≡ false) (λ y b. let up : rank_of by x ≤ rank_of by y = rank_before (key_of by x) (key_of by y) b in grind (arith, nat_tests, le, up)) ys (all_after by xs x ys h)) in
-    let zero_here : one_if (below by rank x) ≡ 0 = ap one_if here in
-    omega (arith, counted (below by rank) xs x ys, none, zero_here)
+-- a lease of no lesser group: those behind it have none either
+pub count_left : (by : Order) (xs : List Lease) (x : Lease) (ys : List Lease) (group : ℕ) → group ≤ group_of by x → Rising by (xs ++ x ∷ ys) → count_below by group (xs ++ x ∷ ys) ≡ count_below by group xs
+count_left by xs x ys group le h =
+    let here : below by group x ≡ false = grind (arith, nat_tests, le) in
+    let none : count_by (below by group) ys ≡ 0 = none_counted (below by group) ys (each_weaker (λ y. is_before by x y ≡ true) (λ y. below by group y ≡ false) (λ y b. let up : group_of by x ≤ group_of by y = group_before (key_of by x) (key_of by y) b in grind (arith, nat_tests, le, up)) ys (all_after by xs x ys h)) in
+    let zero_here : one_if (below by group x) ≡ 0 = ap one_if here in
+    omega (arith, counted (below by group) xs x ys, none, zero_here)
 
--- a lease of lesser rank: those in front of it have one too
-pub count_right : (by : Order) (xs : List Lease) (x : Lease) (ys : List Lease) (rank : ℕ) → rank_of by x < rank → Rising by (xs ++ x ∷ ys) → count_below by rank (xs ++ x ∷ ys) ≡ length xs + 1 + count_below by rank ys
-count_right by xs x ys rank lt h =
-    let here : below by rank x ≡ true = grind (arith, nat_tests, lt) in
-    let all : count_by (below by rank) xs ≡ length xs = all_counted (below by rank) xs (each_weaker (λ y. is_before by y x ≡ true) (λ y. below by rank y ≡ true) (λ y b. let up : rank_of by y ≤ rank_of by x = rank_before (key_of by y) (key_of by x) b in grind (arith, nat_tests, lt, up)) xs (all_before by xs x ys h)) in
-    let one_here : one_if (below by rank x) ≡ 1 = ap one_if here in
-    omega (arith, counted (below by rank) xs x ys, all, one_here)
+-- a lease of lesser group: those in front of it have one too
+pub count_right : (by : Order) (xs : List Lease) (x : Lease) (ys : List Lease) (group : ℕ) → group_of by x < group → Rising by (xs ++ x ∷ ys) → count_below by group (xs ++ x ∷ ys) ≡ length xs + 1 + count_below by group ys
+count_right by xs x ys group lt h =
+    let here : below by group x ≡ true = grind (arith, nat_tests, lt) in
+    let all : count_by (below by group) xs ≡ length xs = all_counted (below by group) xs (each_weaker (λ y. is_before by y x ≡ true) (λ y. below by group y ≡ true) (λ y b. let up : group_of by y ≤ group_of by x = group_before (key_of by y) (key_of by x) b in grind (arith, nat_tests, lt, up)) xs (all_before by xs x ys h)) in
+    let one_here : one_if (below by group x) ≡ 1 = ap one_if here in
+    omega (arith, counted (below by group) xs x ys, all, one_here)
 
 -- a count goes on in one side, up to 2^32 - 1
-pub capped_left : (by : Order) (xs : List Lease) (x : Lease) (ys : List Lease) (rank n : ℕ) → rank ≤ rank_of by x → (Rising by xs → n ≡ min (count_below by rank xs) (2 ^ 32 - 1)) → Rising by (xs ++ x ∷ ys) → n ≡ min (count_below by rank (xs ++ x ∷ ys)) (2 ^ 32 - 1)
-capped_left by xs x ys rank n le inner h = inner (rising_left by xs (x ∷ ys) h) ∙ ap (λ (k : ℕ). min k (2 ^ 32 - 1)) (sym (count_left by xs x ys rank le h))
+pub capped_left : (by : Order) (xs : List Lease) (x : Lease) (ys : List Lease) (group n : ℕ) → group ≤ group_of by x → (Rising by xs → n ≡ min (count_below by group xs) (2 ^ 32 - 1)) → Rising by (xs ++ x ∷ ys) → n ≡ min (count_below by group (xs ++ x ∷ ys)) (2 ^ 32 - 1)
+capped_left by xs x ys group n le inner h = inner (rising_left by xs (x ∷ ys) h) ∙ ap (λ (k : ℕ). min k (2 ^ 32 - 1)) (sym (count_left by xs x ys group le h))
 
-pub capped_right : (by : Order) (xs : List Lease) (x : Lease) (ys : List Lease) (rank size n : ℕ) → rank_of by x < rank → size ≡ min (length xs) (2 ^ 32 - 1) → (Rising by ys → n ≡ min (count_below by rank ys) (2 ^ 32 - 1)) → Rising by (xs ++ x ∷ ys)
-    → min (min (size + 1) (2 ^ 32 - 1) + n) (2 ^ 32 - 1) ≡ min (count_below by rank (xs ++ x ∷ ys)) (2 ^ 32 - 1)
-capped_right by xs x ys rank size n lt sized inner h = omega (arith, sized, inner (rising_right by xs x ys h), count_right by xs x ys rank lt h)
+pub capped_right : (by : Order) (xs : List Lease) (x : Lease) (ys : List Lease) (group size n : ℕ) → group_of by x < group → size ≡ min (length xs) (2 ^ 32 - 1) → (Rising by ys → n ≡ min (count_below by group ys) (2 ^ 32 - 1)) → Rising by (xs ++ x ∷ ys)
+    → min (min (size + 1) (2 ^ 32 - 1) + n) (2 ^ 32 - 1) ≡ min (count_below by group (xs ++ x ∷ ys)) (2 ^ 32 - 1)
+capped_right by xs x ys group size n lt sized inner h = omega (arith, sized, inner (rising_right by xs x ys h), count_right by xs x ys group lt h)

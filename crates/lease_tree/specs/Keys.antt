@@ -8,31 +8,31 @@ use Rattle.lease_tree.specs.declared.keys.Order.{Order}
 use Rattle.lease_tree.specs.declared.keys.Order.TheVariants as order
 
 -- the number that decides first
-abbrev pub rank_of : Order → Lease → ℕ
-rank_of order.Judging lease = lease.task.judging
-rank_of order.Host lease = lease.host
-rank_of order.End lease = lease.until
+abbrev pub group_of : Order → Lease → ℕ
+group_of order.Judging lease = lease.task.judging
+group_of order.Host lease = lease.host
+group_of order.End lease = lease.until
 
 abbrev pub key_of : Order → Lease → Key
-key_of by lease = record { rank = rank_of by lease; task = lease.task }
+key_of by lease = record { group = group_of by lease; task = lease.task }
 
--- by rank and then by task
+-- by group and then by task
 abbrev pub is_key_before : Key → Key → Bool
-is_key_before a b = nat_lt a.rank b.rank || (a.rank == b.rank && is_task_before a.task b.task)
+is_key_before a b = nat_lt a.group b.group || (a.group == b.group && is_task_before a.task b.task)
 
 -- one lease comes before the other
 abbrev pub is_before : Order → Lease → Lease → Bool
 is_before by a b = is_key_before (key_of by a) (key_of by b)
 
-abbrev pub has_rank : Order → ℕ → Lease → Bool
-has_rank by rank lease = rank_of by lease == rank
+abbrev pub has_group : Order → ℕ → Lease → Bool
+has_group by group lease = group_of by lease == group
 
--- how many leases have a lesser rank
+-- how many leases are of a lesser group
 abbrev pub count_below : Order → ℕ → List Lease → ℕ
-count_below by rank leases = count_by (λ lease. nat_lt (rank_of by lease) rank) leases
+count_below by group leases = count_by (λ lease. nat_lt (group_of by lease) group) leases
 
 abbrev pub has_key : Order → Key → Lease → Bool
-has_key by key lease = rank_of by lease == key.rank && same_task lease.task key.task
+has_key by key lease = group_of by lease == key.group && same_task lease.task key.task
 
 -- the lease stands at the key or behind it
 abbrev pub is_from : Order → Key → Lease → Bool

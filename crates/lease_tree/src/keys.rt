@@ -1,5 +1,5 @@
 ghost use Rattle.std.specs.Prelude.{◌≡◌};
-ghost use Rattle.lease_tree.specs.Keys.{rank_of, key_of, is_key_before};
+ghost use Rattle.lease_tree.specs.Keys.{group_of, key_of, is_key_before};
 
 use farm_kinds::Task;
 use farm_model::Lease;
@@ -17,8 +17,8 @@ pub enum Order {
 
 impl Order {
     /// The number that decides first where the lease stands.
-    pub fn rank(self, lease: Lease) -> u64
-        ensures { result ≡ rank_of self lease }
+    pub fn group(self, lease: Lease) -> u64
+        ensures { result ≡ group_of self lease }
     {
         match self {
             Order::Judging => lease.task.judging as u64,
@@ -32,7 +32,7 @@ impl Order {
         ensures { result ≡ key_of self lease }
     {
         Key {
-            rank: self.rank(lease),
+            group: self.group(lease),
             task: lease.task,
         }
     }
@@ -42,18 +42,18 @@ impl Order {
 #[derive(Clone, Copy, Debug)]
 pub struct Key {
     /// The number that decides first.
-    pub rank: u64,
-    /// The task, which decides between leases of one rank.
+    pub group: u64,
+    /// The task, which decides between leases of one group.
     pub task: Task,
 }
 
 impl Key {
-    /// Whether it comes before the other: by rank, then by judging, then by test.
+    /// Whether it comes before the other: by group, then by judging, then by test.
     pub fn is_before(self, other: Key) -> bool
         ensures { result ≡ is_key_before self other }
     {
-        if self.rank != other.rank {
-            return self.rank < other.rank;
+        if self.group != other.group {
+            return self.group < other.group;
         }
         if self.task.judging != other.task.judging {
             return self.task.judging < other.task.judging;

@@ -3,7 +3,7 @@
 //!
 //! Where things stand: `tree.rt` has the calls and the pool of nodes, `node.rt` a tree and its nodes, `keys.rt` the
 //! three orders, `lookup.rt` finds and counts, `change.rt` puts in and takes out, `balance.rt` keeps the sides of a
-//! node even; `proofs/Rises.antt`, `Ranks.antt` and `Bounds.antt` say where in leases that are in order something
+//! node even; `proofs/Rises.antt`, `Groups.antt` and `Bounds.antt` say where in leases that are in order something
 //! is found, and how much.
 #![tactic(auto)]
 

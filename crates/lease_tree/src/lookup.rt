@@ -1,5 +1,5 @@
 ghost use Rattle.std.specs.Prelude.{◌≡◌, ◌-◌, ◌<◌, ◌^◌, find, slice_get, length, min, count_by};
-ghost use Rattle.lease_tree.specs.Keys.{Rising, has_key, has_rank, is_from, is_behind, count_below};
+ghost use Rattle.lease_tree.specs.Keys.{Rising, has_key, has_group, is_from, is_behind, count_below};
 ghost use Rattle.lease_tree.specs.Trees.{leases_of, IsSized, depth};
 
 use crate::keys::{Key, Order};
@@ -39,22 +39,22 @@ pub fn find(tree: &Tree, order: Order, key: Key) -> Option<Lease>
     }
 }
 
-/// The first lease of the rank.
-#[tactic(auto, using(crate::proofs::Rises::rising_left, crate::proofs::Rises::rising_right, crate::proofs::Rises::rank_left, crate::proofs::Rises::rank_right, crate::proofs::Rises::rank_here, crate::proofs::Rises::rank_first))]
-pub fn first_of(tree: &Tree, order: Order, rank: u64) -> Option<Lease>
-    ensures { Rising order (leases_of tree.now) → result ≡ find (has_rank order rank) (leases_of tree.now) }
+/// The first lease of the group.
+#[tactic(auto, using(crate::proofs::Rises::rising_left, crate::proofs::Rises::rising_right, crate::proofs::Rises::group_left, crate::proofs::Rises::group_right, crate::proofs::Rises::group_here, crate::proofs::Rises::group_first))]
+pub fn first_of(tree: &Tree, order: Order, group: u64) -> Option<Lease>
+    ensures { Rising order (leases_of tree.now) → result ≡ find (has_group order group) (leases_of tree.now) }
 {
     match tree {
         Tree::Leaf => None,
         Tree::Fork(node) => {
-            let here = order.rank(node.lease);
-            if rank < here {
-                return first_of(&node.left, order, rank);
+            let here = order.group(node.lease);
+            if group < here {
+                return first_of(&node.left, order, group);
             }
-            if here < rank {
-                return first_of(&node.right, order, rank);
+            if here < group {
+                return first_of(&node.right, order, group);
             }
-            match first_of(&node.left, order, rank) {
+            match first_of(&node.left, order, group) {
                 None => Some(node.lease),
                 Some(lease) => Some(lease),
             }
@@ -102,42 +102,42 @@ pub fn first_behind(tree: &Tree, order: Order, key: Key) -> Option<Lease>
     }
 }
 
-/// How many leases have a lesser rank, at most 2^32 - 1.
+/// How many leases are of a lesser group, at most 2^32 - 1.
 #[tactic(auto, using(crate::proofs::Rises::capped_left, crate::proofs::Rises::capped_right))]
-pub fn count_below(tree: &Tree, order: Order, rank: u64) -> u32
-    ensures { IsSized tree.now → Rising order (leases_of tree.now) → result ≡ min (count_below order rank (leases_of tree.now)) (2 ^ 32 - 1) }
+pub fn count_below(tree: &Tree, order: Order, group: u64) -> u32
+    ensures { IsSized tree.now → Rising order (leases_of tree.now) → result ≡ min (count_below order group (leases_of tree.now)) (2 ^ 32 - 1) }
 {
     match tree {
         Tree::Leaf => 0,
         Tree::Fork(node) => {
-            if rank <= order.rank(node.lease) {
-                return count_below(&node.left, order, rank);
+            if group <= order.group(node.lease) {
+                return count_below(&node.left, order, group);
             }
-            let right = count_below(&node.right, order, rank);
+            let right = count_below(&node.right, order, group);
             size(&node.left).saturating_add(1).saturating_add(right)
         }
     }
 }
 
-/// How many leases have the rank.
-#[tactic(auto, using(crate::proofs::Ranks::rank_on_left, crate::proofs::Ranks::rank_on_right))]
-pub fn count_of(tree: &Tree, order: Order, rank: u64) -> u32
-    requires { rank < 2 ^ 64 - 1 }
-    ensures { IsSized tree.now → length (leases_of tree.now) < 2 ^ 32 → Rising order (leases_of tree.now) → result ≡ count_by (has_rank order rank) (leases_of tree.now) }
+/// How many leases are of the group.
+#[tactic(auto, using(crate::proofs::Groups::group_on_left, crate::proofs::Groups::group_on_right))]
+pub fn count_of(tree: &Tree, order: Order, group: u64) -> u32
+    requires { group < 2 ^ 64 - 1 }
+    ensures { IsSized tree.now → length (leases_of tree.now) < 2 ^ 32 → Rising order (leases_of tree.now) → result ≡ count_by (has_group order group) (leases_of tree.now) }
 {
     match tree {
         Tree::Leaf => 0,
         Tree::Fork(node) => {
-            let here = order.rank(node.lease);
-            if rank < here {
-                return count_of(&node.left, order, rank);
+            let here = order.group(node.lease);
+            if group < here {
+                return count_of(&node.left, order, group);
             }
-            if here < rank {
-                return count_of(&node.right, order, rank);
+            if here < group {
+                return count_of(&node.right, order, group);
             }
-            let before = count_below(&node.left, order, rank);
+            let before = count_below(&node.left, order, group);
             let left = size(&node.left).saturating_sub(before);
-            let right = count_below(&node.right, order, rank + 1);
+            let right = count_below(&node.right, order, group + 1);
             left.saturating_add(1).saturating_add(right)
         }
     }

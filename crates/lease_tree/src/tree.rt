@@ -1,5 +1,5 @@
 ghost use Rattle.std.specs.Prelude.{◌≡◌, ℕ, ◌+◌, ◌-◌, ◌*◌, ◌<◌, ◌≤◌, ◌^◌, find, length, count_by, slice_get, is_some, None, IfSome, IfNone, OnOk, OnErr, vec_len, vec_capacity, if◌then◌else◌};
-ghost use Rattle.lease_tree.specs.Keys.{key_of, has_key, has_rank, is_from, is_behind, NoneBefore, NoneEarlier, IsAdded, IsTaken};
+ghost use Rattle.lease_tree.specs.Keys.{key_of, has_key, has_group, is_from, is_behind, NoneBefore, NoneEarlier, IsAdded, IsTaken};
 ghost use Rattle.lease_tree.specs.TreeValue.{no_leases};
 
 use crate::keys::{Key, Order};
@@ -68,7 +68,7 @@ impl LeaseTree {
         fill(self.alloc, &mut self.pool, wanted)
     }
 
-    /// The order in which the leases stand.
+    /// The order in which the leases stand. Only tests ask: whoever made a tree knows it.
     pub fn order(&self) -> Order
         ensures { result ≡ self.now.order }
     {
@@ -84,14 +84,14 @@ impl LeaseTree {
     }
 
     /// How many leases stand on the longest way from the root, at most three for each binary digit of the
-    /// number of leases. It looks at each lease.
+    /// number of leases. It looks at each lease. Only tests ask: what it promises is that the tree stays balanced.
     pub fn depth(&self) -> u32
         ensures { (bits : ℕ) → length self.now.leases < 2 ^ bits → result ≤ 3 * bits }
     {
         lookup::depth(&self.root)
     }
 
-    /// How many more leases can be put in before `reserve` must be called.
+    /// How many more leases can be put in before `reserve` must be called: the test of the condition of `insert`.
     pub fn spare(&self) -> usize
         ensures { result ≡ self.now.spare }
     {
@@ -114,11 +114,11 @@ impl LeaseTree {
         lookup::find(&self.root, self.order, key)
     }
 
-    /// The first lease of the rank.
-    pub fn first_of(&self, rank: u64) -> Option<Lease>
-        ensures { result ≡ find (has_rank self.now.order rank) self.now.leases }
+    /// The first lease of the group.
+    pub fn first_of(&self, group: u64) -> Option<Lease>
+        ensures { result ≡ find (has_group self.now.order group) self.now.leases }
     {
-        lookup::first_of(&self.root, self.order, rank)
+        lookup::first_of(&self.root, self.order, group)
     }
 
     /// The first lease that stands at the key or behind it. Of those none comes before it.
@@ -137,12 +137,12 @@ impl LeaseTree {
         lookup::first_behind(&self.root, self.order, key)
     }
 
-    /// How many leases have the rank, which is less than 2^64 - 1.
-    pub fn count_of(&self, rank: u64) -> u32
-        requires { rank < 2 ^ 64 - 1 }
-        ensures { result ≡ count_by (has_rank self.now.order rank) self.now.leases }
+    /// How many leases are of the group, which is less than 2^64 - 1.
+    pub fn count_of(&self, group: u64) -> u32
+        requires { group < 2 ^ 64 - 1 }
+        ensures { result ≡ count_by (has_group self.now.order group) self.now.leases }
     {
-        lookup::count_of(&self.root, self.order, rank)
+        lookup::count_of(&self.root, self.order, group)
     }
 
     /// Puts in a lease, where none stands at its key, which `find` tells.

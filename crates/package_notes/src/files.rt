@@ -176,7 +176,7 @@ fn other_folders(alloc: Global, root: &str, paths: &[String]) -> Result<Vec<Text
 {
     let mut names = Vec::new(alloc);
     for path in paths {
-        enter(alloc, &mut names, other_folder(root, path.as_str()))?;
+        add_name(alloc, &mut names, other_folder(root, path.as_str()))?;
     }
     Ok(names)
 }
@@ -195,7 +195,7 @@ fn other_folder<'a>(root: &str, path: &'a str) -> Option<&'a [u8]>
 }
 
 /// Adds a name, where there is one that is not among the names.
-fn enter(alloc: Global, names: &mut Vec<Text>, name: Option<&[u8]>) -> Result<(), NoMemory>
+fn add_name(alloc: Global, names: &mut Vec<Text>, name: Option<&[u8]>) -> Result<(), NoMemory>
     ensures { OnOk result (names.new.items ≡ with_name names.old.items (option_map (λ name. name.now) name.entry)) }
 {
     let Some(name) = name else {

@@ -14,8 +14,8 @@ use Rattle.case_run.specs.Values.{case_value}
 use Rattle.farm_board.specs.Benches.{is_host_event, is_host_entry}
 use Rattle.farm_board.specs.Trusts.{is_value_of}
 use Rattle.farm_board.proofs.Agreeing.{equal_kinds}
-use Rattle.farm_board.specs.declared.entries.Entry.{Entry}
-use Rattle.farm_board.specs.declared.entries.Entry.TheVariants as entry
+use Rattle.farm_board.specs.declared.entries.HistoryEntry.{HistoryEntry}
+use Rattle.farm_board.specs.declared.entries.HistoryEntry.TheVariants as entry
 use Rattle.parallel_judge.specs.Hosts.{admits_of, EachEntry, IsHostEntry}
 use Rattle.parallel_judge.specs.UnderWay.{IsHostEvent}
 
@@ -30,12 +30,12 @@ host_event case_at host (event.Result name j test kind) is =
     true_value (case_at (task_of j test)) kind parts.1
 host_event case_at host e is = absurd (cc is)
 
-host_entry : (case_at : Task → Option TestCase) (host : List ℕ) (e : Entry) → is_host_entry (admits_of case_at) host e ≡ true → IsHostEntry case_at e
+host_entry : (case_at : Task → Option TestCase) (host : List ℕ) (e : HistoryEntry) → is_host_entry (admits_of case_at) host e ≡ true → IsHostEntry case_at e
 host_entry case_at host (entry.Call call) is = host_event case_at host call.event is
 host_entry case_at host (entry.Split number new) is = absurd (cc is)
 host_entry case_at host (entry.Join number old) is = absurd (cc is)
 
-pub host_entries : (case_at : Task → Option TestCase) (host : List ℕ) (es : List Entry) → list_all (is_host_entry (admits_of case_at) host) es ≡ true → EachEntry (IsHostEntry case_at) es
+pub host_entries : (case_at : Task → Option TestCase) (host : List ℕ) (es : List HistoryEntry) → list_all (is_host_entry (admits_of case_at) host) es ≡ true → EachEntry (IsHostEntry case_at) es
 host_entries case_at host [] h = tt
 host_entries case_at host (e ∷ es) h =
     let parts : (is_host_entry (admits_of case_at) host e ≡ true) × (list_all (is_host_entry (admits_of case_at) host) es ≡ true) =

@@ -10,8 +10,8 @@ use Rattle.farm_board.specs.BoardState.{BoardState}
 use Rattle.farm_board.specs.Histories.{IsOpening, IsLegal, entries_by}
 use Rattle.farm_board.specs.Passes.{PassValue, SplitsOff, TakesIn, IsJoined}
 use Rattle.farm_board.specs.declared.entries.Call.{Call}
-use Rattle.farm_board.specs.declared.entries.Entry.{Entry}
-use Rattle.farm_board.specs.declared.entries.Entry.TheVariants as entry
+use Rattle.farm_board.specs.declared.entries.HistoryEntry.{HistoryEntry}
+use Rattle.farm_board.specs.declared.entries.HistoryEntry.TheVariants as entry
 use Rattle.farm_board.proofs.Numbers.{in_either, in_front, in_end}
 use Rattle.farm_board.proofs.Histories.{entries_append}
 use Rattle.farm_board.proofs.Callers.{joined_grows, joined_joins, joins}
@@ -20,15 +20,15 @@ use Rattle.parallel_judge.proofs.Opening.{own_calls}
 
 -- ---- entries
 
-pub each_both : (P : Entry → Type 0) (es fs : List Entry) → EachEntry P es → EachEntry P fs → EachEntry P (es ++ fs)
+pub each_both : (P : HistoryEntry → Type 0) (es fs : List HistoryEntry) → EachEntry P es → EachEntry P fs → EachEntry P (es ++ fs)
 each_both P [] fs h k = k
 each_both P (e ∷ es) fs h k = (h.0, each_both P es fs h.1 k)
 
-pub each_second : (P : Entry → Type 0) (es fs : List Entry) → EachEntry P (es ++ fs) → EachEntry P fs
+pub each_second : (P : HistoryEntry → Type 0) (es fs : List HistoryEntry) → EachEntry P (es ++ fs) → EachEntry P fs
 each_second P [] fs h = h
 each_second P (e ∷ es) fs h = each_second P es fs h.1
 
-each_turned : (P Q : Entry → Type 0) → ((e : Entry) → P e → Q e) → (es : List Entry) → EachEntry P es → EachEntry Q es
+each_turned : (P Q : HistoryEntry → Type 0) → ((e : HistoryEntry) → P e → Q e) → (es : List HistoryEntry) → EachEntry P es → EachEntry Q es
 each_turned P Q turn [] h = tt
 each_turned P Q turn (e ∷ es) h = (turn e h.0, each_turned P Q turn es h.1)
 
@@ -37,7 +37,7 @@ same_back [] ys zs e = e
 same_back (x ∷ xs) ys zs e = same_back xs ys zs (let rest : xs ++ ys ≡ xs ++ zs = cc in rest)
 
 -- a pass of more numbers is split off
-seat_more : (numbers : List ℕ) (n : ℕ) (e : Entry) → IsSeatEntry numbers e → IsSeatEntry (numbers ++ n ∷ []) e
+seat_more : (numbers : List ℕ) (n : ℕ) (e : HistoryEntry) → IsSeatEntry numbers e → IsSeatEntry (numbers ++ n ∷ []) e
 seat_more numbers n (entry.Call call) h = absurd h
 seat_more numbers n (entry.Split number new) h = in_front new n numbers h
 seat_more numbers n (entry.Join number old) h = tt
@@ -46,27 +46,27 @@ seat_more numbers n (entry.Join number old) h = tt
 
 -- what was joined stays joined
 abbrev StaysJoined : PassValue → PassValue → Type 0
-StaysJoined old new = (n : ℕ) (its : List Entry) → IsJoined n old its → IsJoined n new its
+StaysJoined old new = (n : ℕ) (its : List HistoryEntry) → IsJoined n old its → IsJoined n new its
 
 -- what it knows then
-grows : (case_at : Task → Option TestCase) (start : BoardState) (calls : List Call) (split split' joined : List ℕ) (old new : PassValue) (more : List Entry) (e : Entry)
+grows : (case_at : Task → Option TestCase) (start : BoardState) (calls : List Call) (split split' joined : List ℕ) (old new : PassValue) (more : List HistoryEntry) (e : HistoryEntry)
     → IsBeside case_at start calls split joined old
     → new.seen ≡ (old.seen ++ more) ++ e ∷ [] → IsLegal old.start new.seen → new.mine ≡ old.mine ++ e ∷ [] → entries_by old.number new.seen ≡ new.mine
     → new.number ≡ old.number → new.start ≡ old.start → StaysJoined old new
-    → ((x : Entry) → IsSeatEntry split x → IsSeatEntry split' x) → IsSeatEntry split' e
+    → ((x : HistoryEntry) → IsSeatEntry split x → IsSeatEntry split' x) → IsSeatEntry split' e
     → IsBeside case_at start calls split' joined new
 grows case_at start calls split split' joined old new more e b seen legal mine own number begins stays turn seat =
-    let rest : List Entry = b.rest ++ (more ++ e ∷ []) in
+    let rest : List HistoryEntry = b.rest ++ (more ++ e ∷ []) in
     let whole : new.seen ≡ as_entries calls ++ rest =
-    seen ∙ append_assoc old.seen more (e ∷ []) ∙ ap (λ (es : List Entry). es ++ (more ++ e ∷ [])) b.seen ∙ append_assoc (as_entries calls) b.rest (more ++ e ∷ []) in
+    seen ∙ append_assoc old.seen more (e ∷ []) ∙ ap (λ (es : List HistoryEntry). es ++ (more ++ e ∷ [])) b.seen ∙ append_assoc (as_entries calls) b.rest (more ++ e ∷ []) in
     let start_legal : IsLegal start new.seen = subst (λ (s : BoardState). IsLegal s new.seen) b.begins legal in
     let own_zero : entries_by 0 new.seen ≡ new.mine = ap (λ (n : ℕ). entries_by n new.seen) (sym b.number) ∙ own in
     -- the entries of pass 0 are those of before, and e
-    let mine_more : entries_by 0 new.seen ≡ entries_by 0 old.seen ++ e ∷ [] = own_zero ∙ mine ∙ ap (λ (es : List Entry). es ++ e ∷ []) (sym b.own) in
-    let old_parts : entries_by 0 old.seen ≡ entries_by 0 (as_entries calls) ++ entries_by 0 b.rest = ap (λ (es : List Entry). entries_by 0 es) b.seen ∙ entries_append 0 (as_entries calls) b.rest in
-    let new_parts : entries_by 0 new.seen ≡ entries_by 0 (as_entries calls) ++ entries_by 0 rest = ap (λ (es : List Entry). entries_by 0 es) whole ∙ entries_append 0 (as_entries calls) rest in
+    let mine_more : entries_by 0 new.seen ≡ entries_by 0 old.seen ++ e ∷ [] = own_zero ∙ mine ∙ ap (λ (es : List HistoryEntry). es ++ e ∷ []) (sym b.own) in
+    let old_parts : entries_by 0 old.seen ≡ entries_by 0 (as_entries calls) ++ entries_by 0 b.rest = ap (λ (es : List HistoryEntry). entries_by 0 es) b.seen ∙ entries_append 0 (as_entries calls) b.rest in
+    let new_parts : entries_by 0 new.seen ≡ entries_by 0 (as_entries calls) ++ entries_by 0 rest = ap (λ (es : List HistoryEntry). entries_by 0 es) whole ∙ entries_append 0 (as_entries calls) rest in
     let both : entries_by 0 (as_entries calls) ++ entries_by 0 rest ≡ entries_by 0 (as_entries calls) ++ (entries_by 0 b.rest ++ e ∷ []) =
-    sym new_parts ∙ mine_more ∙ ap (λ (es : List Entry). es ++ e ∷ []) old_parts ∙ append_assoc (entries_by 0 (as_entries calls)) (entries_by 0 b.rest) (e ∷ []) in
+    sym new_parts ∙ mine_more ∙ ap (λ (es : List HistoryEntry). es ++ e ∷ []) old_parts ∙ append_assoc (entries_by 0 (as_entries calls)) (entries_by 0 b.rest) (e ∷ []) in
     let own_rest : entries_by 0 rest ≡ entries_by 0 b.rest ++ e ∷ [] = same_back (entries_by 0 (as_entries calls)) (entries_by 0 rest) (entries_by 0 b.rest ++ e ∷ []) both in
     record {
       rest = rest;
@@ -86,8 +86,8 @@ pub nothing_beside : (case_at : Task → Option TestCase) (start : BoardState) (
 nothing_beside case_at start events pass h = record {
   rest = [];
   seen = h.seen ∙ sym (append-nil (as_entries h.calls));
-  legal = subst (λ (es : List Entry). IsLegal start es) (sym h.seen) h.legal;
-  own = ap (λ (es : List Entry). entries_by 0 es) h.seen ∙ own_calls h.calls h.callers ∙ sym h.mine;
+  legal = subst (λ (es : List HistoryEntry). IsLegal start es) (sym h.seen) h.legal;
+  own = ap (λ (es : List HistoryEntry). entries_by 0 es) h.seen ∙ own_calls h.calls h.callers ∙ sym h.mine;
   seats = tt;
   number = h.number;
   begins = h.begins;
@@ -109,7 +109,7 @@ pub joins_beside : (case_at : Task → Option TestCase) (start : BoardState) (ca
 joins_beside case_at start calls split joined old from new o b t h =
     let join = entry.Join old.number from.number in
     let more = t.begins.0 in
-    let seen : new.seen ≡ (old.seen ++ more) ++ join ∷ [] = t.seen ∙ ap (λ (es : List Entry). es ++ join ∷ []) (sym t.begins.1) in
+    let seen : new.seen ≡ (old.seen ++ more) ++ join ∷ [] = t.seen ∙ ap (λ (es : List HistoryEntry). es ++ join ∷ []) (sym t.begins.1) in
     let g = grows case_at start calls split split joined old new more join b seen t.legal t.mine t.own t.number t.start (λ n its j. joined_joins n old from new its t j) (λ x s. s) tt in
     let here : IsJoined from.number new from.mine = joins old from new (subst IsOpening (sym b.begins) o) t in
     record {
@@ -121,7 +121,7 @@ joins_beside case_at start calls split joined old from new o b t h =
       number = g.number;
       begins = g.begins;
       hosts = λ n is. ⊎_elim (λ is. g.hosts n is)
-          (λ (same : n ≡ from.number). subst (λ (m : ℕ). (its : List Entry) × IsJoined m new its × EachEntry (IsHostEntry case_at) its) (sym same) (from.mine, here, h))
+          (λ (same : n ≡ from.number). subst (λ (m : ℕ). (its : List HistoryEntry) × IsJoined m new its × EachEntry (IsHostEntry case_at) its) (sym same) (from.mine, here, h))
           (in_either n from.number joined is);
     }
 

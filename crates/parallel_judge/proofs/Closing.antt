@@ -15,8 +15,8 @@ use Rattle.farm_board.specs.BoardState.{BoardState}
 use Rattle.farm_board.specs.Histories.{is_no_memory, opening_board, empty_journal, board_after, call_unless, effective_calls, journal_with_calls}
 use Rattle.farm_board.specs.Passes.{PassValue, board_seen}
 use Rattle.farm_board.specs.declared.entries.Call.{Call}
-use Rattle.farm_board.specs.declared.entries.Entry.{Entry}
-use Rattle.farm_board.specs.declared.entries.Entry.TheVariants as entry
+use Rattle.farm_board.specs.declared.entries.HistoryEntry.{HistoryEntry}
+use Rattle.farm_board.specs.declared.entries.HistoryEntry.TheVariants as entry
 use Rattle.farm_board.proofs.Histories.{board_after_append}
 use Rattle.parallel_judge.specs.Entering.{NamedProblem, NamedSubmission, problem_event, submission_event, ask_event, waiting, contest_events}
 use Rattle.parallel_judge.specs.Hosts.{as_entries, HasEntered, IsBeside}
@@ -71,7 +71,7 @@ unless_append : (b : Bool) (call : Call) (xs ys : List Call) → call_unless b c
 unless_append true call xs ys = refl
 unless_append false call xs ys = refl
 
-effective_append : (es fs : List Entry) → effective_calls (es ++ fs) ≡ effective_calls es ++ effective_calls fs
+effective_append : (es fs : List HistoryEntry) → effective_calls (es ++ fs) ≡ effective_calls es ++ effective_calls fs
 effective_append [] fs = refl
 effective_append (entry.Call call ∷ es) fs =
     ap (call_unless (is_no_memory call.reply) call) (effective_append es fs) ∙ unless_append (is_no_memory call.reply) call (effective_calls es) (effective_calls fs)
@@ -88,7 +88,7 @@ closed_under_way settings case_at cells names opening events entered pass split 
     let s = board_after opening (as_entries h.calls) in
     let here : s.state ≡ reached settings events = entered_state opening events entered h ∙ ap (λ (t : State). state_after t events) begins in
     let after : board_seen pass ≡ board_after s b.rest =
-    ap (λ (t : BoardState). board_after t pass.seen) b.begins ∙ ap (λ (es : List Entry). board_after opening es) b.seen ∙ board_after_append opening (as_entries h.calls) b.rest in
+    ap (λ (t : BoardState). board_after t pass.seen) b.begins ∙ ap (λ (es : List HistoryEntry). board_after opening es) b.seen ∙ board_after_append opening (as_entries h.calls) b.rest in
     subst (λ (t : BoardState). IsUnderWay settings case_at cells [] names t.state) (sym after)
     (entries_under_way settings case_at cells [] names s b.rest (all_known case_at opening h.calls split pass out b)
     (subst (λ (t : State). IsUnderWay settings case_at cells [] names t) (sym here) w))

@@ -10,10 +10,10 @@ use Rattle.farm_board.specs.BoardState.{BoardState}
 use Rattle.farm_board.specs.Histories.{is_no_memory, IsAlone, is_in, board_after_call, next_board, board_after, IsLegal, entries_by}
 use Rattle.farm_board.specs.Passes.{PassValue, Calls, call_of}
 use Rattle.farm_board.specs.declared.entries.Call.{Call}
-use Rattle.farm_board.specs.declared.entries.Entry.{Entry}
-use Rattle.farm_board.specs.declared.entries.Entry.TheVariants as entry
+use Rattle.farm_board.specs.declared.entries.HistoryEntry.{HistoryEntry}
+use Rattle.farm_board.specs.declared.entries.HistoryEntry.TheVariants as entry
 use Rattle.farm_board.proofs.Numbers.{in_single, in_here}
-use Rattle.farm_board.proofs.Histories.{after_call_out, entries_mine, nothing_since, legal_front}
+use Rattle.farm_board.proofs.Histories.{after_call_out, entries_mine, nothing_since, legal_prefix}
 use Rattle.parallel_judge.specs.Journal.{events_in, AreCallers}
 use Rattle.parallel_judge.specs.Hosts.{as_entries, AreEffective, HasEntered}
 
@@ -25,13 +25,13 @@ without_last [] = []
 without_last (x ∷ []) = []
 without_last (x ∷ y ∷ xs) = x ∷ without_last (y ∷ xs)
 
-front_of : {X : Type 0} (xs : List X) (x : X) → without_last (xs ++ x ∷ []) ≡ xs
-front_of [] x = refl
-front_of (y ∷ []) x = refl
-front_of (y ∷ z ∷ xs) x = ap (λ rest. y ∷ rest) (front_of (z ∷ xs) x)
+prefix_of : {X : Type 0} (xs : List X) (x : X) → without_last (xs ++ x ∷ []) ≡ xs
+prefix_of [] x = refl
+prefix_of (y ∷ []) x = refl
+prefix_of (y ∷ z ∷ xs) x = ap (λ rest. y ∷ rest) (prefix_of (z ∷ xs) x)
 
-pub same_front : {X : Type 0} (xs ys : List X) (x y : X) → xs ++ x ∷ [] ≡ ys ++ y ∷ [] → xs ≡ ys
-same_front xs ys x y e = sym (front_of xs x) ∙ ap without_last e ∙ front_of ys y
+pub same_prefix : {X : Type 0} (xs ys : List X) (x y : X) → xs ++ x ∷ [] ≡ ys ++ y ∷ [] → xs ≡ ys
+same_prefix xs ys x y e = sym (prefix_of xs x) ∙ ap without_last e ∙ prefix_of ys y
 
 -- ---- calls alone
 
@@ -53,7 +53,7 @@ pub own_calls : (calls : List Call) → AreCallers calls → entries_by 0 (as_en
 own_calls [] h = refl
 own_calls (call ∷ calls) h =
     ap (λ (n : ℕ). if eqb n 0 then entry.Call call ∷ entries_by 0 (as_entries calls) else entries_by 0 (as_entries calls)) h.0
-    ∙ ap (λ (es : List Entry). entry.Call call ∷ es) (own_calls calls h.1)
+    ∙ ap (λ (es : List HistoryEntry). entry.Call call ∷ es) (own_calls calls h.1)
 
 pub callers_more : (calls : List Call) (call : Call) → AreCallers calls → call.number ≡ 0 → AreCallers (calls ++ call ∷ [])
 callers_more [] call h e = (e, tt)
@@ -72,29 +72,29 @@ pub enters_one : (start : BoardState) (events : List Event) (old new : PassValue
 enters_one start events old new e r out h calls some =
     let g = calls.grows in
     let call = call_of old.number e r in
-    let one : List Entry = entry.Call call ∷ [] in
+    let one : List HistoryEntry = entry.Call call ∷ [] in
     let mine = as_entries h.calls in
-    let own_old : entries_by 0 old.seen ≡ mine = ap (λ (es : List Entry). entries_by 0 es) h.seen ∙ own_calls h.calls h.callers in
+    let own_old : entries_by 0 old.seen ≡ mine = ap (λ (es : List HistoryEntry). entries_by 0 es) h.seen ∙ own_calls h.calls h.callers in
     let own_new : entries_by 0 new.seen ≡ mine ++ one =
-    ap (λ (n : ℕ). entries_by n new.seen) (sym h.number) ∙ g.own ∙ g.mine ∙ ap (λ (es : List Entry). es ++ one) h.mine in
+    ap (λ (n : ℕ). entries_by n new.seen) (sym h.number) ∙ g.own ∙ g.mine ∙ ap (λ (es : List HistoryEntry). es ++ one) h.mine in
     let ends : entries_by 0 (old.seen ++ g.between) ++ one ≡ mine ++ one =
-    sym (entries_mine 0 (old.seen ++ g.between) (entry.Call call) h.number) ∙ ap (λ (es : List Entry). entries_by 0 es) (sym g.seen) ∙ own_new in
-    let same : entries_by 0 (old.seen ++ g.between) ≡ entries_by 0 old.seen = same_front (entries_by 0 (old.seen ++ g.between)) mine (entry.Call call) (entry.Call call) ends ∙ sym own_old in
-    let whole : IsLegal start ((old.seen ++ g.between) ++ one) = subst (λ (es : List Entry). IsLegal start es) g.seen (subst (λ (s : BoardState). IsLegal s new.seen) h.begins g.legal) in
-    let front : IsLegal start (old.seen ++ g.between) = legal_front start (old.seen ++ g.between) one whole in
-    let alone : IsAlone 0 (board_after start old.seen) = subst (λ (es : List Entry). IsAlone 0 (board_after start es)) (sym h.seen) (alone_at start h.calls out) in
-    let none : g.between ≡ [] = nothing_since start 0 old.seen g.between front alone same in
+    sym (entries_mine 0 (old.seen ++ g.between) (entry.Call call) h.number) ∙ ap (λ (es : List HistoryEntry). entries_by 0 es) (sym g.seen) ∙ own_new in
+    let same : entries_by 0 (old.seen ++ g.between) ≡ entries_by 0 old.seen = same_prefix (entries_by 0 (old.seen ++ g.between)) mine (entry.Call call) (entry.Call call) ends ∙ sym own_old in
+    let whole : IsLegal start ((old.seen ++ g.between) ++ one) = subst (λ (es : List HistoryEntry). IsLegal start es) g.seen (subst (λ (s : BoardState). IsLegal s new.seen) h.begins g.legal) in
+    let prefix : IsLegal start (old.seen ++ g.between) = legal_prefix start (old.seen ++ g.between) one whole in
+    let alone : IsAlone 0 (board_after start old.seen) = subst (λ (es : List HistoryEntry). IsAlone 0 (board_after start es)) (sym h.seen) (alone_at start h.calls out) in
+    let none : g.between ≡ [] = nothing_since start 0 old.seen g.between prefix alone same in
     let seen : new.seen ≡ mine ++ one =
-    g.seen ∙ ap (λ (es : List Entry). (old.seen ++ es) ++ one) none ∙ ap (λ (es : List Entry). es ++ one) (append-nil old.seen ∙ h.seen) in
+    g.seen ∙ ap (λ (es : List HistoryEntry). (old.seen ++ es) ++ one) none ∙ ap (λ (es : List HistoryEntry). es ++ one) (append-nil old.seen ∙ h.seen) in
     let as_one : mine ++ one ≡ as_entries (h.calls ++ call ∷ []) = sym (map-append (λ (c : Call). entry.Call c) h.calls (call ∷ [])) in
     record {
       calls = h.calls ++ call ∷ [];
       events_are = map-append (λ (c : Call). c.event) h.calls (call ∷ []) ∙ ap (λ (es : List Event). es ++ e ∷ []) h.events_are;
       seen = seen ∙ as_one;
-      mine = g.mine ∙ ap (λ (es : List Entry). es ++ one) h.mine ∙ as_one;
+      mine = g.mine ∙ ap (λ (es : List HistoryEntry). es ++ one) h.mine ∙ as_one;
       callers = callers_more h.calls call h.callers h.number;
       effective = effective_more h.calls call h.effective some;
-      legal = subst (λ (es : List Entry). IsLegal start es) (sym g.seen ∙ seen ∙ as_one) whole;
+      legal = subst (λ (es : List HistoryEntry). IsLegal start es) (sym g.seen ∙ seen ∙ as_one) whole;
       number = g.number ∙ h.number;
       begins = g.start ∙ h.begins;
     }

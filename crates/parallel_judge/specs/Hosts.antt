@@ -12,8 +12,8 @@ use Rattle.farm_board.specs.Histories.{is_in, IsLegal, entries_by}
 use Rattle.farm_board.specs.Passes.{BoardId, PassValue, IsJoined}
 use Rattle.farm_board.specs.Trusts.{is_value_of}
 use Rattle.farm_board.specs.declared.entries.Call.{Call}
-use Rattle.farm_board.specs.declared.entries.Entry.{Entry}
-use Rattle.farm_board.specs.declared.entries.Entry.TheVariants as entry
+use Rattle.farm_board.specs.declared.entries.HistoryEntry.{HistoryEntry}
+use Rattle.farm_board.specs.declared.entries.HistoryEntry.TheVariants as entry
 use Rattle.parallel_judge.specs.Journal.{events_in, AreCallers}
 use Rattle.parallel_judge.specs.Table.{roster_events}
 use Rattle.parallel_judge.specs.UnderWay.{IsHostEvent}
@@ -37,7 +37,7 @@ admits_of case_at task kind = is_value_of (case_at task) kind
 
 -- The opening pass, alone
 
-abbrev pub as_entries : List Call → List Entry
+abbrev pub as_entries : List Call → List HistoryEntry
 as_entries calls = map (λ call. entry.Call call) calls
 
 -- none of the calls ran out of memory
@@ -59,18 +59,18 @@ pub record HasEntered (start : BoardState) (events : List Event) (pass : PassVal
 
 -- Beside the hosts
 
-abbrev pub EachEntry : (Entry → Type 0) → List Entry → Type 0
+abbrev pub EachEntry : (HistoryEntry → Type 0) → List HistoryEntry → Type 0
 EachEntry P [] = Unit {0}
 EachEntry P (e ∷ es) = P e × EachEntry P es
 
 -- a host's pass calls the board with what a host enters
-abbrev pub IsHostEntry : (Task → Option TestCase) → Entry → Type 0
+abbrev pub IsHostEntry : (Task → Option TestCase) → HistoryEntry → Type 0
 IsHostEntry case_at (entry.Call call) = IsHostEvent case_at call.event
 IsHostEntry case_at (entry.Split number new) = ⊥
 IsHostEntry case_at (entry.Join number old) = ⊥
 
 -- the opening pass splits off passes of these numbers, and takes passes in
-abbrev pub IsSeatEntry : List ℕ → Entry → Type 0
+abbrev pub IsSeatEntry : List ℕ → HistoryEntry → Type 0
 IsSeatEntry numbers (entry.Call call) = ⊥
 IsSeatEntry numbers (entry.Split number new) = is_in new numbers ≡ true
 IsSeatEntry numbers (entry.Join number old) = Unit {0}
@@ -110,7 +110,7 @@ pass_numbers passes = map (λ pass. pass.number) passes
 -- what the opening pass knows once it has entered these calls, split off passes of these numbers, and taken in those
 pub record IsBeside (case_at : Task → Option TestCase) (start : BoardState) (calls : List Call)
     (split joined : List ℕ) (pass : PassValue) : Type 0 where
-  pub rest : List Entry
+  pub rest : List HistoryEntry
   pub seen : pass.seen ≡ as_entries calls ++ rest
   pub legal : IsLegal start pass.seen
   pub own : entries_by 0 pass.seen ≡ pass.mine
@@ -118,4 +118,4 @@ pub record IsBeside (case_at : Task → Option TestCase) (start : BoardState) (c
   pub number : pass.number ≡ 0
   pub begins : pass.start ≡ start
   pub hosts : (n : ℕ) → is_in n joined ≡ true
-      → (its : List Entry) × IsJoined n pass its × EachEntry (IsHostEntry case_at) its
+      → (its : List HistoryEntry) × IsJoined n pass its × EachEntry (IsHostEntry case_at) its

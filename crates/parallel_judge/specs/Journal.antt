@@ -18,7 +18,7 @@ use Rattle.contest_folder.specs.RosterValue.{RosterValue}
 use Rattle.contest_folder.specs.JudgingCases.{case_at}
 use Rattle.farm_board.specs.Histories.{IsLegal, opening_board, effective_calls}
 use Rattle.farm_board.specs.declared.entries.Call.{Call}
-use Rattle.farm_board.specs.declared.entries.Entry.{Entry}
+use Rattle.farm_board.specs.declared.entries.HistoryEntry.{HistoryEntry}
 use Rattle.parallel_judge.specs.Working.{truth_of}
 use Rattle.parallel_judge.specs.Table.{verdict_for}
 
@@ -55,7 +55,7 @@ AreJudging case_at (call ∷ calls) = IsJudgingEvent case_at call.event × AreJu
 -- caller entered. The farm stands after all of them
 pub record IsKept (settings : SettingsValue) (case_at : Task → Option TestCase) (hosts : ℕ) (s : State)
     (calls : List Call) : Type 0 where
-  pub history : List Entry
+  pub history : List HistoryEntry
   pub later : List Call
   pub legal : IsLegal (opening_board (start settings) (hosts + 1) true) history
   pub whole : calls ≡ effective_calls history ++ later

@@ -16,7 +16,7 @@ use crate::names::{caller, host_name};
 use crate::noted::NotedFarm;
 use crate::verdicts::read_table;
 use contest_folder::Roster;
-use farm_board::{Admission, History};
+use farm_board::{Admission, CallJournal};
 use farm_kinds::{Event, NoMemory, TableRows};
 use judgehost::Gate;
 use people::Person;
@@ -32,7 +32,7 @@ pub struct Outcome {
     pub table: TableRows,
     /// The calls of the judging in their order, where a journal was asked for. Those of host `h1` and so on have the
     /// number of its pass, and those of the caller have 0.
-    pub history: Option<History>,
+    pub history: Option<CallJournal>,
 }
 
 /// Judges a contest by so many host threads, at most 16, and gives its table. The hosts `h1` and so on work at the same

@@ -5,7 +5,7 @@ ghost use Rattle.case_run.specs.Cases.{TestCase};
 ghost use Rattle.parallel_judge.specs.Journal.{IsJudgingEvent};
 ghost use Rattle.parallel_judge.specs.Noting.{Notes, StillKeeps};
 
-use farm_board::History;
+use farm_board::CallJournal;
 use farm_core::Farm;
 use farm_kinds::{Event, NoMemory, Reply};
 
@@ -16,7 +16,7 @@ const CALLER: u64 = 0;
 #[derive(Drop)]
 pub struct NotedFarm {
     pub(crate) farm: Farm,
-    pub(crate) history: Option<History>,
+    pub(crate) history: Option<CallJournal>,
 }
 
 impl NotedFarm {

@@ -4,7 +4,7 @@ use Rattle.std.proofs.lemmas.List.{take_all}
 use Rattle.record_store.specs.Model.{DiskTime, IsImage, AtEachMoment, overlaid}
 use Rattle.record_store.specs.Held.{records_of, Torn, IsClosedAt, IsStaged, IsBeforeOrAfter}
 use Rattle.record_store.proofs.Moments.{weaken, followed, leaves_now}
-use Rattle.record_store.proofs.Fronts.{closed_held, torn_behind}
+use Rattle.record_store.proofs.Prefixes.{closed_held, torn_behind}
 use Rattle.record_store.proofs.Steps.{staged, gate_torn, gate_done}
 
 pub all_behind : (xs : List ℕ) → take (length xs - 1) (drop 1 xs) ≡ drop 1 xs

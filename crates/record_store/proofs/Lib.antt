@@ -1,6 +1,6 @@
 pub mod Moments
 pub mod Images
-pub mod Fronts
+pub mod Prefixes
 pub mod Steps
 pub mod Appends
 pub mod Opens

@@ -15,11 +15,11 @@ module _ (seen bytes : List ℕ) (at : ℕ) (inside : at ≤ length seen) where
   rest : List ℕ
   rest = drop (at + length bytes) seen
 
-  front_long : length (take at seen) ≡ at
-  front_long = length-take-le at seen inside
+  prefix_long : length (take at seen) ≡ at
+  prefix_long = length-take-le at seen inside
 
   both_long : length (take at seen ++ bytes) ≡ at + length bytes
-  both_long = length-append (take at seen) bytes ∙ ap (λ (n : ℕ). n + length bytes) front_long
+  both_long = length-append (take at seen) bytes ∙ ap (λ (n : ℕ). n + length bytes) prefix_long
 
   overlaid_length : length (overlaid seen at bytes) ≡ max (at + length bytes) (length seen)
   overlaid_length =
@@ -30,7 +30,7 @@ module _ (seen bytes : List ℕ) (at : ℕ) (inside : at ≤ length seen) where
   overlaid_same : (i : ℕ) → i < length seen → (i < at) ⊎ (at + length bytes ≤ i) → get_or (overlaid seen at bytes) i 0 ≡ get_or seen i 0
   overlaid_same i lt (inl before) =
       get_or_append_left (take at seen ++ bytes) (drop (at + length bytes) seen) 0 i (omega (arith, both_long, before))
-      ∙ get_or_append_left (take at seen) bytes 0 i (omega (arith, front_long, before))
+      ∙ get_or_append_left (take at seen) bytes 0 i (omega (arith, prefix_long, before))
       ∙ get_or-take at seen i 0 before
   overlaid_same i lt (inr behind) =
       let same : at + length bytes + (i - (at + length bytes)) ≡ i = omega (arith, behind) in

@@ -33,12 +33,12 @@ pub record Torn (at n : ℕ) (old new : List ℕ) : Type 0 where
   pub no_longer : length new ≤ max (at + n) (length old)
 
 -- the bytes are the records of these lines, whatever follows, if any byte does
-pub record IsFront (front : List ℕ) (lines : List (List ℕ)) : Type 0 where
-  pub reads : (rest : List ℕ) → 0 < length rest → held (front ++ rest) ≡ lines ++ held rest
+pub record IsRecordPrefix (prefix : List ℕ) (lines : List (List ℕ)) : Type 0 where
+  pub reads : (rest : List ℕ) → 0 < length rest → held (prefix ++ rest) ≡ lines ++ held rest
 
 -- behind the records of these lines stands a gate that is closed
 pub record IsClosedAt (file : List ℕ) (lines : List (List ℕ)) (end : ℕ) : Type 0 where
-  pub front : IsFront (take end file) lines
+  pub prefix : IsRecordPrefix (take end file) lines
   pub inside : end < length file
   pub gate : slice_index file end ≢ 1
 
@@ -64,7 +64,9 @@ HoldsStill old file = held file ≡ held old
 -- at the offset stands a held record of this line
 abbrev pub IsNext : List ℕ → ℕ → List ℕ → Type 0
 IsNext file at line =
-    (lines : List (List ℕ)) → IsFront (take at file) lines → IsFront (take (at + 3 + length line) file) (lines ++ line ∷ [])
+    (lines : List (List ℕ))
+    → IsRecordPrefix (take at file) lines
+    → IsRecordPrefix (take (at + 3 + length line) file) (lines ++ line ∷ [])
 
 -- at the offset stands a held record of this line, or none is held from there on
 abbrev pub ReadsNext : Bool → List ℕ → ℕ → List ℕ → Type 0
@@ -73,6 +75,6 @@ ReadsNext false file at line = held (drop at file) ≡ []
 
 -- these lines stand up to the offset, and no held record behind it
 pub record IsRead (file : List ℕ) (at : ℕ) (lines : List (List ℕ)) : Type 0 where
-  pub front : IsFront (take at file) lines
+  pub prefix : IsRecordPrefix (take at file) lines
   pub none : held (drop at file) ≡ []
   pub within : (at < length file) ⊎ (file ≡ [])

@@ -70,7 +70,8 @@ impl RejudgeBook {
         self.rejudgings.len()
     }
 
-    /// How many more submissions take no memory.
+    /// How many more submissions take no memory. A farm, which makes room before each event, does not ask; whoever uses the
+    /// book alone may.
     pub fn spare(&self) -> usize
         ensures { result ≡ self.now.spare }
     {
@@ -141,7 +142,8 @@ impl RejudgeBook {
 
     /// Prepares a rejudging of these submissions, each with the judging that is current now and a new one,
     /// and answers its number. The new judgings are numbered from `first` in the order of the list. The
-    /// rejudging is open. At a fault nothing changes.
+    /// rejudging is open. At a fault nothing changes. A farm reserves first and calls `prepare_reserved`; this is for whoever
+    /// uses the book alone.
     pub fn prepare(&mut self, members: &[u32], olds: &[u32], first: u32) -> Result<u32, BookFault>
         requires known { AreKnown self.old.submissions members.now }
         requires paired { length members.now ≡ length olds.now }
@@ -165,7 +167,8 @@ impl RejudgeBook {
         Ok(self.prepare_reserved(members, olds, first))
     }
 
-    /// Closes the rejudging of this number. It takes no memory. At a fault nothing changes.
+    /// Closes the rejudging of this number. It takes no memory. At a fault nothing changes. A farm, which refuses first, calls
+    /// `close_open`; this is for whoever uses the book alone.
     pub fn close(&mut self, number: u32, how: How) -> Result<(), CloseFault>
         ensures fault { IfErr result (λ fault. close_refusal self.old.rejudgings number ≡ Some fault) }
         ensures accepted { OnOk result (close_refusal self.old.rejudgings number ≡ None) }

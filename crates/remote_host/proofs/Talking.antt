@@ -67,19 +67,19 @@ posts_last (u ∷ us) a = ap (count_post u) (posts_last us a) ∙ posts_swap u a
 -- one more response was taken
 took_more : (start old new : Line) (answers : List Answer) (asked : List ℕ) (a : Answer) → Took start old answers → Exchanged old new asked a → Took start new (answers ++ a ∷ [])
 took_more start old new answers asked a t x = record {
-  bytes = t.bytes ++ x.front;
-  took = Consumes-trans start.left old.left new.left t.bytes x.front t.took x.took;
-  are = subst (λ (z : List ℕ). AreAnswers z (answers ++ a ∷ []) new.ahead) (append_assoc start.ahead t.bytes x.front)
-      (answers_last ((start.ahead ++ t.bytes) ++ x.front) answers (old.ahead ++ x.front) a new.ahead (answers_more (start.ahead ++ t.bytes) answers old.ahead x.front t.are) x.is);
+  bytes = t.bytes ++ x.prefix;
+  took = Consumes-trans start.left old.left new.left t.bytes x.prefix t.took x.took;
+  are = subst (λ (z : List ℕ). AreAnswers z (answers ++ a ∷ []) new.ahead) (append_assoc start.ahead t.bytes x.prefix)
+      (answers_last ((start.ahead ++ t.bytes) ++ x.prefix) answers (old.ahead ++ x.prefix) a new.ahead (answers_more (start.ahead ++ t.bytes) answers old.ahead x.prefix t.are) x.is);
 }
 
 -- bytes were taken, and no response
-took_bytes : (start old new : Line) (answers : List Answer) (front : List ℕ) → Took start old answers → Consumes old.left new.left front → new.ahead ≡ old.ahead ++ front → Took start new answers
-took_bytes start old new answers front t c e = record {
-  bytes = t.bytes ++ front;
-  took = Consumes-trans start.left old.left new.left t.bytes front t.took c;
-  are = subst (λ (z : List ℕ). AreAnswers z answers new.ahead) (append_assoc start.ahead t.bytes front)
-      (subst (λ (z : List ℕ). AreAnswers ((start.ahead ++ t.bytes) ++ front) answers z) (sym e) (answers_more (start.ahead ++ t.bytes) answers old.ahead front t.are));
+took_bytes : (start old new : Line) (answers : List Answer) (prefix : List ℕ) → Took start old answers → Consumes old.left new.left prefix → new.ahead ≡ old.ahead ++ prefix → Took start new answers
+took_bytes start old new answers prefix t c e = record {
+  bytes = t.bytes ++ prefix;
+  took = Consumes-trans start.left old.left new.left t.bytes prefix t.took c;
+  are = subst (λ (z : List ℕ). AreAnswers z answers new.ahead) (append_assoc start.ahead t.bytes prefix)
+      (subst (λ (z : List ℕ). AreAnswers ((start.ahead ++ t.bytes) ++ prefix) answers z) (sym e) (answers_more (start.ahead ++ t.bytes) answers old.ahead prefix t.are));
 }
 
 -- nothing was asked yet
@@ -136,14 +136,14 @@ stands_as who start now claims fetched posted f g e s = record {
   posts_are = s.posts_are;
 }
 
--- all that was put is a front
-pub stands_front : (who : Caller) (start now : Line) (claims fetched posted : ℕ) (f : ℕ → List Answer → Talk) → Stands who start now claims fetched posted f → Breaks who start now claims None
-stands_front who start now claims fetched posted f s = record {
+-- all that was put is a prefix
+pub stands_prefix : (who : Caller) (start now : Line) (claims fetched posted : ℕ) (f : ℕ → List Answer → Talk) → Stands who start now claims fetched posted f → Breaks who start now claims None
+stands_prefix who start now claims fetched posted f s = record {
   answers = s.answers;
   put = spelled who s.asks;
   puts = s.puts;
   took = s.took;
-  front = λ n more. (
+  prefix = λ n more. (
     spelled who (f n more).asks,
     ap (λ (t : Talk). spelled who t.asks) (s.goes n more) ∙ ap (spelled who) (asks_after s.asks (f n more)) ∙ spelled_append who s.asks (f n more).asks,
   );
@@ -152,15 +152,15 @@ stands_front who start now claims fetched posted f s = record {
 
 -- the talk ended at a response whose body is wrong
 pub stands_wrong : (who : Caller) (start now : Line) (claims fetched posted : ℕ) (w : Wrong) → Stands who start now claims fetched posted (λ n more. ended (end.Wronged w)) → Breaks who start now claims (Some w)
-unfolding stands_front
+unfolding stands_prefix
 stands_wrong who start now claims fetched posted w s =
-    let b = stands_front who start now claims fetched posted (λ n more. ended (end.Wronged w)) s in
+    let b = stands_prefix who start now claims fetched posted (λ n more. ended (end.Wronged w)) s in
     record {
       answers = b.answers;
       put = b.put;
       puts = b.puts;
       took = b.took;
-      front = b.front;
+      prefix = b.prefix;
       wronged = inr (λ n more. ap (λ (t : Talk). t.end) (s.goes n more) ∙ end_after s.asks (ended (end.Wronged w)));
     }
 
@@ -177,8 +177,8 @@ stands_stopped who start old new claims fetched posted a f w s x = record {
   answers = s.answers;
   put = spelled who s.asks ++ x.put;
   puts = Appends-trans start.held old.held new.held (spelled who s.asks) x.put s.puts x.puts;
-  took = took_bytes start old new s.answers x.front s.took x.took x.ahead;
-  front = λ n more.
+  took = took_bytes start old new s.answers x.prefix s.took x.took x.ahead;
+  prefix = λ n more.
       (let t = answered (f n) more in (
         x.rest ++ spelled who t.asks,
         ap (λ (u : Talk). spelled who u.asks) (s.goes n more)
@@ -207,7 +207,7 @@ asked_err who start old new claims fetched posted a f w v asked is x e s =
 
 -- nothing was asked
 pub asked_nothing : (who : Caller) (start now : Line) (claims fetched posted : ℕ) (f : ℕ → List Answer → Talk) (w : Option Wrong) → w ≡ None → Stands who start now claims fetched posted f → Breaks who start now claims w
-asked_nothing who start now claims fetched posted f w e s = subst (λ (z : Option Wrong). Breaks who start now claims z) (sym e) (stands_front who start now claims fetched posted f s)
+asked_nothing who start now claims fetched posted f w e s = subst (λ (z : Option Wrong). Breaks who start now claims z) (sym e) (stands_prefix who start now claims fetched posted f s)
 
 -- a response whose body was not read for want of memory
 pub unread : (who : Caller) (start now : Line) (claims fetched posted : ℕ) (f : ℕ → Answer → List Answer → Talk) (w v : Option Wrong) (body : List ℕ) (u : Unit {0}) → v ≡ None → Asked who start now claims fetched posted f w body (Ok u) → Breaks who start now claims v

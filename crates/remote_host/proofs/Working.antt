@@ -20,8 +20,8 @@ use Rattle.remote_host.specs.Talk.{Talk, talk, turns, ended, after, fetches_in, 
 use Rattle.remote_host.specs.Requests.{spelled}
 use Rattle.remote_host.specs.Standing.{Line, Stands, Breaks, IfWronged, GoesOnAt, RefusedAt, IsAt, IsPlain}
 use Rattle.remote_host.specs.Benches.{is_pending, pending_job, IfFailed, died_heard, end_heard}
-use Rattle.remote_host.specs.Ends.{Talked, Begun, Fronts, Broken, IfWrong, RefusedAs, WorkedAs}
-use Rattle.remote_host.proofs.Talking.{asks_after, end_after, stands_front, stands_as}
+use Rattle.remote_host.specs.Ends.{Talked, Begun, Prefixes, Broken, IfWrong, RefusedAs, WorkedAs}
+use Rattle.remote_host.proofs.Talking.{asks_after, end_after, stands_prefix, stands_as}
 
 -- the talk has ended, and so it is the same for as many turns or more
 talked_by : (who : Caller) (start now : Line) (claims fetched posted n fuel : ℕ) (f : ℕ → List Answer → Talk) (e : TalkEnd)
@@ -57,44 +57,44 @@ wrong_by who start now claims fuel (Some w) answers (inr x) is =
 pub breaks_broken : (who : Caller) (start now : Line) (claims fuel : ℕ) (w : Option Wrong) → Breaks who start now claims w → claims ≤ fuel → Broken who start now fuel w
 breaks_broken who start now claims fuel w b le =
     let is : claims + (fuel - claims) ≡ fuel = omega (arith, le) in
-    let f = b.front (fuel - claims) [] in
+    let f = b.prefix (fuel - claims) [] in
     record {
       answers = b.answers;
       took = b.took;
       put = b.put;
       rest = f.0;
       puts = b.puts;
-      front = ap (λ m. spelled who (talk who m b.answers).asks) (sym is) ∙ ap (λ z. spelled who (talk who (claims + (fuel - claims)) z).asks) (sym (append-nil b.answers)) ∙ f.1;
+      prefix = ap (λ m. spelled who (talk who m b.answers).asks) (sym is) ∙ ap (λ z. spelled who (talk who (claims + (fuel - claims)) z).asks) (sym (append-nil b.answers)) ∙ f.1;
       wrong = wrong_by who start now claims fuel w b.answers b.wronged is;
     }
 
-pub breaks_fronts : (who : Caller) (start now : Line) (claims fuel : ℕ) (w : Option Wrong) → Breaks who start now claims w → claims ≤ fuel → Fronts who start now fuel
-breaks_fronts who start now claims fuel w b le =
+pub breaks_prefixes : (who : Caller) (start now : Line) (claims fuel : ℕ) (w : Option Wrong) → Breaks who start now claims w → claims ≤ fuel → Prefixes who start now fuel
+breaks_prefixes who start now claims fuel w b le =
     let f = breaks_broken who start now claims fuel w b le in
-    record { answers = f.answers; took = f.took; put = f.put; rest = f.rest; puts = f.puts; front = f.front }
+    record { answers = f.answers; took = f.took; put = f.put; rest = f.rest; puts = f.puts; prefix = f.prefix }
 
-goes_on_front : (who : Caller) (start now : Line) (claims fetched posted : ℕ) (p : Option (Task × TestCase)) → GoesOnAt who start now claims fetched posted p → Breaks who start now claims None
-goes_on_front who start now claims fetched posted None s = stands_front who start now claims fetched posted (λ n more. turns who n more) s
-goes_on_front who start now claims fetched posted (Some p) s = stands_front who start now claims fetched posted _ s
+goes_on_prefix : (who : Caller) (start now : Line) (claims fetched posted : ℕ) (p : Option (Task × TestCase)) → GoesOnAt who start now claims fetched posted p → Breaks who start now claims None
+goes_on_prefix who start now claims fetched posted None s = stands_prefix who start now claims fetched posted (λ n more. turns who n more) s
+goes_on_prefix who start now claims fetched posted (Some p) s = stands_prefix who start now claims fetched posted _ s
 
-refused_front : (who : Caller) (start now : Line) (claims fetched posted fuel : ℕ) (w : Option Wrong) (e : BenchFault) → RefusedAt who start now claims fetched posted w e → claims ≤ fuel → Fronts who start now fuel
-refused_front who start now claims fetched posted fuel w fault.Link s le = breaks_fronts who start now claims fuel w s le
-refused_front who start now claims fetched posted fuel w fault.Holding s le = breaks_fronts who start now claims fuel None (stands_front who start now claims fetched posted _ s) le
-refused_front who start now claims fetched posted fuel w fault.NoHost s le = breaks_fronts who start now claims fuel None (stands_front who start now claims fetched posted _ s) le
-refused_front who start now claims fetched posted fuel w (fault.NoCase task) s le = absurd s
-refused_front who start now claims fetched posted fuel w fault.NoMemory s le = breaks_fronts who start now claims fuel w s le
+refused_prefix : (who : Caller) (start now : Line) (claims fetched posted fuel : ℕ) (w : Option Wrong) (e : BenchFault) → RefusedAt who start now claims fetched posted w e → claims ≤ fuel → Prefixes who start now fuel
+refused_prefix who start now claims fetched posted fuel w fault.Link s le = breaks_prefixes who start now claims fuel w s le
+refused_prefix who start now claims fetched posted fuel w fault.Holding s le = breaks_prefixes who start now claims fuel None (stands_prefix who start now claims fetched posted _ s) le
+refused_prefix who start now claims fetched posted fuel w fault.NoHost s le = breaks_prefixes who start now claims fuel None (stands_prefix who start now claims fetched posted _ s) le
+refused_prefix who start now claims fetched posted fuel w (fault.NoCase task) s le = absurd s
+refused_prefix who start now claims fetched posted fuel w fault.NoMemory s le = breaks_prefixes who start now claims fuel w s le
 
-at_front : (who : Caller) (start now : Line) (claims posts fuel : ℕ) (p : Option (Task × TestCase)) (w : Option Wrong) (h : Option Heard) → IsAt who start now claims posts p w h → claims ≤ fuel → Fronts who start now fuel
-at_front who start now claims posts fuel p w None s le = breaks_fronts who start now claims fuel None (goes_on_front who start now claims claims posts p s.1) le
-at_front who start now claims posts fuel p w (Some Nothing) s le = breaks_fronts who start now claims fuel None (stands_front who start now claims claims posts _ s.2) le
-at_front who start now claims posts fuel p w (Some (Refused e)) s le = refused_front who start now claims claims posts fuel w e s le
+at_prefix : (who : Caller) (start now : Line) (claims posts fuel : ℕ) (p : Option (Task × TestCase)) (w : Option Wrong) (h : Option Heard) → IsAt who start now claims posts p w h → claims ≤ fuel → Prefixes who start now fuel
+at_prefix who start now claims posts fuel p w None s le = breaks_prefixes who start now claims fuel None (goes_on_prefix who start now claims claims posts p s.1) le
+at_prefix who start now claims posts fuel p w (Some Nothing) s le = breaks_prefixes who start now claims fuel None (stands_prefix who start now claims claims posts _ s.2) le
+at_prefix who start now claims posts fuel p w (Some (Refused e)) s le = refused_prefix who start now claims claims posts fuel w e s le
 
 refused_as : (who : Caller) (start now : Line) (claims posts fuel : ℕ) (w : Option Wrong) (e : BenchFault) → RefusedAt who start now claims claims posts w e → claims ≤ fuel → RefusedAs who start now fuel claims posts w e
 refused_as who start now claims posts fuel w fault.Link s le = breaks_broken who start now claims fuel w s le
 refused_as who start now claims posts fuel w fault.Holding s le = stands_talked who start now claims claims posts fuel end.Holding s le
 refused_as who start now claims posts fuel w fault.NoHost s le = stands_talked who start now claims claims posts fuel end.NoHost s le
 refused_as who start now claims posts fuel w (fault.NoCase task) s le = s
-refused_as who start now claims posts fuel w fault.NoMemory s le = breaks_fronts who start now claims fuel w s le
+refused_as who start now claims posts fuel w fault.NoMemory s le = breaks_prefixes who start now claims fuel w s le
 
 none_pending : (j : Option JobValue) (posts tasks : ℕ) → posts + is_pending j ≤ tasks → posts ≡ tasks → pending_job j ≡ None
 none_pending None posts tasks le e = refl
@@ -134,7 +134,7 @@ stands_begun who start now claims posts fuel f s le =
       asks = s.asks;
       rest = (f (fuel - claims) []).asks;
       puts = s.puts;
-      front = ap (λ m. (talk who m s.answers).asks) (sym is) ∙ ap (λ z. (talk who (claims + (fuel - claims)) z).asks) (sym (append-nil s.answers))
+      prefix = ap (λ m. (talk who m s.answers).asks) (sym is) ∙ ap (λ z. (talk who (claims + (fuel - claims)) z).asks) (sym (append-nil s.answers))
           ∙ ap (λ (t : Talk). t.asks) (s.goes (fuel - claims) []) ∙ asks_after s.asks (f (fuel - claims) []);
       claims_are = s.fetches_are;
       posts_are = s.posts_are;
@@ -193,7 +193,7 @@ worked_as who start now claims fuel posts tasks j w h host.Fuel s le few quits i
     (spent_as who start now claims posts fuel (pending_job j) w h s (unheard refl) (none_pending j posts tasks few (all refl)) (spent refl), spent refl)
 worked_as who start now claims fuel posts tasks j w h (host.Bench f) s le few quits idle refused unheard spent all =
     refused_as who start now claims posts fuel w f (subst (IsAt who start now claims posts (pending_job j) w) (refused f refl) s) le
-worked_as who start now claims fuel posts tasks j w h host.NoMemory s le few quits idle refused unheard spent all = at_front who start now claims posts fuel (pending_job j) w h s le
+worked_as who start now claims fuel posts tasks j w h host.NoMemory s le few quits idle refused unheard spent all = at_prefix who start now claims posts fuel (pending_job j) w h s le
 
 -- the same, of the host's end
 pub worked_heard : (who : Caller) (start now : Line) (claims fuel posts tasks : ℕ) (j : Option JobValue) (w : Option Wrong) (h : Option Heard) (e r : HostEnd) → r ≡ end_heard h e
@@ -228,7 +228,7 @@ refused_entry who start now fuel claims posts w fault.Link p b = breaks_broken w
 refused_entry who start now fuel claims posts w fault.Holding p b = absurd p
 refused_entry who start now fuel claims posts w fault.NoHost p b = absurd p
 refused_entry who start now fuel claims posts w (fault.NoCase task) p b = absurd p
-refused_entry who start now fuel claims posts w fault.NoMemory p b = breaks_fronts who start now 0 fuel w b (omega arith)
+refused_entry who start now fuel claims posts w fault.NoMemory p b = breaks_prefixes who start now 0 fuel w b (omega arith)
 
 -- the first of a list of one
 first_in : {A : Type 0} (a : A) → List (A × Unit {0}) → A

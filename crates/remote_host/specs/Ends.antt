@@ -32,18 +32,18 @@ pub record Begun (who : Caller) (start now : Line) (fuel claims posts : ℕ) : T
   pub asks : List Ask
   pub rest : List Ask
   pub puts : Appends start.held now.held (spelled who asks)
-  pub front : (talk who fuel answers).asks ≡ asks ++ rest
+  pub prefix : (talk who fuel answers).asks ≡ asks ++ rest
   pub claims_are : fetches_in asks ≡ claims
   pub posts_are : posts_in asks ≡ posts
 
--- they are a front of it
-pub record Fronts (who : Caller) (start now : Line) (fuel : ℕ) : Type 0 where
+-- they are a prefix of it
+pub record Prefixes (who : Caller) (start now : Line) (fuel : ℕ) : Type 0 where
   pub answers : List Answer
   pub took : Took start now answers
   pub put : List ℕ
   pub rest : List ℕ
   pub puts : Appends start.held now.held put
-  pub front : spelled who (talk who fuel answers).asks ≡ put ++ rest
+  pub prefix : spelled who (talk who fuel answers).asks ≡ put ++ rest
 
 -- A wrong answer ends the talk: where the next response is wanted, its head or its length is wrong, or its body is.
 abbrev pub IfWrong : Caller → ℕ → Option Wrong → List Answer → Line → Type 0
@@ -51,14 +51,14 @@ IfWrong who fuel None answers now = ⊤
 IfWrong who fuel (Some w) answers now =
     (IsHeadWrong w now.ahead now.left × ((talk who fuel answers).end ≡ end.Wants)) ⊎ ((talk who fuel answers).end ≡ end.Wronged w)
 
--- They are a front of it, and where a wrong answer was met, the talk ends at it.
+-- They are a prefix of it, and where a wrong answer was met, the talk ends at it.
 pub record Broken (who : Caller) (start now : Line) (fuel : ℕ) (w : Option Wrong) : Type 0 where
   pub answers : List Answer
   pub took : Took start now answers
   pub put : List ℕ
   pub rest : List ℕ
   pub puts : Appends start.held now.held put
-  pub front : spelled who (talk who fuel answers).asks ≡ put ++ rest
+  pub prefix : spelled who (talk who fuel answers).asks ≡ put ++ rest
   pub wrong : IfWrong who fuel w answers now
 
 abbrev pub RefusedAs : Caller → Line → Line → (fuel claims posts : ℕ) → Option Wrong → BenchFault → Type 0
@@ -66,7 +66,7 @@ RefusedAs who start now fuel claims posts w fault.Link = Broken who start now fu
 RefusedAs who start now fuel claims posts w fault.Holding = Talked who start now fuel claims posts end.Holding
 RefusedAs who start now fuel claims posts w fault.NoHost = Talked who start now fuel claims posts end.NoHost
 RefusedAs who start now fuel claims posts w (fault.NoCase task) = ⊥
-RefusedAs who start now fuel claims posts w fault.NoMemory = Fronts who start now fuel
+RefusedAs who start now fuel claims posts w fault.NoMemory = Prefixes who start now fuel
 
 -- by how the host ended
 abbrev pub WorkedAs : Caller → Line → Line → (fuel claims posts : ℕ) → Option Wrong → HostEnd → Type 0
@@ -74,4 +74,4 @@ WorkedAs who start now fuel claims posts w host.Idle = Talked who start now fuel
 WorkedAs who start now fuel claims posts w (host.Died p turn) = Begun who start now fuel claims posts
 WorkedAs who start now fuel claims posts w host.Fuel = Talked who start now fuel claims posts end.Spent × (claims ≡ fuel)
 WorkedAs who start now fuel claims posts w (host.Bench f) = RefusedAs who start now fuel claims posts w f
-WorkedAs who start now fuel claims posts w host.NoMemory = Fronts who start now fuel
+WorkedAs who start now fuel claims posts w host.NoMemory = Prefixes who start now fuel

@@ -34,10 +34,10 @@ pub record Took (start now : Line) (answers : List Answer) : Type 0 where
 
 -- a request was put, and its response taken
 pub record Exchanged (old new : Line) (asked : List ℕ) (a : Answer) : Type 0 where
-  pub front : List ℕ
+  pub prefix : List ℕ
   pub puts : Appends old.held new.held asked
-  pub took : Consumes old.left new.left front
-  pub is : IsAnswer (old.ahead ++ front) a new.ahead
+  pub took : Consumes old.left new.left prefix
+  pub is : IsAnswer (old.ahead ++ prefix) a new.ahead
 
 -- what of the responses is a wrong answer, where their bytes end so
 abbrev pub IsHeadWrong : Wrong → List ℕ → Option (List ℕ) → Type 0
@@ -53,15 +53,15 @@ abbrev pub IfHeadWrong : Option Wrong → List ℕ → Option (List ℕ) → Typ
 IfHeadWrong None bytes left = ⊤
 IfHeadWrong (Some w) bytes left = IsHeadWrong w bytes left
 
--- a front of a request was put, and no response taken
+-- a prefix of a request was put, and no response taken
 pub record Stopped (old new : Line) (asked : List ℕ) (w : Option Wrong) : Type 0 where
   pub put : List ℕ
   pub rest : List ℕ
   pub whole : asked ≡ put ++ rest
-  pub front : List ℕ
+  pub prefix : List ℕ
   pub puts : Appends old.held new.held put
-  pub took : Consumes old.left new.left front
-  pub ahead : new.ahead ≡ old.ahead ++ front
+  pub took : Consumes old.left new.left prefix
+  pub ahead : new.ahead ≡ old.ahead ++ prefix
   pub why : IfHeadWrong w new.ahead new.left
 
 -- Since the start these requests were put and these responses taken, and whatever comes, the talk goes on with `next`.
@@ -83,13 +83,13 @@ IfWronged who (Some w) claims answers now =
     (IsHeadWrong w now.ahead now.left × ((n : ℕ) → (talk who (claims + n) answers).end ≡ end.Wants))
     ⊎ ((n : ℕ) (more : List Answer) → (talk who (claims + n) (answers ++ more)).end ≡ end.Wronged w)
 
--- Since the start a front of the talk's requests was put.
+-- Since the start a prefix of the talk's requests was put.
 pub record Breaks (who : Caller) (start now : Line) (claims : ℕ) (w : Option Wrong) : Type 0 where
   pub answers : List Answer
   pub put : List ℕ
   pub puts : Appends start.held now.held put
   pub took : Took start now answers
-  pub front : (n : ℕ) (more : List Answer)
+  pub prefix : (n : ℕ) (more : List Answer)
       → (rest : List ℕ) × (spelled who (talk who (claims + n) (answers ++ more)).asks ≡ put ++ rest)
   pub wronged : IfWronged who w claims answers now
 

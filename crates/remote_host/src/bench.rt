@@ -211,7 +211,7 @@ impl<N: Source + Sink> Bench for RemoteBench<N> {
     fn claim(&mut self) -> Claimed {
         self.claims += 1;
         self.job = None;
-        match self.talker.turn(&self.caller) {
+        match self.talker.fetch_job(&self.caller) {
             Ok(said) => match said {
                 Some(job) => {
                     let task = job.task();

@@ -64,7 +64,7 @@ fn round<N: Source + Sink, G: Gate>(
 /// Works as a host over a connection, where the host's name was entered. Where the host waits and no task is open, it
 /// pauses and asks again.
 ///
-/// What was put on the connection since it came is the talk of the responses that were taken, or a front of it.
+/// What was put on the connection since it came is the talk of the responses that were taken, or a prefix of it.
 fn work<N: Source + Sink, G: Gate, P: Pause>(
     runner: &Runner,
     bench: &mut RemoteBench<N>,
@@ -156,7 +156,7 @@ pub struct Worked<N> {
 /// Works as a host over a connection on which nothing was done yet: enters the host's name, and claims one task after the
 /// other, runs its case and posts the result. Where the host waits and no task is open, it pauses and asks again.
 ///
-/// What was put on the connection is the talk of the responses that were taken, or a front of it.
+/// What was put on the connection is the talk of the responses that were taken, or a prefix of it.
 pub fn work_over<N: Source + Sink, G: Gate, P: Pause>(
     alloc: Global,
     conn: N,

@@ -38,7 +38,7 @@ fn without_return(text: &[u8]) -> &[u8]
     ensures { result.now ≡ strip_last 13 text.now }
 {
     match text {
-        [front @ .., b'\r'] => front,
+        [prefix @ .., b'\r'] => prefix,
         _ => text,
     }
 }
@@ -48,7 +48,7 @@ fn without_line_end(bytes: &[u8]) -> &[u8]
     ensures { result.now ≡ without_line_end bytes.now }
 {
     match bytes {
-        [front @ .., b'\n'] => without_return(front),
+        [prefix @ .., b'\n'] => without_return(prefix),
         _ => bytes,
     }
 }

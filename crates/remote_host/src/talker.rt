@@ -264,7 +264,7 @@ impl<N: Source + Sink> Talker<N> {
     }
 
     /// Asks for a task and its case. None where no task is open.
-    pub fn turn(&mut self, caller: &Caller) -> Result<Option<Job>, BenchFault>
+    pub fn fetch_job(&mut self, caller: &Caller) -> Result<Option<Job>, BenchFault>
         requires source { (n : N) → N.Source.beside n ≡ side (N.held n) (N.Sink.faults n) }
         requires sink { (n : N) → N.Sink.beside n ≡ side (N.left n) (N.Source.faults n) }
         ensures talks { (start : Line) (claims fetched posted : ℕ) → self.old.wrong ≡ None

@@ -13,10 +13,10 @@ use Rattle.farm_model.specs.Numbers.{number_of}
 use Rattle.command_text.proofs.Decimals.{number_of-decimal}
 use Rattle.wire_json.specs.declared.routes.Route.{Route}
 use Rattle.wire_json.specs.declared.routes.Route.TheVariants as route
-use Rattle.judge_server.specs.declared.paths.Place.{Place}
-use Rattle.judge_server.specs.declared.paths.Place.TheVariants as place
-use Rattle.judge_server.specs.Table.{rows, place_in}
-use Rattle.judge_server.specs.Routes.{before, behind, id_of, job_of, with_id, job_with, route_at, route_by, route_of}
+use Rattle.farm_api.specs.declared.paths.Place.{Place}
+use Rattle.farm_api.specs.declared.paths.Place.TheVariants as place
+use Rattle.farm_api.specs.Table.{rows, place_in}
+use Rattle.farm_api.specs.Routes.{before, behind, id_of, job_of, with_id, job_with, route_at, route_by, route_of}
 use Rattle.route_laws.proofs.Spelling.{AreSlashless}
 use Rattle.route_laws.specs.PathTexts.{path_text, IsId, HasIds}
 use Rattle.route_laws.proofs.Seeking.{HasRow, Spells, found}
@@ -117,19 +117,19 @@ id_said : (make : ℕ → Route) (o : Option ℕ) (r : Route) → with_id make o
 id_said make None r e = let no' : ⊥ = cc in absurd no'
 id_said make (Some id) r e = (id, refl, let is : make id ≡ r = cc in is)
 
-with_one : (make : ℕ → Route) (front back v path : List ℕ) (r : Route) → path ≡ front ++ (v ++ back) → id_of path ≡ number_of v
-    → ((id : ℕ) → path_text (make id) ≡ front ++ (decimal id ++ back)) → ((id : ℕ) → IsId id → HasIds (make id)) → with_id make (id_of path) ≡ Some r → (path ≡ path_text r) × HasIds r
-with_one make front back v path r is read text ids e =
+with_one : (make : ℕ → Route) (prefix back v path : List ℕ) (r : Route) → path ≡ prefix ++ (v ++ back) → id_of path ≡ number_of v
+    → ((id : ℕ) → path_text (make id) ≡ prefix ++ (decimal id ++ back)) → ((id : ℕ) → IsId id → HasIds (make id)) → with_id make (id_of path) ≡ Some r → (path ≡ path_text r) × HasIds r
+with_one make prefix back v path r is read text ids e =
     let said = id_said make (id_of path) r e in
     let w = written v said.0 (sym read ∙ said.1) in
-    subst (λ (x : Route). (path ≡ path_text x) × HasIds x) said.2 (is ∙ (ap (λ (z : List ℕ). front ++ (z ++ back)) w.0 ∙ sym (text said.0)), ids said.0 w.1)
+    subst (λ (x : Route). (path ≡ path_text x) × HasIds x) said.2 (is ∙ (ap (λ (z : List ℕ). prefix ++ (z ++ back)) w.0 ∙ sym (text said.0)), ids said.0 w.1)
 
-with_last : (make : ℕ → Route) (front v path : List ℕ) (r : Route) → path ≡ front ++ v → id_of path ≡ number_of v
-    → ((id : ℕ) → path_text (make id) ≡ front ++ decimal id) → ((id : ℕ) → IsId id → HasIds (make id)) → with_id make (id_of path) ≡ Some r → (path ≡ path_text r) × HasIds r
-with_last make front v path r is read text ids e =
+with_last : (make : ℕ → Route) (prefix v path : List ℕ) (r : Route) → path ≡ prefix ++ v → id_of path ≡ number_of v
+    → ((id : ℕ) → path_text (make id) ≡ prefix ++ decimal id) → ((id : ℕ) → IsId id → HasIds (make id)) → with_id make (id_of path) ≡ Some r → (path ≡ path_text r) × HasIds r
+with_last make prefix v path r is read text ids e =
     let said = id_said make (id_of path) r e in
     let w = written v said.0 (sym read ∙ said.1) in
-    subst (λ (x : Route). (path ≡ path_text x) × HasIds x) said.2 (is ∙ (ap (λ (z : List ℕ). front ++ z) w.0 ∙ sym (text said.0)), ids said.0 w.1)
+    subst (λ (x : Route). (path ≡ path_text x) × HasIds x) said.2 (is ∙ (ap (λ (z : List ℕ). prefix ++ z) w.0 ∙ sym (text said.0)), ids said.0 w.1)
 
 job_said : (o p : Option ℕ) (r : Route) → job_with o p ≡ Some r → (judging test : ℕ) × (o ≡ Some judging) × (p ≡ Some test) × (route.Job judging test ≡ r)
 job_said None p r e = let no' : ⊥ = cc in absurd no'
@@ -241,19 +241,19 @@ no_other_path path r e =
 number_read : (id : ℕ) → IsId id → number_of (decimal id) ≡ Some id
 number_read id h = number_of-decimal id h
 
-place_between : (front back : List ℕ) (p : Place) → is_plain front rows ≡ true → TakesNumber (walked front rows) → goes_on (step param_token (walked front rows)) ≡ true
-    → option_map (λ row. row.value) (seek 0 (with_suffix one_slash (step param_token (walked front rows))) (47 ∷ back)) ≡ Some p
-    → (id : ℕ) → IsId id → place_in rows (front ++ (decimal id ++ 47 ∷ back)) ≡ Some p
-place_between front back p plain takes on there id h =
+place_between : (prefix back : List ℕ) (p : Place) → is_plain prefix rows ≡ true → TakesNumber (walked prefix rows) → goes_on (step param_token (walked prefix rows)) ≡ true
+    → option_map (λ row. row.value) (seek 0 (with_suffix one_slash (step param_token (walked prefix rows))) (47 ∷ back)) ≡ Some p
+    → (id : ℕ) → IsId id → place_in rows (prefix ++ (decimal id ++ 47 ∷ back)) ≡ Some p
+place_between prefix back p plain takes on there id h =
     ap (λ (o : Option (RouteOf Place)). option_map (λ row. row.value) o) (
-    walk front rows (decimal id ++ 47 ∷ back) plain ∙ number_between (walked front rows) (decimal id) back (decimal_is_digits id h) takes on
+    walk prefix rows (decimal id ++ 47 ∷ back) plain ∙ number_between (walked prefix rows) (decimal id) back (decimal_is_digits id h) takes on
     )
     ∙ there
 
-place_last : (front : List ℕ) (p : Place) → is_plain front rows ≡ true → TakesNumber (walked front rows)
-    → option_map (λ row. row.value) (own (step param_token (walked front rows))) ≡ Some p → (id : ℕ) → IsId id → place_in rows (front ++ decimal id) ≡ Some p
-place_last front p plain takes there id h =
-    ap (λ (o : Option (RouteOf Place)). option_map (λ row. row.value) o) (walk front rows (decimal id) plain ∙ number_at_end (walked front rows) (decimal id) (decimal_is_digits id h) takes)
+place_last : (prefix : List ℕ) (p : Place) → is_plain prefix rows ≡ true → TakesNumber (walked prefix rows)
+    → option_map (λ row. row.value) (own (step param_token (walked prefix rows))) ≡ Some p → (id : ℕ) → IsId id → place_in rows (prefix ++ decimal id) ≡ Some p
+place_last prefix p plain takes there id h =
+    ap (λ (o : Option (RouteOf Place)). option_map (λ row. row.value) o) (walk prefix rows (decimal id) plain ∙ number_at_end (walked prefix rows) (decimal id) (decimal_is_digits id h) takes)
     ∙ there
 
 make_route : (make : ℕ → Route) (path : List ℕ) (p : Place) (id : ℕ) → IsId id → place_in rows path ≡ Some p → route_at p path ≡ with_id make (id_of path)
@@ -381,11 +381,11 @@ job_place = refl
 
 job_path : (judging test : ℕ) → IsId judging → IsId test → route_of (path_text (route.Job judging test)) ≡ Some (route.Job judging test)
 job_path judging test h k =
-    let front = codes "/judgehosts/job/" in
+    let prefix = codes "/judgehosts/job/" in
     let path = path_text (route.Job judging test) in
     let leads : first rows path ≡ own (step param_token (walked one_slash tests))
-    = walk front rows (decimal judging ++ 47 ∷ decimal test) jobs_plain
-    ∙ (number_between (walked front rows) (decimal judging) (decimal test) (decimal_is_digits judging h) jobs_take jobs_go_on
+    = walk prefix rows (decimal judging ++ 47 ∷ decimal test) jobs_plain
+    ∙ (number_between (walked prefix rows) (decimal judging) (decimal test) (decimal_is_digits judging h) jobs_take jobs_go_on
     ∙ (walk one_slash tests (decimal test) tests_plain ∙ number_at_end (walked one_slash tests) (decimal test) (decimal_is_digits test k) tests_take)) in
     let there : place_in rows path ≡ Some place.Job = ap (λ (o : Option (RouteOf Place)). option_map (λ row. row.value) o) leads ∙ job_place in
     let slashless = decimal_slashless judging h in

@@ -3,7 +3,7 @@ use Rattle.std.proofs.Common.{ℕ, suc, ◌≡◌, ◌+◌, List, [], ◌∷◌,
 use Rattle.std.specs.List.{position_or_len}
 use Rattle.std.proofs.lemmas.Bool.{eqb-true}
 use Rattle.std.proofs.Math.Seq.{take-append_seam, take-length}
-use Rattle.judge_server.specs.Routes.{path_of}
+use Rattle.farm_api.specs.Routes.{path_of}
 
 abbrev is_mark : ℕ → Bool
 is_mark b = eqb b 63

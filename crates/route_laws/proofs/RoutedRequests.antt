@@ -5,12 +5,12 @@ use Rattle.std.specs.Str.{bytes_eq}
 use Rattle.std.proofs.lemmas.Slice.Eq.{bytes_eq-Decides}
 use Rattle.matchit.proofs.OnLiterals.{matchit_on_literals}
 use Rattle.wire_json.specs.declared.routes.Route.{Route}
-use Rattle.judge_server.specs.declared.paths.Place.{Place}
-use Rattle.judge_server.specs.declared.paths.Place.TheVariants as place
-use Rattle.judge_server.specs.declared.routes.Routed.{Routed}
-use Rattle.judge_server.specs.declared.routes.Routed.TheVariants as routed
-use Rattle.judge_server.specs.Table.{rows, place_in}
-use Rattle.judge_server.specs.Routes.{path_of, method_of, route_at, route_by, route_of, routed_by, got_by, routed_at, routed_of}
+use Rattle.farm_api.specs.declared.paths.Place.{Place}
+use Rattle.farm_api.specs.declared.paths.Place.TheVariants as place
+use Rattle.farm_api.specs.declared.routes.Routed.{Routed}
+use Rattle.farm_api.specs.declared.routes.Routed.TheVariants as routed
+use Rattle.farm_api.specs.Table.{rows, place_in}
+use Rattle.farm_api.specs.Routes.{path_of, method_of, route_at, route_by, route_of, routed_by, got_by, routed_at, routed_of}
 use Rattle.route_laws.specs.PathTexts.{path_text, HasIds, NamesNothing}
 use Rattle.route_laws.proofs.Seeking.{Spells}
 use Rattle.route_laws.proofs.Patterns.{pattern_of, named, place_of, no_other_path, each_path}

@@ -68,12 +68,12 @@ abbrev pub is_plain : {K : Type 0} → List ℕ → RowsOf K → Bool
 is_plain [] rows = true
 is_plain (b ∷ bytes) rows = is_empty (step param_token rows) && (is_empty (step catch_all_token rows) && is_plain bytes (step b rows))
 
-pub walk : {K : Type 0} (front : List ℕ) (rows : RowsOf K) (path : List ℕ) → is_plain front rows ≡ true → seek 0 rows (front ++ path) ≡ seek 0 (walked front rows) path
+pub walk : {K : Type 0} (prefix : List ℕ) (rows : RowsOf K) (path : List ℕ) → is_plain prefix rows ≡ true → seek 0 rows (prefix ++ path) ≡ seek 0 (walked prefix rows) path
 walk [] rows path e = refl
-walk (b ∷ front) rows path e =
+walk (b ∷ prefix) rows path e =
     let parts = and_parts (is_empty (step param_token rows)) _ e in
     let rest = and_parts (is_empty (step catch_all_token rows)) _ parts.1 in
-    byte_walk rows b (front ++ path) (empty_is _ parts.0) (empty_is _ rest.0) ∙ walk front (step b rows) path rest.1
+    byte_walk rows b (prefix ++ path) (empty_is _ parts.0) (empty_is _ rest.0) ∙ walk prefix (step b rows) path rest.1
 
 -- ---- a number where the patterns have a parameter
 

@@ -1,8 +1,8 @@
 ghost use Rattle.std.specs.Prelude.{◌≡◌, ◌↔◌, ◌++◌, ◌∷◌, ℕ, List, Some, codes};
 ghost use Rattle.std.specs.List.{Contains};
 ghost use Rattle.wire_json.specs.declared.routes.Route.{Route};
-ghost use Rattle.judge_server.specs.declared.routes.Routed.TheVariants as routed;
-ghost use Rattle.judge_server.specs.Routes.{path_of, method_of, route_of, routed_of};
+ghost use Rattle.farm_api.specs.declared.routes.Routed.TheVariants as routed;
+ghost use Rattle.farm_api.specs.Routes.{path_of, method_of, route_of, routed_of};
 ghost use Rattle.route_laws.specs.PathTexts.{path_text, HasIds, NamesNothing};
 
 /// The path of a route whose ids are in range names that route, and no other path does.

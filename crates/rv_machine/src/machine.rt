@@ -8,7 +8,7 @@ use crate::code::{Code, forget_stale};
 use crate::ending::{Ending, Trap};
 use crate::files::Files;
 use crate::processor::{Processor, Stop, next_pc};
-use crate::running::{enter, run_in_page};
+use crate::running::{fetch_page, run_in_page};
 use farm_kinds::{Limits, NoMemory};
 use rv_memory::Memory;
 use std::alloc::Global;
@@ -172,7 +172,7 @@ impl<'a> Machine<'a> {
             if self.cost >= limit {
                 return Stop::Ended(Ending::Time);
             }
-            let here = match enter(&mut self.processor, &mut self.code, self.pc) {
+            let here = match fetch_page(&mut self.processor, &mut self.code, self.pc) {
                 Ok(here) => here,
                 Err(stop) => return stop,
             };

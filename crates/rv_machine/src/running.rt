@@ -37,7 +37,7 @@ pub enum Fetch {
 
 /// Touches the page of pc, and sees that the word there is decoded; gives the place of the decoded page.
 #[inline(never)]
-pub fn enter(processor: &mut Processor, code: &mut Code, pc: u32) -> Result<usize, Stop>
+pub fn fetch_page(processor: &mut Processor, code: &mut Code, pc: u32) -> Result<usize, Stop>
     requires aligned { pc % 4 ≡ 0 }
     requires code { decoded.IsCode processor.old.memory code.old }
     ensures code { decoded.IsCode processor.new.memory code.new }

@@ -22,7 +22,7 @@ use Rattle.script_session.specs.declared.end.StoredEnd.{StoredEnd}
 use Rattle.script_session.specs.declared.end.StoredEnd.TheVariants as end
 use Rattle.script_session.specs.Session.{SessionState, IsShort}
 use Rattle.script_session.specs.Keeping.{StoredEndsAs, WroteOf}
-use Rattle.script_session.specs.Storing.{LeavesFront, HoldsFront, HasRoom}
+use Rattle.script_session.specs.Storing.{LeavesPrefix, HoldsPrefix, HasRoom}
 use Rattle.script_session.proofs.Storings.{rests_lines}
 use Rattle.exit_status.specs.declared.exit.Exit.{Exit}
 use Rattle.exit_status.specs.declared.exit.Exit.TheVariants as exit
@@ -31,7 +31,7 @@ use Rattle.exit_status.specs.declared.flaw.StoreFlaw.TheVariants as store_flaw
 use Rattle.script_commands.specs.declared.config.BadConfig.{BadConfig}
 use Rattle.script_commands.specs.Config.{ConfigIs}
 use Rattle.script_commands.specs.Scripted.{Streams, session, NoSettingsEnds}
-use Rattle.script_commands.specs.Stored.{StoreUse, file_before, IsConfigured, IsToldConfig, StoredIsDone, HoldsOrGoesOn, StoresFront, IsPlayed, IsUnplayed, IsFlawed, open_fault, bad_store_line, FlawEnds, exit_of, StoreEnds, StoredEnds, store_limit, lines_before, IsUnopened, IsOnlyRead, ListEnds}
+use Rattle.script_commands.specs.Stored.{StoreUse, file_before, IsConfigured, IsToldConfig, StoredIsDone, HoldsOrGoesOn, StoresPrefix, IsPlayed, IsUnplayed, IsFlawed, open_fault, bad_store_line, FlawEnds, exit_of, StoreEnds, StoredEnds, store_limit, lines_before, IsUnopened, IsOnlyRead, ListEnds}
 
 -- What a crash leaves
 
@@ -40,24 +40,24 @@ begun digest lines s all file (inl same) = inl same
 begun digest lines s all file (inr began) = inr (record { more = []; others = all; run = refl; holds = began ∙ sym (append-nil (opened_lines digest lines)) })
 
 -- the opening and the session behind it
-stores_front : (digest : List ℕ) (s : State) (t0 t2 t3 : DiskTime) (mark : ℕ) (least all : List Event)
+stores_prefix : (digest : List ℕ) (s : State) (t0 t2 t3 : DiskTime) (mark : ℕ) (least all : List Event)
     → (IsQuiet t0.now → AtEachMoment (HoldsOrBegins digest (held t0.now.seen)) t0 t2) → Rests t2.now (opened_lines digest (held t0.now.seen)) mark
-    → LeavesFront (held t2.now.seen) s t2 t3 least all → StoresFront digest s t0 t3 least all
-stores_front digest s t0 t2 t3 mark least all begins rests leaves =
+    → LeavesPrefix (held t2.now.seen) s t2 t3 least all → StoresPrefix digest s t0 t3 least all
+stores_prefix digest s t0 t2 t3 mark least all begins rests leaves =
     let lines = held t0.now.seen in
     let opened = opened_lines digest lines in
     let P : List ℕ → Type 0 = HoldsOrGoesOn digest lines s all in
-    let behind = subst (λ (l : List (List ℕ)). LeavesFront l s t2 t3 least all) (rests_lines t2.now opened mark rests) leaves in
+    let behind = subst (λ (l : List (List ℕ)). LeavesPrefix l s t2 t3 least all) (rests_lines t2.now opened mark rests) leaves in
     record {
       moments = λ quiet.
           followed P t0 t2 t3 (weaken (HoldsOrBegins digest lines) P t0 t2 (begun digest lines s all) (begins quiet))
-          (weaken (HoldsFront opened s [] all) P t2 t3 (λ file h. inr h) behind.moments);
+          (weaken (HoldsPrefix opened s [] all) P t2 t3 (λ file h. inr h) behind.moments);
       acknowledged = behind.acknowledged;
     }
 
 whole_run : (digest : List ℕ) (s : State) (t0 t2 t3 : DiskTime) (mark : ℕ) (b b' : SessionState)
     → (IsQuiet t0.now → AtEachMoment (HoldsOrBegins digest (held t0.now.seen)) t0 t2) → Rests t2.now (opened_lines digest (held t0.now.seen)) mark
-    → WroteOf (LeavesFront (held t2.now.seen) s t2 t3) b b' → WroteOf (StoresFront digest s t0 t3) b b'
+    → WroteOf (LeavesPrefix (held t2.now.seen) s t2 t3) b b' → WroteOf (StoresPrefix digest s t0 t3) b b'
 whole_run digest s t0 t2 t3 mark b b' begins rests w = record {
   bytes = w.bytes;
   took = w.took;
@@ -68,7 +68,7 @@ whole_run digest s t0 t2 t3 mark b b' begins rests w = record {
   wrote = w.wrote;
   after = w.after;
   prefix = w.prefix;
-  holds = stores_front digest s t0 t2 t3 mark _ _ begins rests w.holds;
+  holds = stores_prefix digest s t0 t2 t3 mark _ _ begins rests w.holds;
 }
 
 -- a disk before a command and after it
@@ -110,7 +110,7 @@ module _ (files : Option (List TreeFile)) (config : Option (List ℕ)) (path dig
 
       pub played : (t3 : DiskTime) (o3 : Option Opening) (f : ℕ) (old new : Streams) (farm1 farm2 : State) (mark limit : ℕ) (e : StoredEnd)
           → o3 ≡ o2 → (IsTrue tells → (opened_of digest farm0 t1.now.seen ≡ Ok farm1) × Rests t2.now (opened_lines digest (held t1.now.seen)) mark)
-          → StoredEndsAs e (session farm1 old) (session farm2 new) → (IsTrue tells → WroteOf (LeavesFront (held t2.now.seen) farm1 t2 t3) (session farm1 old) (session farm2 new))
+          → StoredEndsAs e (session farm1 old) (session farm2 new) → (IsTrue tells → WroteOf (LeavesPrefix (held t2.now.seen) farm1 t2 t3) (session farm1 old) (session farm2 new))
           → WroteOf (HasRoom e mark limit farm1) (session farm1 old) (session farm2 new) → limit ≡ store_limit → IsPlayed files config path (use_of tells t0 o0 f0 t3 o3 f) old new e
       played t3 o3 f old new farm1 farm2 mark limit e third_path opens ends stored room limited =
           let rests : IsTrue tells → Rests t2.now (opened_lines digest (held t0.now.seen)) mark = λ told. subst (λ (t : DiskTime). Rests t2.now (opened_lines digest (held t.now.seen)) mark) (still told) (opens told).1 in
@@ -245,7 +245,7 @@ no_store_ends path disk first second last unwritten exit.Memory read none same k
         text = [];
         after = store_text (lines_before disk);
         put = subst (λ (o : Option (List ℕ)). Appends first o []) (sym (kept h ∙ same)) (Appends-nil first);
-        front = refl;
+        prefix = refl;
       };
 }
 no_store_ends path disk first second last unwritten exit.TreeFault read none same kept h = h

@@ -18,8 +18,8 @@ use Rattle.script_session.specs.declared.end.StoredEnd.{StoredEnd}
 use Rattle.script_session.specs.declared.end.StoredEnd.TheVariants as end
 use Rattle.script_session.specs.Session.{IsShort}
 use Rattle.script_session.specs.Keeping.{StoredEndsAs, WroteOf}
-use Rattle.script_session.specs.Storing.{HoldsFront, HasRoom}
-use Rattle.store_listing.specs.Listing.{store_text, is_store, PutsFront}
+use Rattle.script_session.specs.Storing.{HoldsPrefix, HasRoom}
+use Rattle.store_listing.specs.Listing.{store_text, is_store, PutsPrefix}
 use Rattle.exit_status.specs.declared.exit.Exit.{Exit}
 use Rattle.exit_status.specs.declared.exit.Exit.TheVariants as exit
 use Rattle.exit_status.specs.declared.flaw.StoreFlaw.{StoreFlaw}
@@ -69,15 +69,15 @@ IsToldConfig files (Some path) settings digest =
 
 -- A store that was opened and played on
 
--- what it held, or the lines that it holds once it is open, and behind them what is stored of a front of the run
+-- what it held, or the lines that it holds once it is open, and behind them what is stored of a prefix of the run
 abbrev pub HoldsOrGoesOn : List ℕ → List (List ℕ) → State → List Event → List ℕ → Type 0
-HoldsOrGoesOn digest lines s all file = (held file ≡ lines) ⊎ HoldsFront (opened_lines digest lines) s [] all file
+HoldsOrGoesOn digest lines s all file = (held file ≡ lines) ⊎ HoldsPrefix (opened_lines digest lines) s [] all file
 
 -- Where nothing was pending, a crash at any moment, in the opening too, leaves what the store held and what is stored of a
--- front of the run. One at the end of it leaves what is stored of these events at least.
-pub record StoresFront (digest : List ℕ) (s : State) (old new : DiskTime) (least all : List Event) : Type 0 where
+-- prefix of the run. One at the end of it leaves what is stored of these events at least.
+pub record StoresPrefix (digest : List ℕ) (s : State) (old new : DiskTime) (least all : List Event) : Type 0 where
   pub moments : IsQuiet old.now → AtEachMoment (HoldsOrGoesOn digest (held old.now.seen) s all) old new
-  pub acknowledged : Leaves (HoldsFront (opened_lines digest (held old.now.seen)) s least all) new.now
+  pub acknowledged : Leaves (HoldsPrefix (opened_lines digest (held old.now.seen)) s least all) new.now
 
 -- The file at the path was opened, and lines were played on the farm that it held. Events to whose replies a part was
 -- written are stored.
@@ -92,7 +92,7 @@ pub record IsPlayed (files : Option (List TreeFile)) (config : Option (List ℕ)
   pub leads : IsTrue disk.tells → opened_of digest (start settings) (file_before disk) ≡ Ok first
   pub ends : StoredEndsAs e (session first old) (session last new)
   pub stored : IsTrue disk.tells
-      → WroteOf (StoresFront digest first disk.old.time disk.new.time) (session first old) (session last new)
+      → WroteOf (StoresPrefix digest first disk.old.time disk.new.time) (session first old) (session last new)
   -- where the records of the open store end
   pub mark : ℕ
   pub begins : IsTrue disk.tells → (file : List ℕ) × IsClosedAt file (opened_lines digest (lines_before disk)) mark
@@ -230,10 +230,10 @@ pub record IsListing (disk : StoreUse) (out out' : Option (List ℕ)) : Type 0 w
   pub is : IsTrue disk.tells → IsTrue (is_store (file_before disk))
   pub wrote : IsTrue disk.tells → Appends out out' (store_text (lines_before disk))
 
--- a front of them was written, perhaps no byte, and nothing to the disk
-pub record IsListingFront (disk : StoreUse) (out out' : Option (List ℕ)) : Type 0 where
+-- a prefix of them was written, perhaps no byte, and nothing to the disk
+pub record IsListingPrefix (disk : StoreUse) (out out' : Option (List ℕ)) : Type 0 where
   pub still : IsTrue disk.tells → disk.new.time ≡ disk.old.time
-  pub wrote : IsTrue disk.tells → PutsFront out out' (store_text (lines_before disk))
+  pub wrote : IsTrue disk.tells → PutsPrefix out out' (store_text (lines_before disk))
 
 -- how it ends
 abbrev pub ListEnds : List ℕ → StoreUse → Option (List ℕ) → Option (List ℕ) → Exit → Type 0
@@ -242,14 +242,14 @@ ListEnds path disk out out' exit.Usage = ⊥
 ListEnds path disk out out' exit.BadContest = ⊥
 ListEnds path disk out out' exit.ReadFault = ⊥
 ListEnds path disk out out' exit.WriteFault =
-    IsOnlyRead path disk × (IsListingFront disk out out' ⊎ FlawTold (IsNoStore disk) out out')
-ListEnds path disk out out' exit.Memory = IsListingFront disk out out'
+    IsOnlyRead path disk × (IsListingPrefix disk out out' ⊎ FlawTold (IsNoStore disk) out out')
+ListEnds path disk out out' exit.Memory = IsListingPrefix disk out out'
 ListEnds path disk out out' exit.TreeFault = ⊥
 ListEnds path disk out out' exit.DoorFault = ⊥
 ListEnds path disk out out' exit.InputLimit = ⊥
 ListEnds path disk out out' exit.LinkFault = ⊥
 ListEnds path disk out out' (exit.BadAnswer answer) = ⊥
-ListEnds path disk out out' exit.StoreFault = IsListingFront disk out out'
+ListEnds path disk out out' exit.StoreFault = IsListingPrefix disk out out'
 ListEnds path disk out out' (exit.BadStore flaw) =
     IsOnlyRead path disk × IsNoStore disk flaw × Appends out out' (bad_store_line flaw)
 ListEnds path disk out out' (exit.StoreFull mark) = ⊥

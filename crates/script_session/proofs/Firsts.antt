@@ -51,11 +51,11 @@ put_first b p held (Some end.NoMemory) unfed put (inl is) u = let none : Some en
 put_first b p held (Some end.NoMemory) unfed put (inr (inl is)) u = let other : Some end.NoMemory ≡ Some end.StoreFault = is in cc
 put_first b p held (Some end.NoMemory) unfed put (inr (inr is)) u = let other : Some end.NoMemory ≡ Some end.WriteFault = is in cc
 
--- what was put of what is pending is its front
-pub put_front : (held held' : Option (List ℕ)) (old new : List ℕ) (e : PutEnd) → PutsPending held held' old new e → (n : ℕ) × Appends held held' (take n old)
-put_front held held' old new put.Done h =
+-- what was put of what is pending is its prefix
+pub put_prefix : (held held' : Option (List ℕ)) (old new : List ℕ) (e : PutEnd) → PutsPending held held' old new e → (n : ℕ) × Appends held held' (take n old)
+put_prefix held held' old new put.Done h =
     (length h.0, subst (λ (w : List ℕ). Appends held held' w) (sym (ap (λ (w : List ℕ). take (length h.0) w) h.2 ∙ take-append_seam h.0 new)) h.1)
-put_front held held' old new put.Failed h = h
+put_prefix held held' old new put.Failed h = h
 
 -- A line was read, and memory or room was wanted for it.
 module _ (b : SessionState) (p : Standing) (left held : Option (List ℕ)) (reader : ReaderValue) (first : Cut) (farm : State) (n : ℕ) (t : TookLine p left reader first) where
@@ -68,10 +68,10 @@ module _ (b : SessionState) (p : Standing) (left held : Option (List ℕ)) (read
   pub one_unanswered : (farm ≡ p.farm) ⊎ (farm ≡ (after_line p.farm first).0) → Appends p.held held (take n p.pending) → IsUnderWay b p
       → OneUnanswered b (record { farm = farm; left = left; held = held })
   one_unanswered f put u =
-      let whole : u.piece ++ (p.reader.ahead ++ t.front) ≡ (u.piece ++ t.piece) ++ reader.ahead = ap (λ w. u.piece ++ w) t.first.whole ∙ sym (append_assoc u.piece t.piece reader.ahead) in
+      let whole : u.piece ++ (p.reader.ahead ++ t.prefix) ≡ (u.piece ++ t.piece) ++ reader.ahead = ap (λ w. u.piece ++ w) t.first.whole ∙ sym (append_assoc u.piece t.piece reader.ahead) in
       record {
-        bytes = u.piece ++ (p.reader.ahead ++ t.front);
-        took = took_more b p left u.piece t.front u.took t.took;
+        bytes = u.piece ++ (p.reader.ahead ++ t.prefix);
+        took = took_more b p left u.piece t.prefix u.took t.took;
         lines = u.lines;
         next = first;
         others = lines_of reader.ahead;

@@ -14,7 +14,7 @@ use Rattle.farm_laws.proofs.Outputs.{events_in-append}
 use Rattle.script_session.specs.declared.end.StoredEnd.{StoredEnd}
 use Rattle.script_session.specs.declared.end.StoredEnd.TheVariants as end
 use Rattle.script_session.specs.Session.{SessionState, Standing, IsUnderWay, PutsPending}
-use Rattle.script_session.specs.Keeping.{IsKeeping, WroteOf, KeptFront, EndsKeeping, StoredEndsAs, Turned, SettlesAs, FinishesAs}
+use Rattle.script_session.specs.Keeping.{IsKeeping, WroteOf, KeptPrefix, EndsKeeping, StoredEndsAs, Turned, SettlesAs, FinishesAs}
 use Rattle.script_session.proofs.Sessions.{none_put, parted, took_more, cut_line, with_put, under_way_start, put_goes_on, line_goes_on, TookLine, put_failed, memory_wanted}
 
 -- What was written, and what is known of the events
@@ -57,8 +57,8 @@ wrote_more P Q b n more w = record {
   holds = more (events_in w.lines) (events_in (lines_of w.bytes)) w.holds;
 }
 
-kept_front : (Kept : List Event → List Event → Type 0) (least es others : List Event) → Kept least es → KeptFront Kept least (es ++ others)
-kept_front Kept least es others kept = record { es = es; others = others; run = refl; kept = kept }
+kept_prefix : (Kept : List Event → List Event → Type 0) (least es others : List Event) → Kept least es → KeptPrefix Kept least (es ++ others)
+kept_prefix Kept least es others kept = record { es = es; others = others; run = refl; kept = kept }
 
 -- Before the first line
 
@@ -106,12 +106,12 @@ module _ (b : SessionState) (p : Standing) where
   -- what is left where the output failed behind it
   pub settled_not_put : (Kept Kept' : List Event → List Event → Type 0) (held : Option (List ℕ)) (n : ℕ) → (k : IsKeeping Kept b p)
       → Kept' (events_in k.under_way.lines) (events_in k.under_way.lines) → Appends p.held held (take n p.pending)
-      → WroteOf (KeptFront Kept') b (record { farm = p.farm; left = p.left; held = held })
+      → WroteOf (KeptPrefix Kept') b (record { farm = p.farm; left = p.left; held = held })
   settled_not_put Kept Kept' held n k kept put =
       let u = k.under_way in
-      wrote_of (KeptFront Kept') b (record { farm = p.farm; left = p.left; held = held }) (u.piece ++ p.reader.ahead) u.lines (lines_of p.reader.ahead) u.lines [] (u.text ++ take n p.pending) (drop n p.pending)
+      wrote_of (KeptPrefix Kept') b (record { farm = p.farm; left = p.left; held = held }) (u.piece ++ p.reader.ahead) u.lines (lines_of p.reader.ahead) u.lines [] (u.text ++ take n p.pending) (drop n p.pending)
       u.took (u.cut p.reader.ahead u.readable.end) (sym (append-nil u.lines)) (Appends-trans b.held p.held held u.text (take n p.pending) u.wrote put) (parted u.text p.pending n ∙ u.replies)
-      (kept_front Kept' (events_in u.lines) (events_in u.lines) (events_in (lines_of p.reader.ahead)) kept)
+      (kept_prefix Kept' (events_in u.lines) (events_in u.lines) (events_in (lines_of p.reader.ahead)) kept)
 
   -- and where it was not settled
   pub not_settled : (Kept Lost : List Event → List Event → Type 0) (held : Option (List ℕ)) → (k : IsKeeping Kept b p)
@@ -168,9 +168,9 @@ module _ (b : SessionState) (p : Standing) (left : Option (List ℕ)) (reader : 
         kept = subst (λ (l : List Event). Kept' (events_in k.settled) l) (sym more) kept;
       }
 
-  line_cut : (u : IsUnderWay b p) → lines_of (u.piece ++ (p.reader.ahead ++ t.front)) ≡ u.lines ++ (first ∷ lines_of reader.ahead)
+  line_cut : (u : IsUnderWay b p) → lines_of (u.piece ++ (p.reader.ahead ++ t.prefix)) ≡ u.lines ++ (first ∷ lines_of reader.ahead)
   line_cut u =
-      let whole : u.piece ++ (p.reader.ahead ++ t.front) ≡ (u.piece ++ t.piece) ++ reader.ahead = ap (λ (w : List ℕ). u.piece ++ w) t.first.whole ∙ sym (append_assoc u.piece t.piece reader.ahead) in
+      let whole : u.piece ++ (p.reader.ahead ++ t.prefix) ≡ (u.piece ++ t.piece) ++ reader.ahead = ap (λ (w : List ℕ). u.piece ++ w) t.first.whole ∙ sym (append_assoc u.piece t.piece reader.ahead) in
       ap lines_of whole ∙ cut_line b p left reader first u t reader.ahead t.readable.end ∙ append_assoc u.lines (first ∷ []) (lines_of reader.ahead)
 
   -- its events were lost
@@ -180,8 +180,8 @@ module _ (b : SessionState) (p : Standing) (left : Option (List ℕ)) (reader : 
   line_lost Kept Lost either k lost =
       let u = k.under_way in (
         memory_wanted b p left p.held reader first farm 0 t either (nothing_put p.held p.held p.pending refl) u,
-        wrote_of Lost b (record { farm = farm; left = left; held = p.held }) (u.piece ++ (p.reader.ahead ++ t.front)) u.lines (first ∷ lines_of reader.ahead) k.settled k.behind u.text k.after
-            (took_more b p left u.piece t.front u.took t.took) (line_cut u) k.parted u.wrote k.prefix (lost (events_in (lines_of reader.ahead))),
+        wrote_of Lost b (record { farm = farm; left = left; held = p.held }) (u.piece ++ (p.reader.ahead ++ t.prefix)) u.lines (first ∷ lines_of reader.ahead) k.settled k.behind u.text k.after
+            (took_more b p left u.piece t.prefix u.took t.took) (line_cut u) k.parted u.wrote k.prefix (lost (events_in (lines_of reader.ahead))),
       )
 
   module _ (Kept Kept' Lost : List Event → List Event → Type 0) (Full : List Event → ℕ → Type 0) (held : Option (List ℕ)) (either : (farm ≡ p.farm) ⊎ (farm ≡ (after_line p.farm first).0)) (k : IsKeeping Kept b p) where
@@ -190,15 +190,15 @@ module _ (b : SessionState) (p : Standing) (left : Option (List ℕ)) (reader : 
         → WroteOf P b (record { farm = farm; left = left; held = held })
     put_some P n put holds =
         let u = k.under_way in
-        wrote_of P b (record { farm = farm; left = left; held = held }) (u.piece ++ (p.reader.ahead ++ t.front)) u.lines (first ∷ lines_of reader.ahead) u.lines [] (u.text ++ take n p.pending) (drop n p.pending)
-        (took_more b p left u.piece t.front u.took t.took) (line_cut u) (sym (append-nil u.lines)) (Appends-trans b.held p.held held u.text (take n p.pending) u.wrote put) (parted u.text p.pending n ∙ u.replies)
+        wrote_of P b (record { farm = farm; left = left; held = held }) (u.piece ++ (p.reader.ahead ++ t.prefix)) u.lines (first ∷ lines_of reader.ahead) u.lines [] (u.text ++ take n p.pending) (drop n p.pending)
+        (took_more b p left u.piece t.prefix u.took t.took) (line_cut u) (sym (append-nil u.lines)) (Appends-trans b.held p.held held u.text (take n p.pending) u.wrote put) (parted u.text p.pending n ∙ u.replies)
         holds
 
     not_put : held ≡ p.held → ((others : List Event) → Lost (events_in k.settled) (events_in k.under_way.lines ++ others)) → WroteOf Lost b (record { farm = farm; left = left; held = held })
     not_put same lost =
         let u = k.under_way in
-        wrote_of Lost b (record { farm = farm; left = left; held = held }) (u.piece ++ (p.reader.ahead ++ t.front)) u.lines (first ∷ lines_of reader.ahead) k.settled k.behind u.text k.after
-        (took_more b p left u.piece t.front u.took t.took) (line_cut u) k.parted (subst (λ (h : Option (List ℕ)). Appends b.held h u.text) (sym same) u.wrote) k.prefix
+        wrote_of Lost b (record { farm = farm; left = left; held = held }) (u.piece ++ (p.reader.ahead ++ t.prefix)) u.lines (first ∷ lines_of reader.ahead) k.settled k.behind u.text k.after
+        (took_more b p left u.piece t.prefix u.took t.took) (line_cut u) k.parted (subst (λ (h : Option (List ℕ)). Appends b.held h u.text) (sym same) u.wrote) k.prefix
         (lost (events_of_line first ++ events_in (lines_of reader.ahead)))
 
     Ends : StoredEnd → Type 0
@@ -208,12 +208,12 @@ module _ (b : SessionState) (p : Standing) (left : Option (List ℕ)) (reader : 
     unfolding Ends
     at_store_fault same lost = (memory_wanted b p left held reader first farm 0 t either (nothing_put p.held held p.pending same) k.under_way, not_put same lost)
 
-    kept_all : Kept' (events_in k.under_way.lines) (events_in k.under_way.lines) → KeptFront Kept' (events_in k.under_way.lines) (events_in k.under_way.lines ++ (events_of_line first ++ events_in (lines_of reader.ahead)))
-    kept_all kept = kept_front Kept' (events_in k.under_way.lines) (events_in k.under_way.lines) (events_of_line first ++ events_in (lines_of reader.ahead)) kept
+    kept_all : Kept' (events_in k.under_way.lines) (events_in k.under_way.lines) → KeptPrefix Kept' (events_in k.under_way.lines) (events_in k.under_way.lines ++ (events_of_line first ++ events_in (lines_of reader.ahead)))
+    kept_all kept = kept_prefix Kept' (events_in k.under_way.lines) (events_in k.under_way.lines) (events_of_line first ++ events_in (lines_of reader.ahead)) kept
 
     at_no_memory : (n : ℕ) → Appends p.held held (take n p.pending) → Kept' (events_in k.under_way.lines) (events_in k.under_way.lines) → Ends end.NoMemory
     unfolding Ends
-    at_no_memory n put kept = (memory_wanted b p left held reader first farm n t either put k.under_way, put_some (KeptFront Kept') n put (kept_all kept))
+    at_no_memory n put kept = (memory_wanted b p left held reader first farm n t either put k.under_way, put_some (KeptPrefix Kept') n put (kept_all kept))
 
     at_full : (at n : ℕ) → Appends p.held held (take n p.pending) → Kept' (events_in k.under_way.lines) (events_in k.under_way.lines)
         → ((others : List Event) → Full (events_in k.under_way.lines ++ (events_of_line first ++ others)) at) → Ends (end.StoreFull at)
@@ -226,7 +226,7 @@ module _ (b : SessionState) (p : Standing) (left : Option (List ℕ)) (reader : 
     ends_as : (e r : StoredEnd) → FinishesAs Kept' Lost (events_in k.settled) (events_in k.under_way.lines) p.held held p.pending e r
         → ((n : ℕ) → Appends p.held held (take n p.pending) → Kept' (events_in k.under_way.lines) (events_in k.under_way.lines) → Ends e) → Ends r
     ends_as e r (inl f) at_e = subst Ends (sym f.0) (at_store_fault f.1 f.2)
-    ends_as e r (inr (is, front, kept)) at_e = subst Ends (sym is) (at_e front.0 front.1 kept)
+    ends_as e r (inr (is, prefix, kept)) at_e = subst Ends (sym is) (at_e prefix.0 prefix.1 kept)
 
     pub finished_memory : (r : StoredEnd) → FinishesAs Kept' Lost (events_in k.settled) (events_in k.under_way.lines) p.held held p.pending end.NoMemory r
         → StoredEndsAs r b (record { farm = farm; left = left; held = held }) × WroteOf (EndsKeeping Kept' Lost Full r) b (record { farm = farm; left = left; held = held })
@@ -241,10 +241,10 @@ module _ (b : SessionState) (p : Standing) (left : Option (List ℕ)) (reader : 
 
 -- The input gave no line
 
-pub stopped : (Kept : List Event → List Event → Type 0) (b : SessionState) (p : Standing) (left : Option (List ℕ)) (front : List ℕ) → Consumes p.left left front
-    → (p.reader.stop ≡ Some stop.End → p.reader.ahead ++ front ≡ []) → (k : IsKeeping Kept b p) → WroteOf (KeptFront Kept) b (record { farm = p.farm; left = left; held = p.held })
-stopped Kept b p left front took last k =
+pub stopped : (Kept : List Event → List Event → Type 0) (b : SessionState) (p : Standing) (left : Option (List ℕ)) (prefix : List ℕ) → Consumes p.left left prefix
+    → (p.reader.stop ≡ Some stop.End → p.reader.ahead ++ prefix ≡ []) → (k : IsKeeping Kept b p) → WroteOf (KeptPrefix Kept) b (record { farm = p.farm; left = left; held = p.held })
+stopped Kept b p left prefix took last k =
     let u = k.under_way in
-    wrote_of (KeptFront Kept) b (record { farm = p.farm; left = left; held = p.held }) (u.piece ++ (p.reader.ahead ++ front)) u.lines (lines_of (p.reader.ahead ++ front)) k.settled k.behind u.text k.after
-    (took_more b p left u.piece front u.took took) (u.cut (p.reader.ahead ++ front) last) k.parted u.wrote k.prefix
-    (kept_front Kept (events_in k.settled) (events_in u.lines) (events_in (lines_of (p.reader.ahead ++ front))) k.kept)
+    wrote_of (KeptPrefix Kept) b (record { farm = p.farm; left = left; held = p.held }) (u.piece ++ (p.reader.ahead ++ prefix)) u.lines (lines_of (p.reader.ahead ++ prefix)) k.settled k.behind u.text k.after
+    (took_more b p left u.piece prefix u.took took) (u.cut (p.reader.ahead ++ prefix) last) k.parted u.wrote k.prefix
+    (kept_prefix Kept (events_in k.settled) (events_in u.lines) (events_in (lines_of (p.reader.ahead ++ prefix))) k.kept)

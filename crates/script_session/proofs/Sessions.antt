@@ -124,17 +124,17 @@ not_stopped (Some stop.InputLimit) going n = absurd (going.1 refl)
 
 -- The bytes of a piece and of what was taken behind it
 
-pub took_more : (b : SessionState) (p : Standing) (left : Option (List ℕ)) (piece front : List ℕ) → Consumes b.left p.left (piece ++ p.reader.ahead) → Consumes p.left left front → Consumes b.left left (piece ++ (p.reader.ahead ++ front))
-took_more b p left piece front h k =
-    subst (λ (t : List ℕ). Consumes b.left left t) (append_assoc piece p.reader.ahead front) (Consumes-trans b.left p.left left (piece ++ p.reader.ahead) front h k)
+pub took_more : (b : SessionState) (p : Standing) (left : Option (List ℕ)) (piece prefix : List ℕ) → Consumes b.left p.left (piece ++ p.reader.ahead) → Consumes p.left left prefix → Consumes b.left left (piece ++ (p.reader.ahead ++ prefix))
+took_more b p left piece prefix h k =
+    subst (λ (t : List ℕ). Consumes b.left left t) (append_assoc piece p.reader.ahead prefix) (Consumes-trans b.left p.left left (piece ++ p.reader.ahead) prefix h k)
 
 -- a line was read
 pub record TookLine (p : Standing) (left : Option (List ℕ)) (reader : ReaderValue) (one : Cut) : Type 0 where
-  pub front : List ℕ
-  pub took : Consumes p.left left front
-  pub count : reader.taken ≡ p.reader.taken + length front
+  pub prefix : List ℕ
+  pub took : Consumes p.left left prefix
+  pub count : reader.taken ≡ p.reader.taken + length prefix
   pub piece : List ℕ
-  pub first : IsFirst reader.stop (p.reader.ahead ++ front) reader.ahead piece one
+  pub first : IsFirst reader.stop (p.reader.ahead ++ prefix) reader.ahead piece one
   pub not_ended : p.reader.stop ≢ Some stop.End
   pub going : MayGoOn reader.stop
   pub ended : IsEnded p.reader.stop p.left → IsEnded reader.stop left
@@ -168,14 +168,14 @@ unfoldable pub line_goes_on : (b : SessionState) (p : Standing) (left : Option (
     → TookLine p left reader first → farm ≡ (after_line p.farm first).0 → pending ≡ p.pending ++ (after_line p.farm first).1
     → IsUnderWay b p → IsUnderWay b (record p { farm = farm; left = left; reader = reader; pending = pending })
 line_goes_on b p left reader first farm pending t f e u =
-    let whole : u.piece ++ (p.reader.ahead ++ t.front) ≡ (u.piece ++ t.piece) ++ reader.ahead = ap (λ w. u.piece ++ w) t.first.whole ∙ sym (append_assoc u.piece t.piece reader.ahead) in
-    let counted : length ((u.piece ++ t.piece) ++ reader.ahead) ≡ length (u.piece ++ p.reader.ahead) + length t.front =
-    ap length (sym whole ∙ sym (append_assoc u.piece p.reader.ahead t.front)) ∙ length-append (u.piece ++ p.reader.ahead) t.front in
+    let whole : u.piece ++ (p.reader.ahead ++ t.prefix) ≡ (u.piece ++ t.piece) ++ reader.ahead = ap (λ w. u.piece ++ w) t.first.whole ∙ sym (append_assoc u.piece t.piece reader.ahead) in
+    let counted : length ((u.piece ++ t.piece) ++ reader.ahead) ≡ length (u.piece ++ p.reader.ahead) + length t.prefix =
+    ap length (sym whole ∙ sym (append_assoc u.piece p.reader.ahead t.prefix)) ∙ length-append (u.piece ++ p.reader.ahead) t.prefix in
     record {
       piece = u.piece ++ t.piece;
       lines = u.lines ++ first ∷ [];
       text = u.text;
-      took = subst (λ (w : List ℕ). Consumes b.left left w) whole (took_more b p left u.piece t.front u.took t.took);
+      took = subst (λ (w : List ℕ). Consumes b.left left w) whole (took_more b p left u.piece t.prefix u.took t.took);
       count = omega (arith, counted, t.count, u.count);
       cut = cut_line b p left reader first u t;
       farm = line_farm b p first farm u f;
@@ -193,8 +193,8 @@ line_goes_on b p left reader first farm pending t f e u =
 memory_before : (b : SessionState) (p : Standing) (left held : Option (List ℕ)) (reader : ReaderValue) (first : Cut) (farm : State) (n : ℕ)
     → TookLine p left reader first → farm ≡ p.farm → Appends p.held held (take n p.pending) → IsUnderWay b p → PrefixAnswered b (record { farm = farm; left = left; held = held })
 memory_before b p left held reader first farm n t f a u =
-    prefix_answered b (record { farm = farm; left = left; held = held }) (u.piece ++ (p.reader.ahead ++ t.front)) u.lines (lines_of (p.reader.ahead ++ t.front)) (u.text ++ take n p.pending) (drop n p.pending)
-    (took_more b p left u.piece t.front u.took t.took) (u.cut (p.reader.ahead ++ t.front) (λ end. absurd (t.not_ended end))) (f ∙ u.farm)
+    prefix_answered b (record { farm = farm; left = left; held = held }) (u.piece ++ (p.reader.ahead ++ t.prefix)) u.lines (lines_of (p.reader.ahead ++ t.prefix)) (u.text ++ take n p.pending) (drop n p.pending)
+    (took_more b p left u.piece t.prefix u.took t.took) (u.cut (p.reader.ahead ++ t.prefix) (λ end. absurd (t.not_ended end))) (f ∙ u.farm)
     (Appends-trans b.held p.held held u.text (take n p.pending) u.wrote a) (parted u.text p.pending n ∙ u.replies)
 
 -- and after it
@@ -202,10 +202,10 @@ memory_after : (b : SessionState) (p : Standing) (left held : Option (List ℕ))
     → TookLine p left reader first → farm ≡ (after_line p.farm first).0 → Appends p.held held (take n p.pending) → IsUnderWay b p → PrefixAnswered b (record { farm = farm; left = left; held = held })
 memory_after b p left held reader first farm n t f a u =
     let said = (after_line p.farm first).1 in
-    let whole : u.piece ++ (p.reader.ahead ++ t.front) ≡ (u.piece ++ t.piece) ++ reader.ahead = ap (λ w. u.piece ++ w) t.first.whole ∙ sym (append_assoc u.piece t.piece reader.ahead) in
-    prefix_answered b (record { farm = farm; left = left; held = held }) (u.piece ++ (p.reader.ahead ++ t.front)) (u.lines ++ first ∷ []) (lines_of reader.ahead)
+    let whole : u.piece ++ (p.reader.ahead ++ t.prefix) ≡ (u.piece ++ t.piece) ++ reader.ahead = ap (λ w. u.piece ++ w) t.first.whole ∙ sym (append_assoc u.piece t.piece reader.ahead) in
+    prefix_answered b (record { farm = farm; left = left; held = held }) (u.piece ++ (p.reader.ahead ++ t.prefix)) (u.lines ++ first ∷ []) (lines_of reader.ahead)
     (u.text ++ take n p.pending) (drop n p.pending ++ said)
-    (took_more b p left u.piece t.front u.took t.took)
+    (took_more b p left u.piece t.prefix u.took t.took)
     (ap lines_of whole ∙ cut_line b p left reader first u t reader.ahead t.readable.end)
     (line_farm b p first farm u f)
     (Appends-trans b.held p.held held u.text (take n p.pending) u.wrote a)
@@ -234,11 +234,11 @@ answers_all b p left bytes u same empty = record {
 pub piece_lines : (b : SessionState) (p : Standing) → (u : IsUnderWay b p) → lines_of u.piece ≡ u.lines
 piece_lines b p u = ap lines_of (sym (append-nil u.piece)) ∙ u.cut [] (λ _. refl) ∙ append-nil u.lines
 
-pub all_answered : (b : SessionState) (p : Standing) (left : Option (List ℕ)) (front : List ℕ) → Consumes p.left left front → p.reader.ahead ++ front ≡ [] → IsAtEnd left → p.pending ≡ []
+pub all_answered : (b : SessionState) (p : Standing) (left : Option (List ℕ)) (prefix : List ℕ) → Consumes p.left left prefix → p.reader.ahead ++ prefix ≡ [] → IsAtEnd left → p.pending ≡ []
     → IsUnderWay b p → AllAnswered b (record { farm = p.farm; left = left; held = p.held })
-all_answered b p left front took none end empty u = record {
+all_answered b p left prefix took none end empty u = record {
   bytes = u.piece;
-  took = subst (λ (w : List ℕ). Consumes b.left left w) (ap (λ w. u.piece ++ w) none ∙ append-nil u.piece) (took_more b p left u.piece front u.took took);
+  took = subst (λ (w : List ℕ). Consumes b.left left w) (ap (λ w. u.piece ++ w) none ∙ append-nil u.piece) (took_more b p left u.piece prefix u.took took);
   ended = end;
   answers = answers_all b p left u.piece u (piece_lines b p u) empty;
 }
@@ -250,13 +250,13 @@ well_ended : (piece rest : List ℕ) → EndsWell piece → ¬ HasFeed rest → 
 well_ended piece rest (inl e) h = ap (λ w. through_last_feed (w ++ rest)) e ∙ through_last_feed-none rest h ∙ sym e
 well_ended piece rest (inr f) h = through_last_feed-whole piece rest f h
 
-pub lines_answered : (b : SessionState) (p : Standing) (left : Option (List ℕ)) (front : List ℕ) → Consumes p.left left front → ¬ HasFeed (p.reader.ahead ++ front) → p.reader.stop ≡ None → p.pending ≡ []
+pub lines_answered : (b : SessionState) (p : Standing) (left : Option (List ℕ)) (prefix : List ℕ) → Consumes p.left left prefix → ¬ HasFeed (p.reader.ahead ++ prefix) → p.reader.stop ≡ None → p.pending ≡ []
     → IsUnderWay b p → LinesAnswered b (record { farm = p.farm; left = left; held = p.held })
-lines_answered b p left front took none going empty u = record {
-  bytes = u.piece ++ (p.reader.ahead ++ front);
-  took = took_more b p left u.piece front u.took took;
-  answers = answers_all b p left (through_last_feed (u.piece ++ (p.reader.ahead ++ front))) u
-      (ap lines_of (well_ended u.piece (p.reader.ahead ++ front) (u.fed going) none) ∙ piece_lines b p u) empty;
+lines_answered b p left prefix took none going empty u = record {
+  bytes = u.piece ++ (p.reader.ahead ++ prefix);
+  took = took_more b p left u.piece prefix u.took took;
+  answers = answers_all b p left (through_last_feed (u.piece ++ (p.reader.ahead ++ prefix))) u
+      (ap lines_of (well_ended u.piece (p.reader.ahead ++ prefix) (u.fed going) none) ∙ piece_lines b p u) empty;
 }
 
 not_short : (left left' : Option (List ℕ)) (bytes : List ℕ) → Consumes left left' bytes → length bytes ≡ input_limit → ¬ IsShort left
@@ -266,12 +266,12 @@ not_short (Some all) (Some rest) bytes took count short =
     let parts : length all ≡ length (bytes ++ rest) = ap length took in
     absurd (omega (arith, parts, length-append bytes rest, count, short))
 
-pub took_limit : (b : SessionState) (p : Standing) (left : Option (List ℕ)) (front : List ℕ) → Consumes p.left left front → p.reader.taken + length front ≡ input_limit → IsUnderWay b p → TookLimit b.left left
-took_limit b p left front took limit u =
-    let bytes = u.piece ++ (p.reader.ahead ++ front) in
-    let all = took_more b p left u.piece front u.took took in
-    let e : length bytes ≡ length (u.piece ++ p.reader.ahead) + length front =
-    ap length (sym (append_assoc u.piece p.reader.ahead front)) ∙ length-append (u.piece ++ p.reader.ahead) front in
+pub took_limit : (b : SessionState) (p : Standing) (left : Option (List ℕ)) (prefix : List ℕ) → Consumes p.left left prefix → p.reader.taken + length prefix ≡ input_limit → IsUnderWay b p → TookLimit b.left left
+took_limit b p left prefix took limit u =
+    let bytes = u.piece ++ (p.reader.ahead ++ prefix) in
+    let all = took_more b p left u.piece prefix u.took took in
+    let e : length bytes ≡ length (u.piece ++ p.reader.ahead) + length prefix =
+    ap length (sym (append_assoc u.piece p.reader.ahead prefix)) ∙ length-append (u.piece ++ p.reader.ahead) prefix in
     let count : length bytes ≡ input_limit = omega (arith, e, u.count, limit) in
     record { bytes = bytes; took = all; count = count; not_short = not_short b.left left bytes all count }
 
@@ -284,11 +284,11 @@ pub took_text : (p : Standing) (left : Option (List ℕ)) (reader : ReaderValue)
     → Reads p.left left p.reader reader line.Text → Sticks p line.Text → MayGoOn reader.stop → (IsEnded p.reader.stop p.left → IsEnded reader.stop left) → IsReadable reader
     → TookLine p left reader (Whole text)
 took_text p left reader text e r sticks going ended readable = record {
-  front = r.front;
+  prefix = r.prefix;
   took = r.took;
   count = r.count;
   piece = r.cuts.0;
-  first = subst (λ (t : List ℕ). IsFirst reader.stop (p.reader.ahead ++ r.front) reader.ahead r.cuts.0 (Whole t)) (sym e) r.cuts.1;
+  first = subst (λ (t : List ℕ). IsFirst reader.stop (p.reader.ahead ++ r.prefix) reader.ahead r.cuts.0 (Whole t)) (sym e) r.cuts.1;
   not_ended = λ h. let no : line.Text ≡ line.End = sticks stop.End h in cc;
   going = going;
   ended = ended;
@@ -299,7 +299,7 @@ pub took_long : (p : Standing) (left : Option (List ℕ)) (reader : ReaderValue)
     → Reads p.left left p.reader reader (line.TooLong len) → Sticks p (line.TooLong len) → MayGoOn reader.stop → (IsEnded p.reader.stop p.left → IsEnded reader.stop left) → IsReadable reader
     → TookLine p left reader (Long len)
 took_long p left reader len r sticks going ended readable = record {
-  front = r.front;
+  prefix = r.prefix;
   took = r.took;
   count = r.count;
   piece = r.cuts.0;
@@ -313,19 +313,19 @@ took_long p left reader len r sticks going ended readable = record {
 pub at_end : (b : SessionState) (p : Standing) (left : Option (List ℕ)) (reader : ReaderValue)
     → Reads p.left left p.reader reader line.End → (IsEnded p.reader.stop p.left → IsEnded reader.stop left) → reader.stop ≡ Some stop.End → p.pending ≡ []
     → IsUnderWay b p → AllAnswered b (record { farm = p.farm; left = left; held = p.held })
-at_end b p left reader r ended stops empty u = all_answered b p left r.front r.took r.cuts.0 (ended u.ended stops) empty u
+at_end b p left reader r ended stops empty u = all_answered b p left r.prefix r.took r.cuts.0 (ended u.ended stops) empty u
 
 pub fault_going : (p : Standing) (r : Line) → r ≢ line.End → Sticks p r → MayGoOn p.reader.stop → p.reader.stop ≡ None
 fault_going p r other sticks going = not_stopped p.reader.stop going (λ h. other (sticks stop.End h))
 
 pub at_fault : (b : SessionState) (p : Standing) (left : Option (List ℕ)) (reader : ReaderValue)
     → Reads p.left left p.reader reader line.ReadFault → Sticks p line.ReadFault → p.pending ≡ [] → IsUnderWay b p → LinesAnswered b (record { farm = p.farm; left = left; held = p.held })
-at_fault b p left reader r sticks empty u = lines_answered b p left r.front r.took r.cuts (fault_going p line.ReadFault (λ h. cc) sticks u.going) empty u
+at_fault b p left reader r sticks empty u = lines_answered b p left r.prefix r.took r.cuts (fault_going p line.ReadFault (λ h. cc) sticks u.going) empty u
 
 pub at_limit : (b : SessionState) (p : Standing) (left : Option (List ℕ)) (reader : ReaderValue)
     → Reads p.left left p.reader reader line.InputLimit → Sticks p line.InputLimit → reader.taken ≡ input_limit → p.pending ≡ []
     → IsUnderWay b p → LinesAnswered b (record { farm = p.farm; left = left; held = p.held }) × TookLimit b.left left
 at_limit b p left reader r sticks limit empty u = (
-  lines_answered b p left r.front r.took r.cuts (fault_going p line.InputLimit (λ h. cc) sticks u.going) empty u,
-  took_limit b p left r.front r.took (sym r.count ∙ limit) u,
+  lines_answered b p left r.prefix r.took r.cuts (fault_going p line.InputLimit (λ h. cc) sticks u.going) empty u,
+  took_limit b p left r.prefix r.took (sym r.count ∙ limit) u,
 )

@@ -9,10 +9,10 @@ use Rattle.record_store.specs.Model.{DiskState, DiskTime, AtEachMoment, Rose}
 use Rattle.record_store.specs.Held.{held, records_of, Rests, IsBeforeOrAfter}
 use Rattle.record_store.proofs.Moments.{started, weaken, followed, leaves_now}
 use Rattle.record_store.proofs.Images.{quiet_leaves}
-use Rattle.record_store.proofs.Fronts.{closed_held, records_more}
+use Rattle.record_store.proofs.Prefixes.{closed_held, records_more}
 use Rattle.stored_events.specs.Kept.{is_kept, kept_events}
 use Rattle.stored_events.proofs.KeptLaws.{kept_append}
-use Rattle.script_session.specs.Storing.{stored_lines, HoldsFront, LeavesFront, store_end, Fits, DoesNotFit, StoreValue, IsReady, IsSameStore, KeepsAll, Fails}
+use Rattle.script_session.specs.Storing.{stored_lines, HoldsPrefix, LeavesPrefix, store_end, Fits, DoesNotFit, StoreValue, IsReady, IsSameStore, KeepsAll, Fails}
 
 -- One event more
 
@@ -43,12 +43,12 @@ records_longer : (xs ys : List (List ℕ)) → length (records_of xs) ≤ length
 records_longer [] ys = omega arith
 records_longer (x ∷ xs) ys = let more = records_longer xs ys in omega (arith, more, length-append x (records_of xs), length-append x (records_of (xs ++ ys)))
 
-front_empty : (xs ys : List Event) → xs ++ ys ≡ [] → xs ≡ []
-front_empty [] ys is = refl
-front_empty (x ∷ xs) ys is = cc
+prefix_empty : (xs ys : List Event) → xs ++ ys ≡ [] → xs ≡ []
+prefix_empty [] ys is = refl
+prefix_empty (x ∷ xs) ys is = cc
 
 pub fits_fewer : (at limit : ℕ) (s : State) (least behind : List Event) → Fits at limit s (least ++ behind) → Fits at limit s least
-fits_fewer at limit s least behind (inl none) = inl (front_empty (kept_events s least) (kept_events (state_after s least) behind) (sym (kept_append s least behind) ∙ none))
+fits_fewer at limit s least behind (inl none) = inl (prefix_empty (kept_events s least) (kept_events (state_after s least) behind) (sym (kept_append s least behind) ∙ none))
 fits_fewer at limit s least behind (inr within) =
     let parts : stored_lines s (least ++ behind) ≡ stored_lines s least ++ map event_text (kept_events (state_after s least) behind) =
     ap (λ (l : List Event). map event_text l) (kept_append s least behind) ∙ map-append event_text (kept_events s least) (kept_events (state_after s least) behind) in
@@ -58,8 +58,8 @@ fits_fewer at limit s least behind (inr within) =
 
 -- What a crash leaves
 
-pub front_more : (first : List (List ℕ)) (s : State) (least es others : List Event) (file : List ℕ) → HoldsFront first s least es file → HoldsFront first s least (es ++ others) file
-front_more first s least es others file h = record {
+pub prefix_more : (first : List (List ℕ)) (s : State) (least es others : List Event) (file : List ℕ) → HoldsPrefix first s least es file → HoldsPrefix first s least (es ++ others) file
+prefix_more first s least es others file h = record {
   more = h.more;
   others = h.others ++ others;
   run = ap (λ (l : List Event). l ++ others) h.run ∙ append_assoc (least ++ h.more) h.others others;
@@ -69,7 +69,7 @@ front_more first s least es others file h = record {
 -- the store holds what is stored of the run, or of it and one event more
 module _ (first : List (List ℕ)) (s : State) (es : List Event) (e : Event) (stored : is_kept e (reply_to (state_after s es) e) ≡ true) (others : List Event) where
   pub before_or_after : (lines : List (List ℕ)) → lines ≡ first ++ stored_lines s es → (least behind : List Event) → es ≡ least ++ behind → (file : List ℕ) → IsBeforeOrAfter lines (event_text e ∷ []) file
-      → HoldsFront first s least (es ++ (e ∷ [] ++ others)) file
+      → HoldsPrefix first s least (es ++ (e ∷ [] ++ others)) file
   before_or_after lines is least behind run file (inl same) = record {
     more = behind;
     others = e ∷ others;
@@ -94,20 +94,20 @@ rests_lines d lines end rests = closed_held d.seen lines end rests.closed
 pub ready_rests : (d : DiskState) (lines : List (List ℕ)) (end : ℕ) → Rests d lines end → Rests d (held d.seen) end
 ready_rests d lines end rests = subst (λ (l : List (List ℕ)). Rests d l end) (sym (rests_lines d lines end rests)) rests
 
--- a store in which all was stored leaves at its end what is stored of a front, and did so at each moment
-pub keeps_leaves : (o v : StoreValue) (s : State) (least es others : List Event) → KeepsAll o v s least es → IsTrue o.tells → LeavesFront (held o.time.now.seen) s o.time v.time least (es ++ others)
+-- a store in which all was stored leaves at its end what is stored of a prefix, and did so at each moment
+pub keeps_leaves : (o v : StoreValue) (s : State) (least es others : List Event) → KeepsAll o v s least es → IsTrue o.tells → LeavesPrefix (held o.time.now.seen) s o.time v.time least (es ++ others)
 keeps_leaves o v s least es others k told =
     let first = held o.time.now.seen in
     let rests = k.rests told in
-    let here : HoldsFront first s least (es ++ others) v.time.now.seen = record {
+    let here : HoldsPrefix first s least (es ++ others) v.time.now.seen = record {
       more = k.behind;
       others = others;
       run = ap (λ (l : List Event). l ++ others) k.run;
       holds = rests_lines v.time.now (first ++ stored_lines s es) v.journal.end rests ∙ ap (λ (l : List Event). first ++ stored_lines s l) k.run;
     } in
     record {
-      moments = weaken (HoldsFront first s [] es) (HoldsFront first s [] (es ++ others)) o.time v.time (λ file h. front_more first s [] es others file h) (k.moments told);
-      acknowledged = quiet_leaves (HoldsFront first s least (es ++ others)) v.time.now rests.quiet here;
+      moments = weaken (HoldsPrefix first s [] es) (HoldsPrefix first s [] (es ++ others)) o.time v.time (λ file h. prefix_more first s [] es others file h) (k.moments told);
+      acknowledged = quiet_leaves (HoldsPrefix first s least (es ++ others)) v.time.now rests.quiet here;
     }
 
 -- The first moment
@@ -122,8 +122,8 @@ keeps_none o s ready = record {
   fits = inl refl;
   moments = λ told.
       let first = held o.time.now.seen in
-      started (HoldsFront first s [] []) o.time
-      (quiet_leaves (HoldsFront first s [] []) o.time.now (ready.rests told).quiet (record { more = []; others = []; run = refl; holds = sym (append-nil first) }));
+      started (HoldsPrefix first s [] []) o.time
+      (quiet_leaves (HoldsPrefix first s [] []) o.time.now (ready.rests told).quiet (record { more = []; others = []; run = refl; holds = sym (append-nil first) }));
   rests = λ told. subst (λ (l : List (List ℕ)). Rests o.time.now l o.journal.end) (sym (append-nil (held o.time.now.seen))) (ready.rests told);
 }
 
@@ -151,7 +151,7 @@ module _ (o v : StoreValue) (s : State) (least es : List Event) (e : Event) (k :
         fresh = k.fresh;
         end = k.end ∙ ap (λ (l : List Event). o.journal.end + length (records_of (map event_text l))) (sym same);
         fits = subst (λ (l : List Event). (l ≡ []) ⊎ (o.journal.end + length (records_of (map event_text l)) ≤ o.journal.limit)) (sym same) k.fits;
-        moments = λ told. weaken (HoldsFront first s [] es) (HoldsFront first s [] (es ++ e ∷ [])) o.time v.time (λ file h. front_more first s [] es (e ∷ []) file h) (k.moments told);
+        moments = λ told. weaken (HoldsPrefix first s [] es) (HoldsPrefix first s [] (es ++ e ∷ [])) o.time v.time (λ file h. prefix_more first s [] es (e ∷ []) file h) (k.moments told);
         rests = λ told. subst (λ (l : List Event). Rests v.time.now (first ++ map event_text l) v.journal.end) (sym same) (k.rests told);
       }
 
@@ -163,12 +163,12 @@ module _ (o v : StoreValue) (s : State) (least es : List Event) (e : Event) (k :
         let after = same.later in
         record { limit = same.limit ∙ k.same.limit; tells = same.tells ∙ k.same.tells; opened = same.opened ∙ k.same.opened; later = omega (arith, before, after) }
 
-    both_moments : (others : List Event) → IsTrue o.tells → AtEachMoment (HoldsFront (held o.time.now.seen) s [] (es ++ (e ∷ [] ++ others))) o.time w.time
+    both_moments : (others : List Event) → IsTrue o.tells → AtEachMoment (HoldsPrefix (held o.time.now.seen) s [] (es ++ (e ∷ [] ++ others))) o.time w.time
     both_moments others told =
         let first = held o.time.now.seen in
-        let P : List ℕ → Type 0 = HoldsFront first s [] (es ++ (e ∷ [] ++ others)) in
+        let P : List ℕ → Type 0 = HoldsPrefix first s [] (es ++ (e ∷ [] ++ others)) in
         followed P o.time v.time w.time
-        (weaken (HoldsFront first s [] es) P o.time v.time (λ file h. front_more first s [] es (e ∷ [] ++ others) file h) (k.moments told))
+        (weaken (HoldsPrefix first s [] es) P o.time v.time (λ file h. prefix_more first s [] es (e ∷ [] ++ others) file h) (k.moments told))
         (weaken (IsBeforeOrAfter (held v.time.now.seen) (event_text e ∷ [])) P v.time w.time
         (before_or_after first s es e stored others (held v.time.now.seen) (held_is told) [] es refl) (adding (told_still told)))
 
@@ -204,7 +204,7 @@ module _ (o v : StoreValue) (s : State) (least es : List Event) (e : Event) (k :
           rose = omega (arith, before, rose);
           fits = fits_fewer o.journal.end o.journal.limit s least k.behind (subst (λ (l : List Event). Fits o.journal.end o.journal.limit s l) k.run k.fits);
           leaves = λ told.
-              let P : List ℕ → Type 0 = HoldsFront first s least (es ++ (e ∷ [] ++ others)) in
+              let P : List ℕ → Type 0 = HoldsPrefix first s least (es ++ (e ∷ [] ++ others)) in
               record {
                 moments = both_moments others told;
                 acknowledged = leaves_now P v.time w.time
@@ -243,7 +243,7 @@ module _ (o v : StoreValue) (s : State) (least es : List Event) (e : Event) (k :
         fresh = fresh;
         end = end ∙ k.end;
         fits = k.fits;
-        moments = λ told. subst (λ (t : DiskTime). AtEachMoment (HoldsFront (held o.time.now.seen) s [] es) o.time t) (sym (still (told_still told))) (k.moments told);
+        moments = λ told. subst (λ (t : DiskTime). AtEachMoment (HoldsPrefix (held o.time.now.seen) s [] es) o.time t) (sym (still (told_still told))) (k.moments told);
         rests = λ told.
             subst (λ (n : ℕ). Rests w.time.now (held o.time.now.seen ++ stored_lines s es) n) (sym end)
             (subst (λ (t : DiskTime). Rests t.now (held o.time.now.seen ++ stored_lines s es) v.journal.end) (sym (still (told_still told))) (k.rests told));

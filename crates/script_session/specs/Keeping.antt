@@ -57,8 +57,8 @@ pub record WroteOf (P : List Event → List Event → Type 0) (old new : Session
   pub prefix : text ++ after ≡ output_from old.farm lines
   pub holds : P (events_in lines) (events_of bytes)
 
--- a front of the events was kept
-pub record KeptFront (Kept : List Event → List Event → Type 0) (least all : List Event) : Type 0 where
+-- a prefix of the events was kept
+pub record KeptPrefix (Kept : List Event → List Event → Type 0) (least all : List Event) : Type 0 where
   pub es : List Event
   pub others : List Event
   pub run : all ≡ es ++ others
@@ -67,13 +67,13 @@ pub record KeptFront (Kept : List Event → List Event → Type 0) (least all : 
 -- what is known of the events of a session that ended so
 abbrev pub EndsKeeping : (List Event → List Event → Type 0) → (List Event → List Event → Type 0)
     → (List Event → ℕ → Type 0) → StoredEnd → List Event → List Event → Type 0
-EndsKeeping Kept Lost Full end.Done least all = KeptFront Kept least all
-EndsKeeping Kept Lost Full end.ReadFault least all = KeptFront Kept least all
-EndsKeeping Kept Lost Full end.WriteFault least all = KeptFront Kept least all
-EndsKeeping Kept Lost Full end.InputLimit least all = KeptFront Kept least all
+EndsKeeping Kept Lost Full end.Done least all = KeptPrefix Kept least all
+EndsKeeping Kept Lost Full end.ReadFault least all = KeptPrefix Kept least all
+EndsKeeping Kept Lost Full end.WriteFault least all = KeptPrefix Kept least all
+EndsKeeping Kept Lost Full end.InputLimit least all = KeptPrefix Kept least all
 EndsKeeping Kept Lost Full end.StoreFault least all = Lost least all
-EndsKeeping Kept Lost Full (end.StoreFull at) least all = KeptFront Kept least all × Full all at
-EndsKeeping Kept Lost Full end.NoMemory least all = KeptFront Kept least all
+EndsKeeping Kept Lost Full (end.StoreFull at) least all = KeptPrefix Kept least all × Full all at
+EndsKeeping Kept Lost Full end.NoMemory least all = KeptPrefix Kept least all
 
 -- what is known of the end of a session that keeps its events: at its own ends what is known of every session, and at the
 -- others a prefix of the replies was written

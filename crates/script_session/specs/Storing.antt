@@ -15,18 +15,18 @@ use Rattle.script_session.specs.declared.end.StoredEnd.TheVariants as end
 abbrev pub stored_lines : State → List Event → List (List ℕ)
 stored_lines s es = map event_text (kept_events s es)
 
--- The file holds the first lines, and behind them what is stored of a front of the run: of these events at least.
-pub record HoldsFront (first : List (List ℕ)) (s : State) (least all : List Event) (file : List ℕ) : Type 0 where
+-- The file holds the first lines, and behind them what is stored of a prefix of the run: of these events at least.
+pub record HoldsPrefix (first : List (List ℕ)) (s : State) (least all : List Event) (file : List ℕ) : Type 0 where
   pub more : List Event
   pub others : List Event
   pub run : all ≡ (least ++ more) ++ others
   pub holds : held file ≡ first ++ stored_lines s (least ++ more)
 
--- A crash at any moment leaves the first lines and what is stored of a front of the run; one at the end of it leaves what is
+-- A crash at any moment leaves the first lines and what is stored of a prefix of the run; one at the end of it leaves what is
 -- stored of these events at least.
-pub record LeavesFront (first : List (List ℕ)) (s : State) (old new : DiskTime) (least all : List Event) : Type 0 where
-  pub moments : AtEachMoment (HoldsFront first s [] all) old new
-  pub acknowledged : Leaves (HoldsFront first s least all) new.now
+pub record LeavesPrefix (first : List (List ℕ)) (s : State) (old new : DiskTime) (least all : List Event) : Type 0 where
+  pub moments : AtEachMoment (HoldsPrefix first s [] all) old new
+  pub acknowledged : Leaves (HoldsPrefix first s least all) new.now
 
 -- where the records end, once those of a run stand behind the offset
 abbrev pub store_end : ℕ → State → List Event → ℕ
@@ -87,7 +87,7 @@ pub record KeepsAll (old new : StoreValue) (s : State) (least es : List Event) :
   pub fresh : new.journal.spent ≡ false
   pub end : new.journal.end ≡ store_end old.journal.end s es
   pub fits : Fits old.journal.end old.journal.limit s es
-  pub moments : IsTrue old.tells → AtEachMoment (HoldsFront (held old.time.now.seen) s [] es) old.time new.time
+  pub moments : IsTrue old.tells → AtEachMoment (HoldsPrefix (held old.time.now.seen) s [] es) old.time new.time
   pub rests : IsTrue old.tells → Rests new.time.now (held old.time.now.seen ++ stored_lines s es) new.journal.end
 
 -- the disk failed
@@ -96,4 +96,4 @@ pub record Fails (old new : StoreValue) (s : State) (least all : List Event) : T
   pub spent : new.journal.spent ≡ true
   pub rose : Rose old.faults new.faults
   pub fits : Fits old.journal.end old.journal.limit s least
-  pub leaves : IsTrue old.tells → LeavesFront (held old.time.now.seen) s old.time new.time least all
+  pub leaves : IsTrue old.tells → LeavesPrefix (held old.time.now.seen) s old.time new.time least all

@@ -236,8 +236,8 @@ fn answer_next<D, E: Keeper<D>, S: Source, K: Sink>(
     }
 }
 
-/// One turn of a session: puts what is pending before the source is asked, and answers the next line.
-fn turn<D, E: Keeper<D>, S: Source, K: Sink>(
+/// Puts what is pending before the source is asked, and answers the next line.
+fn read_and_answer<D, E: Keeper<D>, S: Source, K: Sink>(
     alloc: Global,
     farm: &mut Farm,
     keeper: &mut E,
@@ -299,7 +299,7 @@ pub(crate) fn run_session<D, E: Keeper<D>, S: Source, K: Sink>(
     let mut reader = LineReader::new();
     let mut pending = Vec::new(alloc);
     'lines: loop {
-        if let Some(end) = turn(
+        if let Some(end) = read_and_answer(
             alloc,
             farm,
             keeper,

@@ -4,7 +4,7 @@ ghost use Rattle.farm_io.specs.Streams.{Rose};
 ghost use Rattle.record_store.specs.Held.{held, Rests};
 ghost use Rattle.script_session.specs.Session.{IsShort};
 ghost use Rattle.script_session.specs.Keeping.{StoredEndsAs, WroteOf};
-ghost use Rattle.script_session.specs.Storing.{LeavesFront, HasRoom};
+ghost use Rattle.script_session.specs.Storing.{LeavesPrefix, HasRoom};
 ghost use Rattle.script_session.specs.Firsts.{CameFirst};
 
 use crate::end::StoredEnd;
@@ -59,7 +59,7 @@ impl<Y: Disk> Keeper<Y> for Journal {
 ///
 /// The farm and the journal are as one opening on this disk gave them, and only this journal's calls wrote to it since.
 /// `ends` says for each end which lines were answered, so how the farm stands and what was written. `stored` says what a
-/// crash leaves: at any moment what the store held and the stored events of a front of what was read, and at the end of the
+/// crash leaves: at any moment what the store held and the stored events of a prefix of what was read, and at the end of the
 /// session those of each line to which a part of the reply was written.
 pub fn run_stored<S: Source, K: Sink, Y: Disk>(
     alloc: Global,
@@ -75,7 +75,7 @@ pub fn run_stored<S: Source, K: Sink, Y: Disk>(
         (record { farm = farm.old; left = S.left input.old; held = K.held out.old })
         (record { farm = farm.new; left = S.left input.new; held = K.held out.new }) }
     ensures stored { IsTrue (Y.tells disk.old)
-        → WroteOf (LeavesFront (held (Y.time disk.old).now.seen) farm.old (Y.time disk.old) (Y.time disk.new))
+        → WroteOf (LeavesPrefix (held (Y.time disk.old).now.seen) farm.old (Y.time disk.old) (Y.time disk.new))
         (record { farm = farm.old; left = S.left input.old; held = K.held out.old })
         (record { farm = farm.new; left = S.left input.new; held = K.held out.new }) }
 

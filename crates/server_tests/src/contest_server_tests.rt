@@ -266,13 +266,13 @@ fn serve_failing<R: Threads + Wait + Sync>(
     Ok((end, out, door.back().len()))
 }
 
-/// Checks that serving ended at the put of this number, and a front of the text is written.
-fn check_front(rt: &impl Abort, end: ServeEnd, text: &[u8], failing: u64) {
-    let is_front = WHOLE.as_bytes().starts_with(text) && text.len() < WHOLE.len();
-    assert_eq!(rt; (end, is_front), (ServeEnd::WriteFault, true), "{failing}");
+/// Checks that serving ended at the put of this number, and a prefix of the text is written.
+fn check_prefix(rt: &impl Abort, end: ServeEnd, text: &[u8], failing: u64) {
+    let is_prefix = WHOLE.as_bytes().starts_with(text) && text.len() < WHOLE.len();
+    assert_eq!(rt; (end, is_prefix), (ServeEnd::WriteFault, true), "{failing}");
 }
 
-/// Checks that a front of the text is written where the put of this number fails.
+/// Checks that a prefix of the text is written where the put of this number fails.
 fn check_failing(
     rt: &(impl Threads + Wait + Sync + Abort),
     alloc: Global,
@@ -280,13 +280,13 @@ fn check_failing(
     failing: u64,
 ) -> Result<(), Fail> {
     let (end, out, back) = serve_failing(rt, alloc, roster, failing)?;
-    check_front(rt, end, out.bytes(), failing);
+    check_prefix(rt, end, out.bytes(), failing);
     check_back(rt, back, if failing == 0 { 1 } else { 2 });
     Ok(())
 }
 
 #[test]
-fn a_sink_that_fails_keeps_a_front_of_the_text(rt: HostRuntime) -> Result<(), Fail> {
+fn a_sink_that_fails_keeps_a_prefix_of_the_text(rt: HostRuntime) -> Result<(), Fail> {
     let alloc = rt.alloc();
     let roster = one_roster(alloc)?;
     for failing in 0..3u64 {

@@ -2,10 +2,10 @@ ghost use Rattle.std.specs.Prelude.{◌≡◌, ◌≢◌, IsUtf8, IfOk};
 
 use crate::talks::{ROOM, bytes_of, check_bytes, said};
 use command_text::write_event;
+use farm_api::{Asked, Paths, RequestFault, answer_fault, answer_reply, read_request};
 use farm_io::ReliableSink;
 use farm_kinds::{Kind, Name, NoMemory, Reply, Task, Text};
 use http_door::Head;
-use judge_server::{Asked, Paths, RequestFault, answer_fault, answer_reply, read_request};
 use std::alloc::{AllocError, Global};
 use std::process::Abort;
 use std::test::Fail;

@@ -118,10 +118,10 @@ fn read_all<S: Source>(alloc: Global, source: &mut S) -> Result<Vec<u8>, NoMemor
 
 /// The text in which a piece between `<` and `>`, as `<ab*3>`, stands as often as the number says.
 fn unrolled(alloc: Global, text: &str) -> Result<String, AllocError> {
-    let (front, rest) = text.split_once('<').unwrap_or((text, ""));
+    let (prefix, rest) = text.split_once('<').unwrap_or((text, ""));
     let (piece, rest) = rest.split_once('*').unwrap_or(("", rest));
     let (count, back) = rest.split_once('>').unwrap_or(("", rest));
-    let mut long = String::from_str(alloc, front)?;
+    let mut long = String::from_str(alloc, prefix)?;
     for _ in 0..count.parse::<u32>().unwrap_or(0) {
         long.push_str(piece)?;
     }
@@ -294,8 +294,8 @@ const REQUESTS: &str = concat!(
 );
 
 /// These bytes, one behind the other.
-fn joined(alloc: Global, front: &[u8], back: &[u8]) -> Result<Vec<u8>, AllocError> {
-    let mut bytes = front.to_vec(alloc)?;
+fn joined(alloc: Global, prefix: &[u8], back: &[u8]) -> Result<Vec<u8>, AllocError> {
+    let mut bytes = prefix.to_vec(alloc)?;
     bytes.extend_from_slice(back)?;
     Ok(bytes)
 }

@@ -9,13 +9,13 @@ mod contest_server_tests;
 #[cfg(test)]
 mod door_tests;
 #[cfg(test)]
+mod farm_api_tests;
+#[cfg(test)]
 mod farm_io_tests;
 #[cfg(test)]
 mod feed_tests;
 #[cfg(test)]
 mod http_door_tests;
-#[cfg(test)]
-mod judge_server_tests;
 #[cfg(test)]
 mod loopback_tests;
 #[cfg(test)]

@@ -3,8 +3,8 @@
 ghost use Rattle.std.specs.Prelude.{IfOk};
 ghost use Rattle.farm_io.specs.MemoryDoors.{IsReliableNew};
 
+use farm_api::ConnEnd;
 use farm_io::{Connection, Listening, ReliableConn, ReliableSink, ReliableSource};
-use judge_server::ConnEnd;
 use std::alloc::{AllocError, Global};
 use std::net::{IpAddr, Ipv4Addr};
 use std::process::Abort;

@@ -2,7 +2,7 @@
 use Rattle.std.specs.Prelude.{◌≡◌, ◌≤◌, ◌-◌, ℕ, Bool, List, [], ◌∷◌, ◌++◌, length, take, Option, is_some, codes, IsErrOf, Result}
 use Rattle.std.specs.Io.KnownBytes.{Appends}
 use Rattle.record_store.specs.Model.{Rose}
-use Rattle.record_store.specs.Held.{held, records_of, IsFront}
+use Rattle.record_store.specs.Held.{held, records_of, IsRecordPrefix}
 use Rattle.stored_events.specs.Opening.{config_of, is_unborn}
 use Rattle.store_listing.specs.declared.faults.ListFault.{ListFault}
 use Rattle.store_listing.specs.declared.faults.ListFault.TheVariants as fault
@@ -29,12 +29,12 @@ is_store file = is_store_of file (held file)
 abbrev pub size_behind : List ℕ → ℕ
 size_behind file = length file - length (records_of (held file))
 
--- a front of the text was put
-pub record PutsFront (old new : Option (List ℕ)) (whole : List ℕ) : Type 0 where
+-- a prefix of the text was put
+pub record PutsPrefix (old new : Option (List ℕ)) (whole : List ℕ) : Type 0 where
   pub text : List ℕ
   pub after : List ℕ
   pub put : Appends old new text
-  pub front : text ++ after ≡ whole
+  pub prefix : text ++ after ≡ whole
 
 -- a text was put but for what is pending
 pub record Shows (old new : Option (List ℕ)) (pending whole : List ℕ) : Type 0 where
@@ -44,7 +44,7 @@ pub record Shows (old new : Option (List ℕ)) (pending whole : List ℕ) : Type
 
 -- the records up to the offset have these lines
 pub record IsListed (file : List ℕ) (at : ℕ) (lines : List (List ℕ)) : Type 0 where
-  pub front : IsFront (take at file) lines
+  pub prefix : IsRecordPrefix (take at file) lines
   pub size : length (records_of lines) ≡ at
 
 -- the counts of faults never fall, and have risen where the disk or the output failed

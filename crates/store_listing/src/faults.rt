@@ -9,13 +9,13 @@ use stored_events::OpenFault;
 /// Why a store was not listed.
 #[derive(Clone, Copy, Debug, PartialEq, Eq)]
 pub enum ListFault {
-    /// The disk failed, and its count of faults rose. A front of the text was written.
+    /// The disk failed, and its count of faults rose. A prefix of the text was written.
     Disk,
     /// The file is no store. Nothing was written.
     NoStore,
-    /// The output failed. A front of the text was written.
+    /// The output failed. A prefix of the text was written.
     WriteFault,
-    /// No memory was left. A front of the text was written.
+    /// No memory was left. A prefix of the text was written.
     NoMemory,
 }
 

@@ -2,9 +2,9 @@
 ghost use Rattle.std.specs.Prelude.{◌≡◌, ◌≢◌, ◌≤◌, ◌<◌, ◌+◌, ◌++◌, ◌∷◌, [], ◌⊎◌, ℕ, List, Option, length, take, true, false, IsTrue, IfOk, IfErr, IsErrOf, OnOk, OnErr, codes};
 ghost use Rattle.std.specs.Io.KnownBytes.{Appends};
 ghost use Rattle.farm_io.specs.Streams.{Rose};
-ghost use Rattle.record_store.specs.Held.{held, records_of, IsFront};
+ghost use Rattle.record_store.specs.Held.{held, records_of, IsRecordPrefix};
 ghost use Rattle.stored_events.specs.Opening.{is_unborn, config_of};
-ghost use Rattle.store_listing.specs.Listing.{store_text, is_store, size_behind, PutsFront, Shows, IsListed, HasListCause};
+ghost use Rattle.store_listing.specs.Listing.{store_text, is_store, size_behind, PutsPrefix, Shows, IsListed, HasListCause};
 
 use crate::faults::{ListFault, not_looked_at, not_read};
 use farm_io::{PutEnd, Sink};
@@ -21,7 +21,7 @@ fn put<K: Sink>(pending: &mut Vec<u8>, out: &mut K) -> Result<(), ListFault>
     ensures put { (first : Option (List ℕ)) (whole : List ℕ) → Shows first (K.held out.old) pending.old.items whole
         → OnOk result (Appends first (K.held out.new) whole × (pending.new.items ≡ [])) }
     ensures failed { (first : Option (List ℕ)) (whole : List ℕ) → Shows first (K.held out.old) pending.old.items whole
-        → OnErr result (PutsFront first (K.held out.new) whole) }
+        → OnErr result (PutsPrefix first (K.held out.new) whole) }
     ensures only { OnErr result (IsErrOf result ListFault.WriteFault) }
     ensures later { K.faults out.old ≤ K.faults out.new }
     ensures cause { IsErrOf result ListFault.WriteFault → Rose (K.faults out.old) (K.faults out.new) }
@@ -50,7 +50,7 @@ fn show_line<K: Sink>(pending: &mut Vec<u8>, line: &[u8], out: &mut K) -> Result
     ensures shows { (first : Option (List ℕ)) (whole : List ℕ) → Shows first (K.held out.old) pending.old.items whole
         → OnOk result (Shows first (K.held out.new) pending.new.items (whole ++ line.now ++ 10 ∷ [])) }
     ensures failed { (first : Option (List ℕ)) (whole : List ℕ) → Shows first (K.held out.old) pending.old.items whole
-        → OnErr result (PutsFront first (K.held out.new) (whole ++ line.now ++ 10 ∷ [])) }
+        → OnErr result (PutsPrefix first (K.held out.new) (whole ++ line.now ++ 10 ∷ [])) }
     ensures only { OnErr result (IsErrOf result ListFault.WriteFault ⊎ IsErrOf result ListFault.NoMemory) }
     ensures later { K.faults out.old ≤ K.faults out.new }
     ensures cause { IsErrOf result ListFault.WriteFault → Rose (K.faults out.old) (K.faults out.new) }
@@ -80,7 +80,7 @@ fn show_lines<Y: Disk, K: Sink>(
         × (length (records_of (held (Y.time disk.old).now.seen)) ≡ end)) }
     ensures failed { IsTrue (Y.tells disk.old) → (first : Option (List ℕ)) (config : List ℕ)
         → IsListed (Y.time disk.old).now.seen from (config ∷ []) → Shows first (K.held out.old) pending.old.items (store_text (config ∷ []))
-        → OnErr result (PutsFront first (K.held out.new) (store_text (held (Y.time disk.old).now.seen))) }
+        → OnErr result (PutsPrefix first (K.held out.new) (store_text (held (Y.time disk.old).now.seen))) }
     ensures told { ¬ (IsErrOf result ListFault.NoStore) }
     ensures path { Y.opened disk.new ≡ Y.opened disk.old }
     ensures tells { Y.tells disk.new ≡ Y.tells disk.old }
@@ -114,10 +114,10 @@ fn list_from<Y: Disk, K: Sink>(
 ) -> Result<u64, ListFault>
     requires inside { 3 + length config.now < len }
     requires len { IsTrue (Y.tells disk.old) → len ≡ length (Y.time disk.old).now.seen }
-    requires first { IsTrue (Y.tells disk.old) → IsFront (take (3 + length config.now) (Y.time disk.old).now.seen) (config.now ∷ []) }
+    requires first { IsTrue (Y.tells disk.old) → IsRecordPrefix (take (3 + length config.now) (Y.time disk.old).now.seen) (config.now ∷ []) }
     ensures listed { IsTrue (Y.tells disk.old) → IfOk result (λ rest. IsTrue (is_store (Y.time disk.old).now.seen)
         × Appends (K.held out.old) (K.held out.new) (store_text (held (Y.time disk.old).now.seen)) × (rest ≡ size_behind (Y.time disk.old).now.seen)) }
-    ensures failed { IsTrue (Y.tells disk.old) → OnErr result (PutsFront (K.held out.old) (K.held out.new) (store_text (held (Y.time disk.old).now.seen))) }
+    ensures failed { IsTrue (Y.tells disk.old) → OnErr result (PutsPrefix (K.held out.old) (K.held out.new) (store_text (held (Y.time disk.old).now.seen))) }
     ensures none { IsErrOf result ListFault.NoStore → out.new ≡ out.old }
     ensures no_store { IsTrue (Y.tells disk.old) → IsErrOf result ListFault.NoStore → is_store (Y.time disk.old).now.seen ≡ false }
     ensures path { Y.opened disk.new ≡ Y.opened disk.old }
@@ -141,10 +141,10 @@ fn list_known<Y: Disk, K: Sink>(
 ) -> Result<u64, ListFault>
     requires inside { 3 + length config.now < len }
     requires len { IsTrue (Y.tells disk.old) → len ≡ length (Y.time disk.old).now.seen }
-    requires first { IsTrue (Y.tells disk.old) → IsFront (take (3 + length config.now) (Y.time disk.old).now.seen) (config.now ∷ []) }
+    requires first { IsTrue (Y.tells disk.old) → IsRecordPrefix (take (3 + length config.now) (Y.time disk.old).now.seen) (config.now ∷ []) }
     ensures listed { IsTrue (Y.tells disk.old) → IfOk result (λ rest.
         Appends (K.held out.old) (K.held out.new) (store_text (held (Y.time disk.old).now.seen)) × (rest ≡ size_behind (Y.time disk.old).now.seen)) }
-    ensures failed { IsTrue (Y.tells disk.old) → OnErr result (PutsFront (K.held out.old) (K.held out.new) (store_text (held (Y.time disk.old).now.seen))) }
+    ensures failed { IsTrue (Y.tells disk.old) → OnErr result (PutsPrefix (K.held out.old) (K.held out.new) (store_text (held (Y.time disk.old).now.seen))) }
     ensures told { ¬ (IsErrOf result ListFault.NoStore) }
     ensures path { Y.opened disk.new ≡ Y.opened disk.old }
     ensures tells { Y.tells disk.new ≡ Y.tells disk.old }
@@ -201,7 +201,7 @@ pub fn list_store<Y: Disk, K: Sink>(
 ) -> Result<u64, ListFault>
     ensures listed { IsTrue (Y.tells disk.old) → IfOk result (λ rest. IsTrue (is_store (Y.time disk.old).now.seen)
         × Appends (K.held out.old) (K.held out.new) (store_text (held (Y.time disk.old).now.seen)) × (rest ≡ size_behind (Y.time disk.old).now.seen)) }
-    ensures failed { IsTrue (Y.tells disk.old) → OnErr result (PutsFront (K.held out.old) (K.held out.new) (store_text (held (Y.time disk.old).now.seen))) }
+    ensures failed { IsTrue (Y.tells disk.old) → OnErr result (PutsPrefix (K.held out.old) (K.held out.new) (store_text (held (Y.time disk.old).now.seen))) }
     ensures none { IsErrOf result ListFault.NoStore → out.new ≡ out.old }
     ensures no_store { IsTrue (Y.tells disk.old) → IsErrOf result ListFault.NoStore → is_store (Y.time disk.old).now.seen ≡ false }
     ensures path { Y.opened disk.new ≡ Y.opened disk.old }
@@ -225,7 +225,7 @@ fn list_sized<Y: Disk, K: Sink>(
     requires len { IsTrue (Y.tells disk.old) → len ≡ length (Y.time disk.old).now.seen }
     ensures listed { IsTrue (Y.tells disk.old) → IfOk result (λ rest. IsTrue (is_store (Y.time disk.old).now.seen)
         × Appends (K.held out.old) (K.held out.new) (store_text (held (Y.time disk.old).now.seen)) × (rest ≡ size_behind (Y.time disk.old).now.seen)) }
-    ensures failed { IsTrue (Y.tells disk.old) → OnErr result (PutsFront (K.held out.old) (K.held out.new) (store_text (held (Y.time disk.old).now.seen))) }
+    ensures failed { IsTrue (Y.tells disk.old) → OnErr result (PutsPrefix (K.held out.old) (K.held out.new) (store_text (held (Y.time disk.old).now.seen))) }
     ensures none { IsErrOf result ListFault.NoStore → out.new ≡ out.old }
     ensures no_store { IsTrue (Y.tells disk.old) → IsErrOf result ListFault.NoStore → is_store (Y.time disk.old).now.seen ≡ false }
     ensures path { Y.opened disk.new ≡ Y.opened disk.old }

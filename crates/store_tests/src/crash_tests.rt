@@ -201,7 +201,7 @@ fn check_stopped_at(rt: &impl Abort, alloc: Global, call: u64) -> Result<bool, N
 }
 
 #[test]
-fn every_crash_opens_to_a_front(rt: HostRuntime) -> Result<(), Fail> {
+fn every_crash_opens_to_a_prefix(rt: HostRuntime) -> Result<(), Fail> {
     let mut stopped = 0u64;
     for call in 0..CALLS.saturating_add(1) {
         if check_stopped_at(&rt, rt.alloc(), call)? {

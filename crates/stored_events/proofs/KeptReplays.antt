@@ -42,40 +42,40 @@ pub replayed_kept : (s : State) (number : ℕ) (es : List Event) → AreReadBack
 replayed_kept s number [] back = refl
 replayed_kept s number (e ∷ es) back = played_first s number e es (is_kept e (reply_to s e)) back.0 refl (λ m. replayed_kept (farm_step s e).0 m es back.1)
 
--- The first of what is stored of a run is what is stored of a front of it
+-- The first of what is stored of a run is what is stored of a prefix of it
 
 take_none : (xs : List Event) → take 0 xs ≡ []
 take_none [] = refl
 take_none (x ∷ xs) = refl
 
--- a front of the run has so many events that are stored
-HasFront : State → List Event → ℕ → Type 0
-HasFront s es k = (j : ℕ) × (take k (kept_events s es) ≡ kept_events s (take j es))
+-- a prefix of the run has so many events that are stored
+HasPrefix : State → List Event → ℕ → Type 0
+HasPrefix s es k = (j : ℕ) × (take k (kept_events s es) ≡ kept_events s (take j es))
 
 kept_if : State → Event → Bool → List Event → List Event
 kept_if s e b xs = if b then e ∷ kept_events (farm_step s e).0 xs else kept_events (farm_step s e).0 xs
 
-front_more : (s : State) (e : Event) (es : List Event) (k : ℕ) (b : Bool) → is_kept e (reply_to s e) ≡ b → ((n : ℕ) → HasFront (farm_step s e).0 es n) → HasFront s (e ∷ es) (suc k)
-unfolding HasFront kept_if
-front_more s e es k true is rest =
+prefix_more : (s : State) (e : Event) (es : List Event) (k : ℕ) (b : Bool) → is_kept e (reply_to s e) ≡ b → ((n : ℕ) → HasPrefix (farm_step s e).0 es n) → HasPrefix s (e ∷ es) (suc k)
+unfolding HasPrefix kept_if
+prefix_more s e es k true is rest =
     let same : (xs : List Event) → kept_events s (e ∷ xs) ≡ e ∷ kept_events (farm_step s e).0 xs = λ xs. ap (λ (b : Bool). kept_if s e b xs) is in
     let r = rest k in
     (suc r.0, ap (λ (l : List Event). take (suc k) l) (same es) ∙ ap (λ (l : List Event). e ∷ l) r.1 ∙ sym (same (take r.0 es)))
-front_more s e es k false is rest =
+prefix_more s e es k false is rest =
     let same : (xs : List Event) → kept_events s (e ∷ xs) ≡ kept_events (farm_step s e).0 xs = λ xs. ap (λ (b : Bool). kept_if s e b xs) is in
     let r = rest (suc k) in
     (suc r.0, ap (λ (l : List Event). take (suc k) l) (same es) ∙ r.1 ∙ sym (same (take r.0 es)))
 
-fronts : (s : State) (es : List Event) (k : ℕ) → HasFront s es k
-unfolding HasFront
-fronts s [] zero = (0, take_none [])
-fronts s [] (suc k) = (0, refl)
-fronts s (e ∷ es) zero = (0, take_none (kept_events s (e ∷ es)) ∙ sym (ap (λ (l : List Event). kept_events s l) (take_none (e ∷ es))))
-fronts s (e ∷ es) (suc k) = front_more s e es k (is_kept e (reply_to s e)) refl (λ n. fronts (farm_step s e).0 es n)
+prefixes : (s : State) (es : List Event) (k : ℕ) → HasPrefix s es k
+unfolding HasPrefix
+prefixes s [] zero = (0, take_none [])
+prefixes s [] (suc k) = (0, refl)
+prefixes s (e ∷ es) zero = (0, take_none (kept_events s (e ∷ es)) ∙ sym (ap (λ (l : List Event). kept_events s l) (take_none (e ∷ es))))
+prefixes s (e ∷ es) (suc k) = prefix_more s e es k (is_kept e (reply_to s e)) refl (λ n. prefixes (farm_step s e).0 es n)
 
-pub kept_front : (s : State) (es : List Event) (k : ℕ) → (j : ℕ) × (take k (kept_events s es) ≡ kept_events s (take j es))
-unfolding HasFront
-kept_front s es k = fronts s es k
+pub kept_prefix : (s : State) (es : List Event) (k : ℕ) → (j : ℕ) × (take k (kept_events s es) ≡ kept_events s (take j es))
+unfolding HasPrefix
+kept_prefix s es k = prefixes s es k
 
 -- The first record
 

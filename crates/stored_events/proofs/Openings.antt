@@ -3,10 +3,10 @@ use Rattle.std.proofs.Common.{◌≡◌, ◌⊎◌, inl, inr, ℕ, ◌+◌, ◌<
 use Rattle.std.specs.Str.{bytes_eq}
 use Rattle.record_store.specs.declared.disk.DiskErr.{DiskErr}
 use Rattle.record_store.specs.Model.{DiskState, DiskTime, AtEachMoment, Leaves, IsQuiet, Syncs, Passes, OnlySynced}
-use Rattle.record_store.specs.Held.{held, records_of, IsFront, IsNext, IsRead, IsClosedAt, Rests, HoldsStill, IsBeforeOrAfter}
+use Rattle.record_store.specs.Held.{held, records_of, IsRecordPrefix, IsNext, IsRead, IsClosedAt, Rests, HoldsStill, IsBeforeOrAfter}
 use Rattle.record_store.proofs.Moments.{started, goes_on, weaken, followed}
 use Rattle.record_store.proofs.Images.{quiet_leaves, sync_leaves, quiet_seen}
-use Rattle.record_store.proofs.Fronts.{nil_front, closed_held}
+use Rattle.record_store.proofs.Prefixes.{nil_prefix, closed_held}
 use Rattle.record_store.proofs.Opens.{read_held}
 use Rattle.farm_model.specs.State.{State}
 use Rattle.stored_events.specs.Opening.{config_line, config_of, replayed, is_unborn, opened_with, opened_by, opened_of, opened_lines, HoldsOrBegins}
@@ -18,15 +18,15 @@ take_none : (file : List ℕ) → take 0 file ≡ []
 take_none [] = refl
 take_none (b ∷ file) = refl
 
--- the first record of a file is a front of it
-pub first_front : (file line : List ℕ) → IsNext file 0 line → IsFront (take (3 + length line) file) (line ∷ [])
-first_front file line next =
-    let start : IsFront (take 0 file) [] = subst (λ (f : List ℕ). IsFront f []) (sym (take_none file)) nil_front in
+-- the first record of a file is a prefix of it
+pub first_prefix : (file line : List ℕ) → IsNext file 0 line → IsRecordPrefix (take (3 + length line) file) (line ∷ [])
+first_prefix file line next =
+    let start : IsRecordPrefix (take 0 file) [] = subst (λ (f : List ℕ). IsRecordPrefix f []) (sym (take_none file)) nil_prefix in
     let same : 0 + 3 + length line ≡ 3 + length line = omega arith in
-    subst (λ (n : ℕ). IsFront (take n file) (line ∷ [])) same (next [] start)
+    subst (λ (n : ℕ). IsRecordPrefix (take n file) (line ∷ [])) same (next [] start)
 
 -- and is held
-pub first_held : (file line : List ℕ) (n : ℕ) → IsFront (take n file) (line ∷ []) → n < length file → held file ≡ line ∷ held (drop n file)
+pub first_held : (file line : List ℕ) (n : ℕ) → IsRecordPrefix (take n file) (line ∷ []) → n < length file → held file ≡ line ∷ held (drop n file)
 first_held file line n is inside = ap held (sym (take-append-drop n file)) ∙ is.reads (drop n file) (omega (arith, inside, length-drop n file))
 
 module _ (digest : List ℕ) (s : State) (file line : List ℕ) (rest : List (List ℕ)) (is : held file ≡ line ∷ rest) where
@@ -53,7 +53,7 @@ tail_is : (x y : List ℕ) (xs ys : List (List ℕ)) → x ∷ xs ≡ y ∷ ys �
 tail_is x y xs ys is = ap (λ (l : List (List ℕ)). drop 1 l) is
 
 -- what all the records behind the first one lead to
-pub opened_played : (digest : List ℕ) (s new : State) (file line kept : List ℕ) (end n : ℕ) → IsFront (take n file) (line ∷ []) → n < length file → config_of line ≡ Some kept → bytes_eq kept digest ≡ true
+pub opened_played : (digest : List ℕ) (s new : State) (file line kept : List ℕ) (end n : ℕ) → IsRecordPrefix (take n file) (line ∷ []) → n < length file → config_of line ≡ Some kept → bytes_eq kept digest ≡ true
     → end < length file → ReplaysTo file (line ∷ []) s new end → opened_of digest s file ≡ Ok new
 opened_played digest s new file line kept end n first inside some same within played =
     let is = first_held file line n first inside in
@@ -61,7 +61,7 @@ opened_played digest s new file line kept end n first inside some same within pl
     let rest : held (drop n file) ≡ played.lines = tail_is line line (held (drop n file)) played.lines (sym is ∙ sym lines) in
     opened_same digest s file line (held (drop n file)) is kept some same ∙ ap (λ (l : List (List ℕ)). replayed s 2 l) rest ∙ played.played
 
-pub opened_failed : (digest : List ℕ) (s : State) (file line kept : List ℕ) (n number : ℕ) → IsFront (take n file) (line ∷ []) → n < length file → config_of line ≡ Some kept → bytes_eq kept digest ≡ true
+pub opened_failed : (digest : List ℕ) (s : State) (file line kept : List ℕ) (n number : ℕ) → IsRecordPrefix (take n file) (line ∷ []) → n < length file → config_of line ≡ Some kept → bytes_eq kept digest ≡ true
     → FailsAtRecord file (line ∷ []) s number → opened_of digest s file ≡ Err (fault.BadRecord number)
 opened_failed digest s file line kept n number first inside some same failed =
     let is = first_held file line n first inside in

@@ -59,10 +59,10 @@ fn is_space(b: u8) -> bool {
 
 /// The output ends before this token of the answer.
 fn missing(alloc: Global, number: u64, judge: &[u8]) -> Result<Vec<u8>, AllocError> {
-    let front = format!(in alloc;
+    let prefix = format!(in alloc;
         "Wrong answer: the output ends before token {number}, and the answer has "
     )?;
-    let mut text = front.into_bytes();
+    let mut text = prefix.into_bytes();
     push_token(&mut text, judge)?;
     text.push(b'\n')?;
     Ok(text)
@@ -70,10 +70,10 @@ fn missing(alloc: Global, number: u64, judge: &[u8]) -> Result<Vec<u8>, AllocErr
 
 /// The output goes on with this token where the answer has ended.
 fn extra(alloc: Global, number: u64, team: &[u8]) -> Result<Vec<u8>, AllocError> {
-    let front = format!(in alloc;
+    let prefix = format!(in alloc;
         "Wrong answer: the answer ends before token {number}, and the output has "
     )?;
-    let mut text = front.into_bytes();
+    let mut text = prefix.into_bytes();
     push_token(&mut text, team)?;
     text.push(b'\n')?;
     Ok(text)
@@ -81,8 +81,8 @@ fn extra(alloc: Global, number: u64, team: &[u8]) -> Result<Vec<u8>, AllocError>
 
 /// These tokens do not agree.
 fn different(alloc: Global, number: u64, judge: &[u8], team: &[u8]) -> Result<Vec<u8>, AllocError> {
-    let front = format!(in alloc; "Wrong answer: token {number} of the answer is ")?;
-    let mut text = front.into_bytes();
+    let prefix = format!(in alloc; "Wrong answer: token {number} of the answer is ")?;
+    let mut text = prefix.into_bytes();
     push_token(&mut text, judge)?;
     text.extend_from_slice(b", and the output has ")?;
     push_token(&mut text, team)?;
@@ -90,7 +90,7 @@ fn different(alloc: Global, number: u64, judge: &[u8], team: &[u8]) -> Result<Ve
     Ok(text)
 }
 
-/// Puts a token between backquotes, or the front of one that is long.
+/// Puts a token between backquotes, or the prefix of one that is long.
 fn push_token(text: &mut Vec<u8>, token: &[u8]) -> Result<(), AllocError> {
     text.push(b'`')?;
     for b in &token[..token.len().min(SHOWN)] {

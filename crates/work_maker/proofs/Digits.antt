@@ -42,26 +42,26 @@ unlike b sep h = grind (arith, nat_tests)
 
 -- ---- what stands before a separator
 
-pub same_front : (sep : ℕ) (ds es a b : List ℕ) → Lacks sep ds → Lacks sep es → ds ++ sep ∷ a ≡ es ++ sep ∷ b → (ds ≡ es) × (a ≡ b)
-same_front sep [] [] a b hd he e = (refl, (let t : a ≡ b = cc in t))
-same_front sep [] (x ∷ es) a b hd he e = absurd (he.0 (let h : x ≡ sep = cc in h))
-same_front sep (x ∷ ds) [] a b hd he e = absurd (hd.0 (let h : x ≡ sep = cc in h))
-same_front sep (x ∷ ds) (y ∷ es) a b hd he e =
+pub same_prefix : (sep : ℕ) (ds es a b : List ℕ) → Lacks sep ds → Lacks sep es → ds ++ sep ∷ a ≡ es ++ sep ∷ b → (ds ≡ es) × (a ≡ b)
+same_prefix sep [] [] a b hd he e = (refl, (let t : a ≡ b = cc in t))
+same_prefix sep [] (x ∷ es) a b hd he e = absurd (he.0 (let h : x ≡ sep = cc in h))
+same_prefix sep (x ∷ ds) [] a b hd he e = absurd (hd.0 (let h : x ≡ sep = cc in h))
+same_prefix sep (x ∷ ds) (y ∷ es) a b hd he e =
     let heads : x ≡ y = cc in
     let tails : ds ++ sep ∷ a ≡ es ++ sep ∷ b = cc in
-    let more = same_front sep ds es a b hd.1 he.1 tails in
+    let more = same_prefix sep ds es a b hd.1 he.1 tails in
     ((let h : x ∷ ds ≡ y ∷ es = ap (λ z. z ∷ ds) heads ∙ ap (λ zs. y ∷ zs) more.0 in h), more.1)
 
 pub same_number : (i j : ℕ) (a b : List ℕ) → i < 2 ^ 64 → j < 2 ^ 64 → decimal i ++ 47 ∷ a ≡ decimal j ++ 47 ∷ b → (i ≡ j) × (a ≡ b)
 same_number i j a b si sj e =
-    let h = same_front 47 (decimal i) (decimal j) a b (number_lacks 47 i (omega arith) si) (number_lacks 47 j (omega arith) sj) e in
+    let h = same_prefix 47 (decimal i) (decimal j) a b (number_lacks 47 i (omega arith) si) (number_lacks 47 j (omega arith) sj) e in
     (decimal_injective i j si sj h.0, h.1)
 
 -- ---- what lies below a folder
 
-pub below_same : (front folder path : List ℕ) → below (front ++ folder) (front ++ path) ≡ below folder path
+pub below_same : (prefix folder path : List ℕ) → below (prefix ++ folder) (prefix ++ path) ≡ below folder path
 below_same [] folder path = refl
-below_same (a ∷ front) folder path = ap (λ t. cond t (below (front ++ folder) (front ++ path)) None) (eq-eqb a a refl) ∙ below_same front folder path
+below_same (a ∷ prefix) folder path = ap (λ t. cond t (below (prefix ++ folder) (prefix ++ path)) None) (eq-eqb a a refl) ∙ below_same prefix folder path
 
 pub below_other : (ds es a b : List ℕ) → Lacks 47 ds → Lacks 47 es → ds ≢ es → below (ds ++ 47 ∷ a) (es ++ 47 ∷ b) ≡ None
 below_other [] [] a b hd he ne = absurd (ne refl)

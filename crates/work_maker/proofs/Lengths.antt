@@ -4,7 +4,7 @@ use Rattle.std.specs.Fmt.{decimal}
 use Rattle.std.proofs.lemmas.Fmt.{length-decimal-le}
 
 -- a number of 32 bits has at most ten digits
-pub with_number : (front back : List ℕ) (n : ℕ) → n < 2 ^ 32 → length (front ++ (decimal n ++ back)) ≤ length front + 10 + length back
-with_number front back n small =
+pub with_number : (prefix back : List ℕ) (n : ℕ) → n < 2 ^ 32 → length (prefix ++ (decimal n ++ back)) ≤ length prefix + 10 + length back
+with_number prefix back n small =
     let digits : length (decimal n) ≤ 10 = length-decimal-le 10 n (omega arith) (omega (arith, small)) (omega (arith, small)) in
-    omega (arith, digits, length-append front (decimal n ++ back), length-append (decimal n) back)
+    omega (arith, digits, length-append prefix (decimal n ++ back), length-append (decimal n) back)

@@ -35,7 +35,7 @@ pub whole : (number problems submissions : ℕ) (none first all : List TreeFile)
     → first ≡ none ++ flat_map problem_files (problems_from problems 1 state) → later ≡ after_problems problems state
     → all ≡ first ++ submission_files (submissions_from submissions problems later) → all ≡ made_files number problems submissions
 whole number problems submissions none first all state later empty begins one moved two =
-    let front : first ≡ flat_map problem_files (problems_from problems 1 number) =
+    let prefix : first ≡ flat_map problem_files (problems_from problems 1 number) =
     one ∙ ap (λ fs. fs ++ flat_map problem_files (problems_from problems 1 state)) empty ∙ ap (λ s. flat_map problem_files (problems_from problems 1 s)) begins in
-    two ∙ ap (λ fs. fs ++ submission_files (submissions_from submissions problems later)) front
+    two ∙ ap (λ fs. fs ++ submission_files (submissions_from submissions problems later)) prefix
     ∙ ap (λ s. flat_map problem_files (problems_from problems 1 number) ++ submission_files (submissions_from submissions problems s)) (moved ∙ ap (after_problems problems) begins)

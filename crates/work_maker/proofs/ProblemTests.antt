@@ -91,15 +91,15 @@ others_are : (problems i : ℕ) (made : List MadeProblem) → problems ≤ 50 �
 others_are problems i [] few are differ = tt
 others_are problems i (p ∷ made) few are differ = ((omega (arith, few, are.0.last), differ.0), others_are problems i made few are.1 differ.1)
 
-front_are : (P : MadeProblem → Type 0) (before : List MadeProblem) (p : MadeProblem) (behind : List MadeProblem) → Each P (before ++ p ∷ behind) → Each P before × P p × Each P behind
-front_are P [] p behind each = (tt, each.0, each.1)
-front_are P (q ∷ before) p behind each = let h = front_are P before p behind each.1 in ((each.0, h.0), h.1, h.2)
+prefix_are : (P : MadeProblem → Type 0) (before : List MadeProblem) (p : MadeProblem) (behind : List MadeProblem) → Each P (before ++ p ∷ behind) → Each P before × P p × Each P behind
+prefix_are P [] p behind each = (tt, each.0, each.1)
+prefix_are P (q ∷ before) p behind each = let h = prefix_are P before p behind each.1 in ((each.0, h.0), h.1, h.2)
 
 -- the tests of a problem are those of its own files
 pub tests_are : (problems i : ℕ) (made : List MadeProblem) (submissions : List MadeSubmission) → problems ≤ 50 → i ≤ 50 → Each (IsProblem problems) made
     → (has : HasProblem made i) → paths_below (data_folder i) (files_with made submissions) ≡ in_order (test_paths i 1 (length has.problem.inputs))
 tests_are problems i made submissions few si are has =
-    let parts = front_are (IsProblem problems) has.before has.problem has.behind (subst (Each (IsProblem problems)) has.is are) in
+    let parts = prefix_are (IsProblem problems) has.before has.problem has.behind (subst (Each (IsProblem problems)) has.is are) in
     let flat = flat_map problem_files in
     let rest = submission_files submissions in
     let a : tests_among i (flat has.before) ≡ [] = other_problems i has.before si (others_are problems i has.before few parts.0 has.before_other) in

@@ -5,10 +5,10 @@ ghost use Rattle.farm_model.specs.Refusals.{ask_reply};
 ghost use Rattle.farm_model.specs.Changes.{asked};
 ghost use Rattle.farm_core.specs.FarmShape.{HadMemory};
 
-use super::Contest;
+use super::ContestState;
 use farm_kinds::Reply;
 
-impl Contest {
+impl ContestState {
     /// Why the judging is not asked for.
     pub fn ask_refusal(&self, judging: u32) -> Option<Reply>
         ensures refusal { result ≡ option_map (ask_reply self.now judging) (ask_refusal self.now.judge.judgings judging) }

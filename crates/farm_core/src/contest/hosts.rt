@@ -6,11 +6,11 @@ ghost use Rattle.farm_model.specs.State.{host_number, up_number};
 ghost use Rattle.farm_model.specs.Changes.{host_as};
 ghost use Rattle.farm_model.specs.Farm.{Stepped};
 
-use super::Contest;
+use super::ContestState;
 use farm_kinds::{MAX_HOSTS, Name, NoMemory, Reply};
 use farm_model::Host;
 
-impl Contest {
+impl ContestState {
     /// Brings a host up, under its old number where its name was entered before.
     pub fn bring_up(&mut self, name: Name) -> Reply
         ensures { Stepped self.old (events.Host name) self.new result }

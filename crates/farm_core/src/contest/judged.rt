@@ -4,14 +4,14 @@ ghost use Rattle.farm_model.specs.Judge.{judge_claim, judge_fetch};
 ghost use Rattle.judging_core.specs.JudgeValue.{in_state};
 ghost use Rattle.std.specs.Prelude.{◌≡◌, ◌≤◌};
 
-use super::Contest;
+use super::ContestState;
 use crate::replies::{claim_reply, count_reply, fetch_reply, renewed_reply};
 use farm_kinds::{Claim, Fetched, Kind, Name, Reply};
 use judging_core::{Judge, Steps};
 use std::marker::Brand;
 use std::sync::ledger::{Blank, Ledger};
 
-impl Contest {
+impl ContestState {
     /// A host asks for a task, which it then holds for as long as the settings say.
     pub fn claim(&mut self, host: Name) -> Reply
         ensures { Stepped self.old (events.Claim host) self.new result }

@@ -4,10 +4,10 @@ ghost use Rattle.farm_model.specs.Refusals.{refusal_of};
 ghost use Rattle.farm_model.specs.Changes.{accepted, logged};
 ghost use Rattle.farm_core.specs.FarmShape.{HadMemory};
 
-use super::Contest;
+use super::ContestState;
 use farm_kinds::{Event, NoMemory, Reply};
 
-impl Contest {
+impl ContestState {
     /// Why an event of the jury is refused. Nothing changes.
     pub fn jury_refusal(&mut self, event: &Event) -> Option<Reply>
         requires { IsSome (jury_actor event.now) }

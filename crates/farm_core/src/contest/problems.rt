@@ -7,12 +7,12 @@ ghost use Rattle.farm_model.specs.Numbered.{number_or_0};
 ghost use Rattle.farm_model.specs.Changes.{with_problem, with_version};
 ghost use Rattle.farm_core.specs.FarmShape.{HadMemory};
 
-use super::Contest;
+use super::ContestState;
 use crate::modes::{is_asked_at_once, judged_mode, mode_named};
 use farm_kinds::{MAX_PROBLEMS, MAX_TESTS, MAX_VERSIONS, Name, NoMemory, Reply};
 use farm_model::Problem;
 
-impl Contest {
+impl ContestState {
     /// Where the problem of this name stands.
     pub fn problem_place(&self, name: &Name) -> Option<usize>
         ensures place { result ≡ position (λ problem. bytes_eq problem.name name.now) self.now.problems }

@@ -3,11 +3,11 @@ ghost use Rattle.farm_kinds.specs.declared.events.Event.TheVariants as events;
 ghost use Rattle.farm_model.specs.State.{answer_at, public_answer, public_answers};
 ghost use Rattle.farm_model.specs.Farm.{Stepped};
 
-use super::Contest;
+use super::ContestState;
 use crate::places::{is_verified, owner_of};
 use farm_kinds::{Answer, Answers, NoMemory, Reply};
 
-impl Contest {
+impl ContestState {
     /// What the jury sees of a judging.
     pub fn show(&self, judging: u32) -> Reply
         ensures { Stepped self.now (events.Show judging) self.now result }

@@ -9,14 +9,14 @@ ghost use Rattle.farm_model.specs.Farm.{Stepped};
 ghost use Rattle.rejudge_book.specs.Refusals.{AreKnown, reserve_refusal};
 ghost use Rattle.farm_core.specs.FarmShape.{HadMemory, fault_reply, list_refusal};
 
-use super::Contest;
+use super::ContestState;
 use crate::lists::{add_details, add_judgings, cells_of, currents_of, drop_judgings, make_current};
 use crate::replies::fault_reply;
 use farm_kinds::{Answer, How, MAX_JUDGINGS, MAX_REJUDGINGS, NoMemory, Reply};
 use farm_model::{Member, RejudgeState, item_of};
 use rejudge_book::{RejudgeBook, matrix};
 
-impl Contest {
+impl ContestState {
     /// Why no rejudging of these submissions is prepared. Nothing changes.
     pub fn rejudge_refusal(&mut self, list: &[u32]) -> Option<Reply>
         ensures refusal { result ≡ rejudge_refusal self.old list.now }

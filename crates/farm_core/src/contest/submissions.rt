@@ -4,13 +4,13 @@ ghost use Rattle.farm_model.specs.Limits.{max_judgings, max_submissions};
 ghost use Rattle.farm_model.specs.Changes.{submitted};
 ghost use Rattle.farm_model.specs.Farm.{Stepped};
 
-use super::Contest;
+use super::ContestState;
 use crate::modes::{asked_for, mode_for};
 use crate::places::cells_for;
 use farm_kinds::{Class, MAX_JUDGINGS, MAX_SUBMISSIONS, Name, NoMemory, Reply};
 use farm_model::{JudgingDetails, Submission};
 
-impl Contest {
+impl ContestState {
     /// A submission to a problem, with its judging. At `NoMemory` nothing changes.
     pub fn submit(&mut self, problem: Name, class: Class, broken: bool) -> Reply
         ensures { Stepped self.old (events.Submit problem class broken) self.new result }

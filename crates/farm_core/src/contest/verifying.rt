@@ -4,11 +4,11 @@ ghost use Rattle.farm_model.specs.Refusals.{verify_refusal};
 ghost use Rattle.farm_model.specs.Changes.{verified};
 ghost use Rattle.farm_core.specs.FarmShape.{HadMemory};
 
-use super::Contest;
+use super::ContestState;
 use crate::places::{is_verified, mark_verified};
 use farm_kinds::{Answer, Reply};
 
-impl Contest {
+impl ContestState {
     /// Why the judging is not verified.
     pub fn verify_refusal(&self, judging: u32) -> Option<Reply>
         ensures refusal { result ≡ verify_refusal self.now judging }

@@ -3,11 +3,11 @@ use Rattle.std.specs.Fmt.{decimal}
 use Rattle.contest_folder.specs.FaultTexts.{printed}
 use Rattle.contest_folder.proofs.texts.push_wide.Goals as goal
 
-further : {T E : Type 0} (r : Result T E) (old new last front between tail : List ℕ) → OnOk r (last ≡ new ++ (between ++ tail)) → new ≡ old ++ front
-    → OnOk r (last ≡ old ++ (front ++ between ++ tail))
-further (Ok x) old new last front between tail h e =
-    h ∙ ap (λ t. t ++ (between ++ tail)) e ∙ append_assoc old front (between ++ tail) ∙ ap (λ t. old ++ t) (sym (append_assoc front between tail))
-further (Err x) old new last front between tail h e = h
+further : {T E : Type 0} (r : Result T E) (old new last prefix between tail : List ℕ) → OnOk r (last ≡ new ++ (between ++ tail)) → new ≡ old ++ prefix
+    → OnOk r (last ≡ old ++ (prefix ++ between ++ tail))
+further (Ok x) old new last prefix between tail h e =
+    h ∙ ap (λ t. t ++ (between ++ tail)) e ∙ append_assoc old prefix (between ++ tail) ∙ ap (λ t. old ++ t) (sym (append_assoc prefix between tail))
+further (Err x) old new last prefix between tail h e = h
 
 pub returns : goal.returns
 returns c =

@@ -2,7 +2,7 @@ use Rattle.std.proofs.Common.{[], ◌∷◌, ◌++◌, ◌≡◌, ◌+◌, ◌<�
 use Rattle.std.specs.Prelude.{All}
 use Rattle.std.proofs.lemmas.List.{map-append, length-map}
 use Rattle.contest_server.specs.declared.accepting.Coming.TheVariants as coming
-use Rattle.judge_server.specs.Exchanges.{around_of}
+use Rattle.farm_api.specs.Exchanges.{around_of}
 use Rattle.contest_server.specs.Visits.{watch, on_board, Start}
 use Rattle.contest_server.specs.Lanes.{start_of, starts_of, IsLane}
 use Rattle.contest_server.specs.Serving.{desk_value, share, AcceptsNext}

@@ -1,7 +1,7 @@
 use Rattle.std.proofs.Common.{ℕ, List, Option, sym, ap, ◌∙◌, subst, arith}
 use Rattle.farm_io.specs.Doors.{DoorState}
 use Rattle.farm_board.specs.Passes.{PassValue}
-use Rattle.judge_server.specs.Exchanges.{around_of}
+use Rattle.farm_api.specs.Exchanges.{around_of}
 use Rattle.contest_server.specs.Visits.{watch, on_board, Start}
 use Rattle.contest_server.specs.Lanes.{starts_of}
 use Rattle.contest_server.specs.Serving.{desk_value, IsOrderly, ServesNext}

@@ -1,5 +1,5 @@
 use Rattle.std.proofs.Common.{sym, ◌∙◌}
-use Rattle.judge_server.specs.Exchanges.{around_of}
+use Rattle.farm_api.specs.Exchanges.{around_of}
 use Rattle.contest_server.specs.Visits.{watch, on_board}
 use Rattle.contest_server.proofs.Finishing.{opening_of, tells_none, finished, finished_cause}
 use Rattle.contest_server.proofs.boards.serve_board.Goals as goal

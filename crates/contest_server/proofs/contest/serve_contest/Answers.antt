@@ -4,7 +4,7 @@ use Rattle.farm_board.specs.Histories.{opening_board}
 use Rattle.contest_folder.specs.RosterValue.{RosterValue}
 use Rattle.contest_folder.specs.JudgingCases.{case_at}
 use Rattle.contest_page.specs.ViewValue.{ViewValue}
-use Rattle.judge_server.specs.Exchanges.{around_of}
+use Rattle.farm_api.specs.Exchanges.{around_of}
 use Rattle.judge_feed.specs.Refreshing.{IsFresh}
 use Rattle.contest_server.specs.Beside.{HasSplit}
 use Rattle.contest_server.specs.Contest.{entering_events, seats}

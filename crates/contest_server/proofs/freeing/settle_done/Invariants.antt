@@ -1,6 +1,6 @@
 use Rattle.std.proofs.Common.{◌≡◌}
 use Rattle.std.specs.VecDeque.{deque_len}
-use Rattle.judge_server.specs.Exchanges.{around_of}
+use Rattle.farm_api.specs.Exchanges.{around_of}
 use Rattle.contest_server.specs.Visits.{watch, on_board}
 use Rattle.contest_server.specs.Lanes.{starts_of, AreLanes}
 use Rattle.contest_server.proofs.freeing.settle_done.Given as goal

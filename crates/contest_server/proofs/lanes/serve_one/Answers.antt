@@ -1,4 +1,4 @@
-use Rattle.judge_server.specs.Exchanges.{around_of}
+use Rattle.farm_api.specs.Exchanges.{around_of}
 use Rattle.contest_server.specs.Visits.{watch, on_board}
 use Rattle.contest_server.proofs.Unread.{unread}
 use Rattle.contest_server.proofs.lanes.serve_one.Goals as goal

@@ -1,6 +1,6 @@
 use Rattle.std.proofs.Common.{◌-◌, ℕ, List, Option, ap, subst, arith}
 use Rattle.std.proofs.lemmas.List.{length-map}
-use Rattle.judge_server.specs.Exchanges.{around_of}
+use Rattle.farm_api.specs.Exchanges.{around_of}
 use Rattle.contest_server.specs.Visits.{watch, on_board, conn_line}
 use Rattle.contest_server.specs.Lanes.{start_of, starts_of}
 use Rattle.contest_server.specs.Serving.{desk_value}

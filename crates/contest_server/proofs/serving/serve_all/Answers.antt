@@ -2,7 +2,7 @@ use Rattle.std.proofs.Common.{◌≤◌, Ok, length, arith, sym, subst}
 use Rattle.std.proofs.lemmas.List.{length-map}
 use Rattle.contest_server.specs.declared.ends.ServeEnd.TheVariants as end
 use Rattle.contest_server.specs.declared.accepting.Coming.TheVariants as coming
-use Rattle.judge_server.specs.Exchanges.{around_of}
+use Rattle.farm_api.specs.Exchanges.{around_of}
 use Rattle.contest_server.specs.Visits.{watch, on_board}
 use Rattle.contest_server.specs.Lanes.{start_of, starts_of}
 use Rattle.contest_server.specs.Serving.{desk_value, with_coming, ServesNext, ServesAll}

@@ -1,5 +1,5 @@
 use Rattle.std.proofs.Common.{◌≡◌, ◌≤◌}
-use Rattle.judge_server.specs.Exchanges.{around_of}
+use Rattle.farm_api.specs.Exchanges.{around_of}
 use Rattle.contest_server.specs.Visits.{watch, on_board}
 use Rattle.contest_server.specs.Lanes.{starts_of, AreLanes}
 use Rattle.contest_server.specs.Serving.{desk_value, IsUnderWay}

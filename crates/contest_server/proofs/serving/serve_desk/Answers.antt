@@ -1,5 +1,5 @@
 use Rattle.std.proofs.Common.{ℕ, List, [], Option, ap, sym, subst, arith}
-use Rattle.judge_server.specs.Exchanges.{around_of}
+use Rattle.farm_api.specs.Exchanges.{around_of}
 use Rattle.contest_server.specs.Visits.{watch, on_board}
 use Rattle.contest_server.specs.Lanes.{starts_of}
 use Rattle.contest_server.specs.Serving.{desk_value, ServesLanes}

@@ -1,7 +1,7 @@
 use Rattle.std.proofs.Common.{◌≡◌, ◌+◌, drop}
 use Rattle.std.specs.List.{prefix_len}
 use Rattle.decimal_compare.specs.Digits.{is_digit}
-use Rattle.decimal_compare.proofs.numeral.front_len.Given as goal
+use Rattle.decimal_compare.proofs.numeral.digits_len.Given as goal
 
 abbrev pub invariant-loop-i : goal.invariant-loop-i
 invariant-loop-i l = prefix_len is_digit l.text ≡ l.i + prefix_len is_digit (drop l.i l.text)

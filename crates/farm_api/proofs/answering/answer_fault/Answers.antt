@@ -1,5 +1,5 @@
-use Rattle.judge_server.specs.Conversation.{fault_response}
-use Rattle.judge_server.proofs.answering.answer_fault.Goals as goal
+use Rattle.farm_api.specs.Conversation.{fault_response}
+use Rattle.farm_api.proofs.answering.answer_fault.Goals as goal
 
 pub returns-in-Ok-clause-writes : goal.returns-in-Ok-clause-writes
 unfolding fault_response

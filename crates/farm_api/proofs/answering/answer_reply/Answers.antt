@@ -1,5 +1,5 @@
-use Rattle.judge_server.specs.Conversation.{reply_response}
-use Rattle.judge_server.proofs.answering.answer_reply.Goals as goal
+use Rattle.farm_api.specs.Conversation.{reply_response}
+use Rattle.farm_api.proofs.answering.answer_reply.Goals as goal
 
 pub returns-in-Ok-clause-writes : goal.returns-in-Ok-clause-writes
 unfolding reply_response

@@ -1,5 +1,5 @@
 use Rattle.std.proofs.Common.{rules}
-use Rattle.judge_server.proofs.asking.actor_event.Goals as goal
+use Rattle.farm_api.proofs.asking.actor_event.Goals as goal
 
 pub returns-in-Cancel : goal.returns-in-Cancel
 returns-in-Cancel c = search rules

@@ -1,5 +1,5 @@
 use Rattle.std.proofs.Common.{rules}
-use Rattle.judge_server.proofs.asking.read_asked.Goals as goal
+use Rattle.farm_api.proofs.asking.read_asked.Goals as goal
 
 pub returns-in-Err : goal.returns-in-Err
 returns-in-Err c = search rules

@@ -1,6 +1,6 @@
-use Rattle.judge_server.proofs.Completeness.{answers_all}
-use Rattle.judge_server.proofs.PassLemmas.{served_calls}
-use Rattle.judge_server.proofs.calling.serve_conn.Goals as goal
+use Rattle.farm_api.proofs.Completeness.{answers_all}
+use Rattle.farm_api.proofs.PassLemmas.{served_calls}
+use Rattle.farm_api.proofs.calling.serve_conn.Goals as goal
 
 pub returns-clause-served : goal.returns-clause-served
 returns-clause-served g c =

@@ -1,5 +1,5 @@
-use Rattle.judge_server.proofs.OneAnswer.{begun_job, put_job}
-use Rattle.judge_server.proofs.jobs.answer_job.Goals as goal
+use Rattle.farm_api.proofs.OneAnswer.{begun_job, put_job}
+use Rattle.farm_api.proofs.jobs.answer_job.Goals as goal
 
 pub returns-clause-puts : goal.returns-clause-puts
 returns-clause-puts g c =

@@ -1,7 +1,7 @@
 use Rattle.std.proofs.Common.{sym, ◌∙◌, subst}
-use Rattle.judge_server.specs.Jobs.{IsJobText}
-use Rattle.judge_server.proofs.OneAnswer.{job_refused, job_text_given, no_job_given}
-use Rattle.judge_server.proofs.jobs.put_job.Goals as goal
+use Rattle.farm_api.specs.Jobs.{IsJobText}
+use Rattle.farm_api.proofs.OneAnswer.{job_refused, job_text_given, no_job_given}
+use Rattle.farm_api.proofs.jobs.put_job.Goals as goal
 
 pub returns-in-None-clause-puts : goal.returns-in-None-clause-puts
 returns-in-None-clause-puts g c =

@@ -1,6 +1,6 @@
-use Rattle.judge_server.proofs.Completeness.{answers_all}
-use Rattle.judge_server.proofs.LaneLemmas.{served_lane}
-use Rattle.judge_server.proofs.lane.serve_lane.Goals as goal
+use Rattle.farm_api.proofs.Completeness.{answers_all}
+use Rattle.farm_api.proofs.LaneLemmas.{served_lane}
+use Rattle.farm_api.proofs.lane.serve_lane.Goals as goal
 
 pub returns-clause-served : goal.returns-clause-served
 returns-clause-served g c =

@@ -1,6 +1,6 @@
 use Rattle.std.proofs.Common.{◌≡◌, fold, map, drop}
-use Rattle.judge_server.specs.Table.{with_path}
-use Rattle.judge_server.proofs.paths.add_all.Given as goal
+use Rattle.farm_api.specs.Table.{with_path}
+use Rattle.farm_api.proofs.paths.add_all.Given as goal
 
 abbrev pub invariant-loop-path : goal.invariant-loop-path
 invariant-loop-path l =

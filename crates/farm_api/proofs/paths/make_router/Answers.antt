@@ -1,6 +1,6 @@
 use Rattle.std.proofs.Common.{rules, ◌≡◌, fold, map, ap₂, ◌∙◌}
-use Rattle.judge_server.specs.Table.{with_path, table, rows}
-use Rattle.judge_server.proofs.paths.make_router.Goals as goal
+use Rattle.farm_api.specs.Table.{with_path, table, rows}
+use Rattle.farm_api.proofs.paths.make_router.Goals as goal
 
 pub returns : goal.returns
 unfolding rows

@@ -1,6 +1,6 @@
 use Rattle.std.proofs.Common.{rules, ◌∙◌}
-use Rattle.judge_server.proofs.Kept.{read_put, kept_put, unread_put}
-use Rattle.judge_server.proofs.public_reader.put_read.Goals as goal
+use Rattle.farm_api.proofs.Kept.{read_put, kept_put, unread_put}
+use Rattle.farm_api.proofs.public_reader.put_read.Goals as goal
 
 pub returns-in-Ok-clause-puts : goal.returns-in-Ok-clause-puts
 returns-in-Ok-clause-puts g c =

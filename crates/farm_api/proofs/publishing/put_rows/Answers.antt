@@ -1,6 +1,6 @@
 use Rattle.std.proofs.Common.{◌∙◌}
-use Rattle.judge_server.proofs.Rows.{rows_written}
-use Rattle.judge_server.proofs.publishing.put_rows.Goals as goal
+use Rattle.farm_api.proofs.Rows.{rows_written}
+use Rattle.farm_api.proofs.publishing.put_rows.Goals as goal
 
 pub returns-in-Ok-clause-writes : goal.returns-in-Ok-clause-writes
 returns-in-Ok-clause-writes g c =

@@ -1,5 +1,5 @@
-use Rattle.judge_server.proofs.Enterings.{begun_event, entered_all, not_no_memory}
-use Rattle.judge_server.proofs.replier.enter.Goals as goal
+use Rattle.farm_api.proofs.Enterings.{begun_event, entered_all, not_no_memory}
+use Rattle.farm_api.proofs.replier.enter.Goals as goal
 
 pub returns-then-is_no_memory-clause-enters : goal.returns-then-is_no_memory-clause-enters
 returns-then-is_no_memory-clause-enters g c =

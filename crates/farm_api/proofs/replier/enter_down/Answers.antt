@@ -1,5 +1,5 @@
 use Rattle.std.proofs.Common.{rules}
-use Rattle.judge_server.proofs.replier.enter_down.Goals as goal
+use Rattle.farm_api.proofs.replier.enter_down.Goals as goal
 
 pub returns-in-Differs-clause-enters : goal.returns-in-Differs-clause-enters
 returns-in-Differs-clause-enters c = search rules

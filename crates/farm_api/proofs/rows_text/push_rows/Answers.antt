@@ -1,5 +1,5 @@
-use Rattle.judge_server.proofs.RowTexts.{rows_more}
-use Rattle.judge_server.proofs.rows_text.push_rows.Goals as goal
+use Rattle.farm_api.proofs.RowTexts.{rows_more}
+use Rattle.farm_api.proofs.rows_text.push_rows.Goals as goal
 
 pub loop-i-preserved : goal.loop-i-preserved
 loop-i-preserved c =

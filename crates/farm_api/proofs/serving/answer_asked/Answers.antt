@@ -1,5 +1,5 @@
-use Rattle.judge_server.proofs.OneAnswer.{put_fault, begun_event, put_reply, put_public, put_contest}
-use Rattle.judge_server.proofs.serving.answer_asked.Goals as goal
+use Rattle.farm_api.proofs.OneAnswer.{put_fault, begun_event, put_reply, put_public, put_contest}
+use Rattle.farm_api.proofs.serving.answer_asked.Goals as goal
 
 pub returns-in-Refused-clause-puts : goal.returns-in-Refused-clause-puts
 returns-in-Refused-clause-puts g c =

@@ -1,7 +1,7 @@
 use Rattle.std.proofs.Common.{refl}
-use Rattle.judge_server.specs.Exchanges.{around_of, giving}
-use Rattle.judge_server.proofs.OneAnswer.{one_answered, one_unread}
-use Rattle.judge_server.proofs.serving.answer_one.Goals as goal
+use Rattle.farm_api.specs.Exchanges.{around_of, giving}
+use Rattle.farm_api.proofs.OneAnswer.{one_answered, one_unread}
+use Rattle.farm_api.proofs.serving.answer_one.Goals as goal
 
 pub returns-in-Err-clause-puts : goal.returns-in-Err-clause-puts
 returns-in-Err-clause-puts g c asks may =

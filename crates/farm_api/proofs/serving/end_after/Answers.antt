@@ -1,5 +1,5 @@
 use Rattle.std.proofs.Common.{rules}
-use Rattle.judge_server.proofs.serving.end_after.Goals as goal
+use Rattle.farm_api.proofs.serving.end_after.Goals as goal
 
 pub returns-in-Closed : goal.returns-in-Closed
 returns-in-Closed c = search rules

@@ -1,5 +1,5 @@
-use Rattle.judge_server.specs.Serving.{refusal_response}
-use Rattle.judge_server.proofs.serving.put_refusal.Goals as goal
+use Rattle.farm_api.specs.Serving.{refusal_response}
+use Rattle.farm_api.proofs.serving.put_refusal.Goals as goal
 
 pub returns-clause-writes : goal.returns-clause-writes
 unfolding refusal_response

@@ -1,6 +1,6 @@
 use Rattle.std.proofs.Common.{refl, arith}
-use Rattle.judge_server.proofs.Turning.{served_none, served_with, under_way_none}
-use Rattle.judge_server.proofs.serving.serve_on.Goals as goal
+use Rattle.farm_api.proofs.Turning.{served_none, served_with, under_way_none}
+use Rattle.farm_api.proofs.serving.serve_on.Goals as goal
 
 pub loop-how-init : goal.loop-how-init
 loop-how-init g c =
@@ -21,4 +21,4 @@ returns-in-Err-clause-served g c = served_none g.A.Replier.steps _ c.args.state.
 pub returns-in-Some-clause-served : goal.returns-in-Some-clause-served
 returns-in-Some-clause-served g c =
     let s = c.in-Some.ensures.turned _ c.loop-how.requests c.loop-how.invariant.under_way in
-    rw c.end_after.ensures (served_with g.A.Replier.steps _ _ _ _ _ c.turn.new.reader.ahead c.turn.new.reader.taken _ _ s)
+    rw c.end_after.ensures (served_with g.A.Replier.steps _ _ _ _ _ c.serve_request.new.reader.ahead c.serve_request.new.reader.taken _ _ s)

@@ -1,9 +1,9 @@
 use Rattle.std.proofs.Common.{◌≡◌, ◌+◌, ◌*◌, ◌≤◌, None}
 use Rattle.farm_io.specs.Lines.{input_limit}
 use Rattle.http_door.specs.ReaderValue.{budget}
-use Rattle.judge_server.specs.Exchanges.{around_of, giving}
-use Rattle.judge_server.specs.Serving.{untaken, IsUnderWay}
-use Rattle.judge_server.proofs.serving.serve_on.Given as goal
+use Rattle.farm_api.specs.Exchanges.{around_of, giving}
+use Rattle.farm_api.specs.Serving.{untaken, IsUnderWay}
+use Rattle.farm_api.proofs.serving.serve_on.Given as goal
 
 abbrev pub invariant-loop-how : goal.invariant-loop-how
 invariant-loop-how g l =

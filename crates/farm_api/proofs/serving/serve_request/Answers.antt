@@ -1,5 +1,5 @@
-use Rattle.judge_server.proofs.Turning.{turned_request_on, turned_end_on, bytes_beside, faults_beside, cause_request, cause_end}
-use Rattle.judge_server.proofs.serving.turn.Goals as goal
+use Rattle.farm_api.proofs.Turning.{turned_request_on, turned_end_on, bytes_beside, faults_beside, cause_request, cause_end}
+use Rattle.farm_api.proofs.serving.serve_request.Goals as goal
 
 pub returns-in-Ok-clause-turned : goal.returns-in-Ok-clause-turned
 returns-in-Ok-clause-turned g c =

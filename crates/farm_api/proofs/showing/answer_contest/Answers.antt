@@ -1,5 +1,5 @@
-use Rattle.judge_server.specs.Conversation.{contest_response}
-use Rattle.judge_server.proofs.showing.answer_contest.Goals as goal
+use Rattle.farm_api.specs.Conversation.{contest_response}
+use Rattle.farm_api.proofs.showing.answer_contest.Goals as goal
 
 pub returns-clause-writes : goal.returns-clause-writes
 unfolding contest_response

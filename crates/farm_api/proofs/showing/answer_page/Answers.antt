@@ -1,6 +1,6 @@
 use Rattle.std.proofs.Common.{refl, arith}
-use Rattle.judge_server.proofs.OneAnswer.{put_page, no_page}
-use Rattle.judge_server.proofs.showing.answer_page.Goals as goal
+use Rattle.farm_api.proofs.OneAnswer.{put_page, no_page}
+use Rattle.farm_api.proofs.showing.answer_page.Goals as goal
 
 pub returns-in-Board-clause-puts : goal.returns-in-Board-clause-puts
 returns-in-Board-clause-puts g c =

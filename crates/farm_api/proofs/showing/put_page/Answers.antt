@@ -1,5 +1,5 @@
-use Rattle.judge_server.specs.Conversation.{page_response}
-use Rattle.judge_server.proofs.showing.put_page.Goals as goal
+use Rattle.farm_api.specs.Conversation.{page_response}
+use Rattle.farm_api.proofs.showing.put_page.Goals as goal
 
 pub returns-in-Ok-clause-writes : goal.returns-in-Ok-clause-writes
 unfolding page_response

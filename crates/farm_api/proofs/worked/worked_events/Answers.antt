@@ -2,8 +2,8 @@ use Rattle.std.proofs.Common.{refl}
 use Rattle.std.specs.Str.{is_utf8, chars}
 use Rattle.matchit.proofs.OnLiterals.{matchit_on_literals}
 use Rattle.serde_json.proofs.OnLiterals.{serde_json_on_literals}
-use Rattle.judge_server.specs.Table.{rows}
-use Rattle.judge_server.proofs.worked.worked_events.Goals as goal
+use Rattle.farm_api.specs.Table.{rows}
+use Rattle.farm_api.proofs.worked.worked_events.Goals as goal
 
 pub returns-clause-claim : goal.returns-clause-claim
 unfolding rows is_utf8 chars serde_json_on_literals matchit_on_literals

@@ -3,10 +3,10 @@ use Rattle.std.specs.Fmt.{digits}
 use Rattle.std.specs.Str.{is_utf8, chars}
 use Rattle.matchit.proofs.OnLiterals.{matchit_on_literals}
 use Rattle.serde_json.proofs.OnLiterals.{serde_json_on_literals}
-use Rattle.judge_server.specs.Table.{rows}
-use Rattle.judge_server.specs.Conversation.{reply_response, fault_response, job_response, rows_response, page_response, contest_response}
+use Rattle.farm_api.specs.Table.{rows}
+use Rattle.farm_api.specs.Conversation.{reply_response, fault_response, job_response, rows_response, page_response, contest_response}
 use Rattle.contest_page.specs.Views.{view_text}
-use Rattle.judge_server.proofs.worked.worked_responses.Goals as goal
+use Rattle.farm_api.proofs.worked.worked_responses.Goals as goal
 
 pub returns-clause-nothing : goal.returns-clause-nothing
 unfolding rows reply_response fault_response is_utf8 chars serde_json_on_literals matchit_on_literals digits

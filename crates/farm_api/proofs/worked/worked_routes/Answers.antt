@@ -1,7 +1,7 @@
 use Rattle.std.proofs.Common.{refl}
 use Rattle.matchit.proofs.OnLiterals.{matchit_on_literals}
-use Rattle.judge_server.specs.Table.{rows}
-use Rattle.judge_server.proofs.worked.worked_routes.Goals as goal
+use Rattle.farm_api.specs.Table.{rows}
+use Rattle.farm_api.proofs.worked.worked_routes.Goals as goal
 
 pub returns-clause-host : goal.returns-clause-host
 unfolding rows matchit_on_literals

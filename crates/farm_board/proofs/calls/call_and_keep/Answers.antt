@@ -3,19 +3,19 @@ use Rattle.atomic_table.specs.Table.{Me}
 use Rattle.farm_board.specs.Views.{with_coming}
 use Rattle.farm_board.specs.Steps.{KeepsTurn}
 use Rattle.farm_board.specs.Passes.{call_of}
-use Rattle.farm_board.specs.declared.entries.Entry.{Entry}
-use Rattle.farm_board.specs.declared.entries.Entry.TheVariants as entry
+use Rattle.farm_board.specs.declared.entries.HistoryEntry.{HistoryEntry}
+use Rattle.farm_board.specs.declared.entries.HistoryEntry.TheVariants as entry
 use Rattle.farm_board.specs.declared.view.View.{View}
 use Rattle.farm_board.proofs.Passes.{then_is, keeps_turn, empty_after_kept, next_call, calls_after_kept, keeping_after_call, sound_after_kept, live_between, call_suits}
 use Rattle.farm_board.proofs.calls.call_and_keep.Goals as goal
 
-abbrev its_entry : (g : _) → goal.After-keep_ticket g → Entry
+abbrev its_entry : (g : _) → goal.After-keep_ticket g → HistoryEntry
 its_entry g c = entry.Call (call_of c.args.number c.args.event.now c.call-reply.result)
 
 pub keep_ticket-requires-clause-entry : goal.keep_ticket-requires-clause-entry
 keep_ticket-requires-clause-entry g c =
     let w = c.have_turn-held.new.seat.me.0 in
-    let e : Entry = entry.Call (call_of c.args.number c.args.event.now c.call-reply.result) in
+    let e : HistoryEntry = entry.Call (call_of c.args.number c.args.event.now c.call-reply.result) in
     let x_is : c.mark_call.new.seat.me.0 ≡ with_coming w e = ap (λ (m : Me _ View). m.0) c.mark_call.ensures.view in
     (call_of c.args.number c.args.event.now c.call-reply.result, ap (λ (z : View). z.coming) x_is, then_is c.args.seat.now.me.0 w c.mark_call.new.seat.me.0 _ _ e c.have_turn-held.ensures.turn c.call-reply.ensures.next x_is)
 

@@ -1,5 +1,5 @@
 use Rattle.farm_board.specs.Passes.{call_of}
-use Rattle.farm_board.specs.declared.entries.Entry.TheVariants as entry
+use Rattle.farm_board.specs.declared.entries.HistoryEntry.TheVariants as entry
 use Rattle.farm_board.proofs.calls.call_and_keep.Given as goal
 
 abbrev pub ghosts-mark_call : goal.ghosts-mark_call

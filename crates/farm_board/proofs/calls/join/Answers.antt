@@ -2,15 +2,15 @@ use Rattle.std.proofs.Common.{rules, ◌≡◌, Some, refl, ap, sym, subst}
 use Rattle.atomic_table.specs.Table.{Me}
 use Rattle.farm_board.specs.Views.{with_coming, joined_view}
 use Rattle.farm_board.specs.Steps.{EndsTurn}
-use Rattle.farm_board.specs.declared.entries.Entry.{Entry}
-use Rattle.farm_board.specs.declared.entries.Entry.TheVariants as entry
+use Rattle.farm_board.specs.declared.entries.HistoryEntry.{HistoryEntry}
+use Rattle.farm_board.specs.declared.entries.HistoryEntry.TheVariants as entry
 use Rattle.farm_board.specs.declared.view.View.{View}
 use Rattle.farm_board.specs.Steps.{InTurn}
 use Rattle.farm_board.proofs.Seats.{joins}
 use Rattle.farm_board.proofs.Passes.{then_is, ends_turn, empty_after_turn, next_join, takes_after_turn, free_after_turn, keeps_after_turn}
 use Rattle.farm_board.proofs.calls.join.Goals as goal
 
-abbrev its_entry : (g : _) → goal.After-end_turn g → Entry
+abbrev its_entry : (g : _) → goal.After-end_turn g → HistoryEntry
 its_entry g c = entry.Join c.args.number c.args.old
 
 pub join_seat-requires : goal.join_seat-requires
@@ -19,7 +19,7 @@ join_seat-requires g c = (search rules, search rules, c.requires.free_old.1, sea
 pub end_turn-requires-clause-entry : goal.end_turn-requires-clause-entry
 end_turn-requires-clause-entry g c =
     let w = c.take_turn-held.new.seat.me.0 in
-    let e : Entry = entry.Join c.args.number c.args.old in
+    let e : HistoryEntry = entry.Join c.args.number c.args.old in
     let x_is : c.mark_join.new.seat.me.0 ≡ with_coming w e = ap (λ (m : Me _ View). m.0) c.mark_join.ensures.view in
     (e, ap (λ (z : View). z.coming) x_is, then_is _ w c.mark_join.new.seat.me.0 _ _ e c.take_turn-held.ensures.turn c.join.ensures x_is)
 

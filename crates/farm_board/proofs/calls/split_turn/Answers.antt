@@ -1,13 +1,13 @@
 use Rattle.std.proofs.Common.{rules, ◌≡◌, ap}
 use Rattle.atomic_table.specs.Table.{Me}
 use Rattle.farm_board.specs.Views.{with_coming}
-use Rattle.farm_board.specs.declared.entries.Entry.{Entry}
-use Rattle.farm_board.specs.declared.entries.Entry.TheVariants as entry
+use Rattle.farm_board.specs.declared.entries.HistoryEntry.{HistoryEntry}
+use Rattle.farm_board.specs.declared.entries.HistoryEntry.TheVariants as entry
 use Rattle.farm_board.specs.declared.view.View.{View}
 use Rattle.farm_board.proofs.Passes.{then_is, ends_turn, empty_after_turn, next_split, next_there, room_for, few_given}
 use Rattle.farm_board.proofs.calls.split_turn.Goals as goal
 
-abbrev its_entry : (g : _) → goal.After-end_turn g → Entry
+abbrev its_entry : (g : _) → goal.After-end_turn g → HistoryEntry
 its_entry g c = entry.Split c.args.number c.split-new.result
 
 pub split-new-requires-clause-room : goal.split-new-requires-clause-room
@@ -24,7 +24,7 @@ mark_split-requires-clause-next g c =
 pub end_turn-requires-clause-entry : goal.end_turn-requires-clause-entry
 end_turn-requires-clause-entry g c =
     let w = c.take_turn-held.new.seat.me.0 in
-    let e : Entry = entry.Split c.args.number c.split-new.result in
+    let e : HistoryEntry = entry.Split c.args.number c.split-new.result in
     let x_is : c.mark_split.new.seat.me.0 ≡ with_coming w e = ap (λ (m : Me _ View). m.0) c.mark_split.ensures.view in
     (e, ap (λ (z : View). z.coming) x_is, then_is c.args.seat.now.me.0 w c.mark_split.new.seat.me.0 _ _ e c.take_turn-held.ensures.turn c.split-new.ensures.next x_is)
 

@@ -1,9 +1,9 @@
 use Rattle.std.proofs.Common.{◌≡◌, ◌+◌, ℕ, List, [], ◌∷◌, Bool, true, false, IsTrue, refl, sym, ◌∙◌, ap, subst, length, take, drop}
 use Rattle.std.specs.Prelude.{IfErr}
 use Rattle.record_store.specs.Model.{DiskTime}
-use Rattle.record_store.specs.Held.{held, IsFront, IsNext, ReadsNext}
+use Rattle.record_store.specs.Held.{held, IsRecordPrefix, IsNext, ReadsNext}
 use Rattle.stored_events.specs.Opening.{opened_by}
-use Rattle.stored_events.proofs.Openings.{still_moments, first_front}
+use Rattle.stored_events.proofs.Openings.{still_moments, first_prefix}
 use Rattle.farm_journal.specs.Faults.{IsTold}
 use Rattle.farm_journal.proofs.opening.open_synced.Goals as goal
 
@@ -17,8 +17,8 @@ go_on-requires-clause-first g c told1 =
     let told : IsTrue (g.Y.Disk.tells c.args.disk.now) = subst (λ (b : Bool). IsTrue b) c.read_record.ensures.tells told1 in
     let line = c.read_record.new.line.items in
     let next : IsNext t.now.seen 0 line = rw c.if-found.true at (c.in-Ok.ensures.next told) in
-    subst (λ (l : List ℕ). IsFront (take (3 + length l) (g.Y.Disk.time c.read_record.new.disk).now.seen) (l ∷ [])) (sym c.as_slice.ensures.value)
-    (subst (λ (s : DiskTime). IsFront (take (3 + length line) s.now.seen) (line ∷ [])) (sym (c.read_record.ensures.still told)) (first_front t.now.seen line next))
+    subst (λ (l : List ℕ). IsRecordPrefix (take (3 + length l) (g.Y.Disk.time c.read_record.new.disk).now.seen) (l ∷ [])) (sym c.as_slice.ensures.value)
+    (subst (λ (s : DiskTime). IsRecordPrefix (take (3 + length line) s.now.seen) (line ∷ [])) (sym (c.read_record.ensures.still told)) (first_prefix t.now.seen line next))
 
 pub returns-clause-bad : goal.returns-clause-bad
 returns-clause-bad g c told =

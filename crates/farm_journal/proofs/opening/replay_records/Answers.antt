@@ -18,11 +18,11 @@ records-init g c = record {
   later = omega arith;
   still = λ told. refl;
   ahead = λ told. c.new-ahead.ensures (g.Y.Disk.time c.args.disk.now).now.seen;
-  played = λ told front is. played_first (g.Y.Disk.time c.args.disk.now).now.seen front (g.P.Player.state c.args.farm.now) c.args.from is;
+  played = λ told prefix is. played_first (g.Y.Disk.time c.args.disk.now).now.seen prefix (g.P.Player.state c.args.farm.now) c.args.from is;
 }
 
 pub returns-in-Ok-End-clause-read : goal.returns-in-Ok-End-clause-read
-returns-in-Ok-End-clause-read g c told front is =
+returns-in-Ok-End-clause-read g c told prefix is =
     let inv = c.records.invariant in
     let t = g.Y.Disk.time c.args.disk.now in
     let t1 = g.Y.Disk.time c.records.disk in
@@ -34,11 +34,11 @@ returns-in-Ok-End-clause-read g c told front is =
     let met : Meets t1.now.seen c.records.at line now new next.End = rw c.in-Ok-End.field-0-is at (c.in-Ok-End.ensures.meets told') in
     let here : Meets t.now.seen c.records.at line now new next.End = subst (λ (s : DiskTime). Meets s.now.seen c.records.at line now new next.End) (inv.still told) met in
     let inside : c.records.at < length t.now.seen = (let w = inv.within in let e = c.requires.len told in omega arith) in
-    subst (λ (s : State). ReplaysTo t.now.seen front old s c.records.at) (sym here.1)
-    (played_all t.now.seen front old c.records.at now c.records.number (inv.played told front is) here.0 inside)
+    subst (λ (s : State). ReplaysTo t.now.seen prefix old s c.records.at) (sym here.1)
+    (played_all t.now.seen prefix old c.records.at now c.records.number (inv.played told prefix is) here.0 inside)
 
 pub returns-in-Ok-Other-clause-bad : goal.returns-in-Ok-Other-clause-bad
-returns-in-Ok-Other-clause-bad g c told front is =
+returns-in-Ok-Other-clause-bad g c told prefix is =
     let inv = c.records.invariant in
     let t = g.Y.Disk.time c.args.disk.now in
     let t1 = g.Y.Disk.time c.records.disk in
@@ -49,7 +49,7 @@ returns-in-Ok-Other-clause-bad g c told front is =
     let told' : IsTrue (g.Y.Disk.tells c.records.disk) = subst (λ (b : Bool). IsTrue b) (sym inv.tells) told in
     let met : Meets t1.now.seen c.records.at line now new next.Other = rw c.in-Ok-Other.field-0-is at (c.in-Ok-Other.ensures.meets told') in
     let here : Meets t.now.seen c.records.at line now new next.Other = subst (λ (s : DiskTime). Meets s.now.seen c.records.at line now new next.Other) (inv.still told) met in
-    played_bad t.now.seen front old c.records.at now c.records.number (inv.played told front is) line here.0 here.1 here.2
+    played_bad t.now.seen prefix old c.records.at now c.records.number (inv.played told prefix is) line here.0 here.1 here.2
 
 pub records-preserved : goal.records-preserved
 records-preserved g c =
@@ -75,10 +75,10 @@ records-preserved g c =
       ahead = λ told.
           let told' : IsTrue (g.Y.Disk.tells c.records.disk) = subst (λ (b : Bool). IsTrue b) (sym inv.tells) told in
           subst (λ (s : DiskTime). IsAhead s.now.seen c.next_event.new.ahead) (inv.still told) (c.in-Ok-Played.ensures.ahead told');
-      played = λ told front is.
+      played = λ told prefix is.
           let told' : IsTrue (g.Y.Disk.tells c.records.disk) = subst (λ (b : Bool). IsTrue b) (sym inv.tells) told in
           let met : Meets t1.now.seen c.records.at line now new next.Played = rw c.in-Ok-Played.field-0-is at (c.in-Ok-Played.ensures.meets told') in
           let here : Meets t.now.seen c.records.at line now new next.Played = subst (λ (s : DiskTime). Meets s.now.seen c.records.at line now new next.Played) (inv.still told) met in
-          subst (λ (k : ℕ). PlayedTo t.now.seen front old k new (c.records.number + 1)) at_is
-          (played_more t.now.seen front old c.records.at now c.records.number (inv.played told front is) line here.0 new here.1);
+          subst (λ (k : ℕ). PlayedTo t.now.seen prefix old k new (c.records.number + 1)) at_is
+          (played_more t.now.seen prefix old c.records.at now c.records.number (inv.played told prefix is) line here.0 new here.1);
     }

@@ -1,5 +1,5 @@
 use Rattle.std.proofs.Common.{◌≡◌, ◌≤◌, ◌<◌, ◌+◌, ◌-◌, ℕ, List, length, take, IsTrue}
-use Rattle.record_store.specs.Held.{IsFront}
+use Rattle.record_store.specs.Held.{IsRecordPrefix}
 use Rattle.record_store.specs.Reading.{IsAhead}
 use Rattle.stored_events.specs.Replaying.{PlayedTo}
 use Rattle.farm_journal.proofs.opening.replay_records.Given as goal
@@ -13,8 +13,8 @@ invariant-records g l = record {
   later : g.Y.Disk.faults l.fn.disk ≤ g.Y.Disk.faults l.disk;
   still : IsTrue (g.Y.Disk.tells l.fn.disk) → g.Y.Disk.time l.disk ≡ g.Y.Disk.time l.fn.disk;
   ahead : IsTrue (g.Y.Disk.tells l.fn.disk) → IsAhead (g.Y.Disk.time l.fn.disk).now.seen l.ahead;
-  played : IsTrue (g.Y.Disk.tells l.fn.disk) → (front : List (List ℕ)) → IsFront (take l.fn.from (g.Y.Disk.time l.fn.disk).now.seen) front
-      → PlayedTo (g.Y.Disk.time l.fn.disk).now.seen front (g.P.Player.state l.fn.farm) l.at (g.P.Player.state l.farm) l.number;
+  played : IsTrue (g.Y.Disk.tells l.fn.disk) → (prefix : List (List ℕ)) → IsRecordPrefix (take l.fn.from (g.Y.Disk.time l.fn.disk).now.seen) prefix
+      → PlayedTo (g.Y.Disk.time l.fn.disk).now.seen prefix (g.P.Player.state l.fn.farm) l.at (g.P.Player.state l.farm) l.number;
 }
 
 abbrev pub decreases-records : goal.decreases-records

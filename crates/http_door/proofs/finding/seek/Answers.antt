@@ -48,7 +48,7 @@ loop-stop-preserved g c =
       room = omega (arith, c.ask.ensures.size, i.room);
       short = omega (arith, c.in_default-glance.ensures.none refl, ap length c.ahead-in-loop-stop.ensures);
       lacking =
-          lacks_more c.loop-stop.window.ahead c.ask.ensures.fills.front c.ask.new.window.ahead c.ask.ensures.fills.whole i.lacking
+          lacks_more c.loop-stop.window.ahead c.ask.ensures.fills.prefix c.ask.new.window.ahead c.ask.ensures.fills.whole i.lacking
           (λ f.
           subst (λ (z : List ℕ). IsLooked z None) c.ahead-in-loop-stop.ensures
           (c.in_default-glance.ensures.fed

@@ -30,7 +30,7 @@ returns-in-Some-clause-err g c =
     let f = Fills-trans _ _ _ c.args.window.now _ c.wait_for.new.window (Fills-more (g.S.Source.left c.args.source.now) _ _ c.grow.ensures.ahead c.grow.ensures.taken c.grow.ensures.more) c.wait_for.ensures.fills in
     let x = c.requires.shows in
     rw c.ended_by.ensures
-    (stopped_body _ _ (g.S.Source.faults c.args.source.now) _ _ c.in-Some.stop (shown_within _ f.front _ c.args.seen c.args.len f.whole x (c.in-Some.ensures.short refl)) (shown_some _ f.front _ x.0 c.args.seen f.whole x.1) (omega arith) c.in-Some.ensures.end c.in-Some.ensures.cause c.in-Some.ensures.limit)
+    (stopped_body _ _ (g.S.Source.faults c.args.source.now) _ _ c.in-Some.stop (shown_within _ f.prefix _ c.args.seen c.args.len f.whole x (c.in-Some.ensures.short refl)) (shown_some _ f.prefix _ x.0 c.args.seen f.whole x.1) (omega arith) c.in-Some.ensures.end c.in-Some.ensures.cause c.in-Some.ensures.limit)
 
 pub returns-in-Some-clause-small : goal.returns-in-Some-clause-small
 returns-in-Some-clause-small g c = λ q. omega (arith, q, c.wait_for.ensures.size, c.grow.ensures.no_more, c.requires.small, c.requires.shows.1.short)
@@ -45,7 +45,7 @@ returns-clause-fills g c =
 pub returns-clause-ok : goal.returns-clause-ok
 returns-clause-ok g c =
     let f = Fills-trans _ _ _ c.args.window.now _ c.wait_for.new.window (Fills-more (g.S.Source.left c.args.source.now) _ _ c.grow.ensures.ahead c.grow.ensures.taken c.grow.ensures.more) c.wait_for.ensures.fills in
-    shown_more_whole _ f.front _ c.args.seen c.args.len f.whole c.requires.shows (c.in_default-wait_for.ensures.whole refl)
+    shown_more_whole _ f.prefix _ c.args.seen c.args.len f.whole c.requires.shows (c.in_default-wait_for.ensures.whole refl)
 
 pub returns-clause-small : goal.returns-clause-small
 returns-clause-small g c = λ q. omega (arith, q, c.wait_for.ensures.size, c.grow.ensures.no_more, c.requires.small, c.requires.shows.1.short)

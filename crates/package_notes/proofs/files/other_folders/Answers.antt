@@ -10,7 +10,7 @@ loop-path-preserved c =
     let root = c.args.root.now in
     let rest = drop (c.loop-path.path-index + 1) (texts c.args.paths.now) in
     let named : c.as_str.result.now ≡ string_bytes item = c.as_str.ensures.value in
-    let is : c.enter.new.names.items ≡ with_name c.loop-path.names.items (other_folder root c.as_str.result.now) = search rules in
+    let is : c.add_name.new.names.items ≡ with_name c.loop-path.names.items (other_folder root c.as_str.result.now) = search rules in
     ap (λ (ns : List (List ℕ)). other_folders_from root ns rest) (is ∙ ap (λ (path : List ℕ). with_name c.loop-path.names.items (other_folder root path)) named)
     ∙ sym (folder_step root c.loop-path.names.items c.args.paths.now c.loop-path.path-index item c.loop-path-test.true c.path-item.is)
     ∙ c.loop-path.invariant

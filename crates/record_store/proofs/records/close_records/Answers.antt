@@ -57,7 +57,7 @@ returns-then-branch-eq1-clause-moments g c told =
     let inside : c.args.at < length file = (let e = c.requires.len told in let w = c.requires.within in let n = c.if-at-len.false in omega arith) in
     let opened : get_or file c.args.at 0 ≡ 1 = c.in_ok-read_gate.ensures.answer told ∙ c.if-branch-eq1.true in
     let torn : AtEachMoment (Torn c.args.at 1 file) t t2 = subst (λ (s : DiskTime). AtEachMoment (Torn c.args.at 1 s.now.seen) s t2) still (c.write_durably-then-branch-eq1.ensures.moments told') in
-    weaken (Torn c.args.at 1 file) P t t2 (λ f one. close_torn file (held file) c.args.at f read.front inside read.none opened one) torn
+    weaken (Torn c.args.at 1 file) P t t2 (λ f one. close_torn file (held file) c.args.at f read.prefix inside read.none opened one) torn
 
 pub returns-then-branch-eq1-clause-done : goal.returns-then-branch-eq1-clause-done
 returns-then-branch-eq1-clause-done g c told =
@@ -70,5 +70,5 @@ returns-then-branch-eq1-clause-done g c told =
     let still = c.read_gate.ensures.still told in
     let inside : c.args.at < length file = (let e = c.requires.len told in let w = c.requires.within in let n = c.if-at-len.false in omega arith) in
     on_ok_map (IsQuiet t2.now × (t2.now.seen ≡ overlaid t1.now.seen c.args.at (0 ∷ []))) (Rests t2.now (held file) c.args.at) c.write_durably-then-branch-eq1.result
-    (λ both. record { quiet = both.0; closed = close_done file t2.now.seen (held file) c.args.at read.front inside (both.1 ∙ ap (λ (s : DiskTime). overlaid s.now.seen c.args.at (0 ∷ [])) still) })
+    (λ both. record { quiet = both.0; closed = close_done file t2.now.seen (held file) c.args.at read.prefix inside (both.1 ∙ ap (λ (s : DiskTime). overlaid s.now.seen c.args.at (0 ∷ [])) still) })
     (c.write_durably-then-branch-eq1.ensures.done told')

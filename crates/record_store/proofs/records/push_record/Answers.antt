@@ -1,4 +1,4 @@
-use Rattle.record_store.proofs.Fronts.{pushed_record}
+use Rattle.record_store.proofs.Prefixes.{pushed_record}
 use Rattle.record_store.proofs.records.push_record.Goals as goal
 
 pub returns-else-is_err-clause-ok : goal.returns-else-is_err-clause-ok

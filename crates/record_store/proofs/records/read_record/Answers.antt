@@ -1,6 +1,6 @@
 use Rattle.std.proofs.Common.{◌≡◌, ◌+◌, ◌*◌, ℕ, [], ◌∷◌, Bool, IsTrue, sym, subst, take, drop, arith}
 use Rattle.record_store.specs.Model.{DiskTime}
-use Rattle.record_store.proofs.Fronts.{end_short, end_cut}
+use Rattle.record_store.proofs.Prefixes.{end_short, end_cut}
 use Rattle.record_store.proofs.Opens.{next_line}
 use Rattle.record_store.proofs.records.read_record.Goals as goal
 

@@ -3,7 +3,7 @@ use Rattle.rv_memory.specs.Paged as memory
 use Rattle.rv_memory.proofs.Touching.{is_touched-touch}
 use Rattle.rv_machine.specs.Storage.{Storage}
 use Rattle.rv_machine.proofs.Kept.{kept_touch}
-use Rattle.rv_machine.proofs.running.enter.Goals as goal
+use Rattle.rv_machine.proofs.running.fetch_page.Goals as goal
 
 pub returns-in_default-clause-code : goal.returns-in_default-clause-code
 returns-in_default-clause-code c =

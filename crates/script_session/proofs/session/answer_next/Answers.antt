@@ -99,14 +99,14 @@ pub returns-in-End-clause-turned : goal.returns-in-End-clause-turned
 returns-in-End-clause-turned g c first mark b k =
     let e = c.in-End.ensures in (
       at_end b _ _ _ e.reads e.ended e.stops (c.requires.none (λ h. (e.held h).0)) k.under_way,
-      stopped _ b _ _ e.reads.front e.reads.took (λ _. e.reads.cuts.0) k,
+      stopped _ b _ _ e.reads.prefix e.reads.took (λ _. e.reads.cuts.0) k,
     )
 
 pub returns-in-ReadFault-clause-turned : goal.returns-in-ReadFault-clause-turned
 returns-in-ReadFault-clause-turned g c first mark b k =
     let e = c.in-ReadFault.ensures in (
       at_fault b _ _ _ e.reads (λ s h. (e.sticky s h).0) (c.requires.none (λ h. (e.held h).0)) k.under_way,
-      stopped _ b _ _ e.reads.front e.reads.took (λ ends. let no = (e.sticky _ ends).0 in cc) k,
+      stopped _ b _ _ e.reads.prefix e.reads.took (λ ends. let no = (e.sticky _ ends).0 in cc) k,
     )
 
 pub returns-in-ReadFault-clause-read : goal.returns-in-ReadFault-clause-read
@@ -118,7 +118,7 @@ pub returns-in-InputLimit-clause-turned : goal.returns-in-InputLimit-clause-turn
 returns-in-InputLimit-clause-turned g c first mark b k =
     let e = c.in-InputLimit.ensures in (
       at_limit b _ _ _ e.reads (λ s h. (e.sticky s h).0) (e.limit refl) (c.requires.none (λ h. (e.held h).0)) k.under_way,
-      stopped _ b _ _ e.reads.front e.reads.took (λ ends. let no = (e.sticky _ ends).0 in cc) k,
+      stopped _ b _ _ e.reads.prefix e.reads.took (λ ends. let no = (e.sticky _ ends).0 in cc) k,
     )
 
 -- what was put of what was pending before the line

@@ -1,5 +1,5 @@
 use Rattle.script_session.proofs.Keepings.{turned_after}
-use Rattle.script_session.proofs.session.turn.Goals as goal
+use Rattle.script_session.proofs.session.read_and_answer.Goals as goal
 
 pub returns-in-None-clause-turned : goal.returns-in-None-clause-turned
 returns-in-None-clause-turned g c first mark =

@@ -27,7 +27,7 @@ pub lines-preserved : goal.lines-preserved
 lines-preserved g c =
     let left = g.S.Source.left in
     let held = g.K.Sink.held in
-    let turn = c.turn.ensures in
+    let turn = c.read_and_answer.ensures in
     let so_far = c.lines.invariant in
     record {
       ready = c.in_default.ensures.ready refl;

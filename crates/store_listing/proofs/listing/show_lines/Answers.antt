@@ -3,7 +3,7 @@ use Rattle.record_store.specs.Model.{DiskTime}
 use Rattle.record_store.specs.Held.{held, IsNext}
 use Rattle.record_store.specs.Reading.{IsAhead}
 use Rattle.store_listing.specs.Listing.{store_text, Shows, IsListed}
-use Rattle.store_listing.proofs.Listings.{on_err, shown_behind, shown_all, front_behind, listed_more, text_more}
+use Rattle.store_listing.proofs.Listings.{on_err, shown_behind, shown_all, prefix_behind, listed_more, text_more}
 use Rattle.store_listing.proofs.listing.show_lines.Goals as goal
 
 pub records-init : goal.records-init
@@ -53,7 +53,7 @@ returns-in_err-show_line-in-Ok-clause-failed g c told first config is shows =
     let size = ap (λ (l : List ℕ). length l) c.as_slice.ensures.value in
     let fits = c.in-Ok.ensures.inside c.if-not-found.false in
     let inside : c.records.at + 3 + length line < length t.now.seen = (let e = c.requires.len told in omega (arith, size, fits, e)) in
-    on_err _ _ (front_behind t.now.seen c.records.at config so_far.0 so_far.1 line next inside first (g.K.Sink.held c.show_line.new.out)
+    on_err _ _ (prefix_behind t.now.seen c.records.at config so_far.0 so_far.1 line next inside first (g.K.Sink.held c.show_line.new.out)
     (c.in_err-show_line-in-Ok.ensures.failed first (store_text (config ∷ so_far.0)) so_far.2))
 
 pub records-preserved : goal.records-preserved

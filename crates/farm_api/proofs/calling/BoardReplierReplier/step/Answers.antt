@@ -1,5 +1,5 @@
 use Rattle.std.proofs.Common.{rules}
-use Rattle.judge_server.proofs.calling.BoardReplierReplier.step.Goals as goal
+use Rattle.farm_api.proofs.calling.BoardReplierReplier.step.Goals as goal
 
 pub returns-clause-left : goal.returns-clause-left
 returns-clause-left c = search rules

@@ -8,8 +8,8 @@ use Rattle.farm_board.specs.declared.entries.Call.{Call}
 use Rattle.farm_board.specs.Passes.{call_of, Noted}
 use Rattle.farm_board.specs.Copies.{has_list}
 use Rattle.farm_board.proofs.Listed.{listed_keeps, refuted}
-use Rattle.farm_board.proofs.entries.History.note.Goals as goal
-use Rattle.farm_board.proofs.entries.History.note.Goals.{in-NoMemory, in_default-matches}
+use Rattle.farm_board.proofs.entries.CallJournal.note.Goals as goal
+use Rattle.farm_board.proofs.entries.CallJournal.note.Goals.{in-NoMemory, in_default-matches}
 
 -- a list of the farm changes nothing of it
 list_keeps : (farm stepped : State) (event : Event) (r : Reply) → Stepped farm event stepped r → IsTrue (has_list r) → stepped ≡ farm

@@ -2,7 +2,7 @@ use Rattle.std.proofs.Common.{rules}
 use Rattle.farm_kinds.specs.declared.events.Event.TheVariants as event
 use Rattle.farm_board.specs.Passes.{call_of}
 use Rattle.farm_board.specs.Trusts.{is_value_of}
-use Rattle.farm_board.specs.declared.entries.Entry.TheVariants as entry
+use Rattle.farm_board.specs.declared.entries.HistoryEntry.TheVariants as entry
 use Rattle.farm_board.proofs.HostCalls.{own_more, claim_is_own}
 use Rattle.farm_board.proofs.local_bench.LocalBenchBench.claim.Goals as goal
 

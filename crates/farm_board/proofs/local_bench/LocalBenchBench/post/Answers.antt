@@ -9,7 +9,7 @@ use Rattle.case_run.specs.Values.{case_value}
 use Rattle.farm_board.specs.Benches.{pending_case}
 use Rattle.farm_board.specs.Passes.{call_of}
 use Rattle.farm_board.specs.Trusts.{is_value_of}
-use Rattle.farm_board.specs.declared.entries.Entry.TheVariants as entry
+use Rattle.farm_board.specs.declared.entries.HistoryEntry.TheVariants as entry
 use Rattle.farm_board.proofs.Agreeing.{admits_one_value}
 use Rattle.farm_board.proofs.HostCalls.{own_more, result_is_own, value_is_admitted, pending_is, posted_is}
 use Rattle.farm_board.proofs.local_bench.LocalBenchBench.post.Goals as goal

@@ -3,7 +3,7 @@ use Rattle.std.proofs.lemmas.Grind.{common_steps}
 use Rattle.std.proofs.Common.{ap, ◌∙◌}
 use Rattle.farm_model.specs.State.{host_number}
 use Rattle.farm_core.proofs.Named.{unknown_name}
-use Rattle.farm_core.proofs.contest.Contest.add_host.Goals as goal
+use Rattle.farm_core.proofs.contest.ContestState.add_host.Goals as goal
 
 pub push_reserved-requires-2-clause-unknown : goal.push_reserved-requires-2-clause-unknown
 push_reserved-requires-2-clause-unknown c =

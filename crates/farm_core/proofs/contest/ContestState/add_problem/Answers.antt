@@ -5,7 +5,7 @@ use Rattle.farm_model.specs.Limits.{max_tests}
 use Rattle.farm_core.specs.FarmShape.{AreShort}
 use Rattle.farm_model.specs.State.{problem_number}
 use Rattle.farm_core.proofs.Named.{unknown_name, names_more}
-use Rattle.farm_core.proofs.contest.Contest.add_problem.Goals as goal
+use Rattle.farm_core.proofs.contest.ContestState.add_problem.Goals as goal
 
 pub push_reserved-requires-2-clause-unknown : goal.push_reserved-requires-2-clause-unknown
 push_reserved-requires-2-clause-unknown c =

@@ -1,6 +1,6 @@
 use Rattle.std.proofs.Common.{arith}
 use Rattle.std.proofs.lemmas.Grind.{common_steps}
-use Rattle.farm_core.proofs.contest.Contest.answer_pairs.Goals as goal
+use Rattle.farm_core.proofs.contest.ContestState.answer_pairs.Goals as goal
 
 pub push_reserved-requires : goal.push_reserved-requires
 push_reserved-requires c = grind (arith, common_steps)

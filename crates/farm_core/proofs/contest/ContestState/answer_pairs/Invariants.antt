@@ -1,6 +1,6 @@
 use Rattle.std.proofs.Common.{◌≡◌, ◌+◌, ◌++◌, ◌≤◌, drop, length, map, vec_len, vec_capacity}
 use Rattle.farm_model.specs.State.{answer_at}
-use Rattle.farm_core.proofs.contest.Contest.answer_pairs.Given as goal
+use Rattle.farm_core.proofs.contest.ContestState.answer_pairs.Given as goal
 
 abbrev pub invariant-loop-member : goal.invariant-loop-member
 invariant-loop-member l = record {

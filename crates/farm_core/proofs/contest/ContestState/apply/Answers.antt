@@ -5,7 +5,7 @@ use Rattle.farm_kinds.specs.declared.outcomes.How.TheVariants as how
 use Rattle.rejudge_book.specs.Book.{Book}
 use Rattle.farm_core.specs.FarmShape.{AreKept}
 use Rattle.farm_core.proofs.Keeping.{closed_kept, length_applied}
-use Rattle.farm_core.proofs.contest.Contest.apply.Goals as goal
+use Rattle.farm_core.proofs.contest.ContestState.apply.Goals as goal
 
 pub invariant_of-self : goal.invariant_of-self
 invariant_of-self c =

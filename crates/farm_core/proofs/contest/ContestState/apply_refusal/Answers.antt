@@ -1,5 +1,5 @@
 use Rattle.std.proofs.Common.{rules}
-use Rattle.farm_core.proofs.contest.Contest.apply_refusal.Goals as goal
+use Rattle.farm_core.proofs.contest.ContestState.apply_refusal.Goals as goal
 
 pub returns-in_err-judging-clause-refusal : goal.returns-in_err-judging-clause-refusal
 returns-in_err-judging-clause-refusal c = search rules

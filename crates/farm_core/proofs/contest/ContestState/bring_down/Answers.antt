@@ -2,7 +2,7 @@ use Rattle.std.proofs.Common.{◌≡◌, ◌-◌, Some, false, rules, sym, ap, �
 use Rattle.farm_model.specs.State.{up_number}
 use Rattle.farm_model.specs.Changes.{host_as}
 use Rattle.farm_core.proofs.Named.{up_there, names_kept}
-use Rattle.farm_core.proofs.contest.Contest.bring_down.Goals as goal
+use Rattle.farm_core.proofs.contest.ContestState.bring_down.Goals as goal
 
 pub invariant_of-self : goal.invariant_of-self
 invariant_of-self c =

@@ -4,7 +4,7 @@ use Rattle.std.specs.Str.{bytes_eq}
 use Rattle.farm_model.specs.Changes.{host_as}
 use Rattle.farm_core.proofs.Named.{name_there, names_kept}
 use Rattle.farm_core.proofs.Entering.{host_back, host_full, host_added}
-use Rattle.farm_core.proofs.contest.Contest.bring_up.Goals as goal
+use Rattle.farm_core.proofs.contest.ContestState.bring_up.Goals as goal
 
 pub returns-in-Some : goal.returns-in-Some
 returns-in-Some c = host_back c.args.self.now c.args.name c.in-Some.place _ (search rules) (search rules) (search rules)

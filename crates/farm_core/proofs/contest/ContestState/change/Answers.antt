@@ -1,6 +1,6 @@
 use Rattle.std.proofs.Common.{rules}
 use Rattle.farm_core.proofs.Refusing.{taken_known, taken_by_book}
-use Rattle.farm_core.proofs.contest.Contest.change.Goals as goal
+use Rattle.farm_core.proofs.contest.ContestState.change.Goals as goal
 
 pub rejudge-requires-clause-known : goal.rejudge-requires-clause-known
 rejudge-requires-clause-known c = taken_known c.args.self.now c.as_slice.result.now (search rules)

@@ -1,6 +1,6 @@
 use Rattle.std.proofs.Common.{rules, sym, ◌∙◌}
 use Rattle.farm_core.proofs.Judged.{claim_stepped}
-use Rattle.farm_core.proofs.contest.Contest.claim.Goals as goal
+use Rattle.farm_core.proofs.contest.ContestState.claim.Goals as goal
 
 pub returns-in-Some : goal.returns-in-Some
 returns-in-Some c =

@@ -1,4 +1,4 @@
-use Rattle.farm_core.proofs.contest.Contest.claim.Given as goal
+use Rattle.farm_core.proofs.contest.ContestState.claim.Given as goal
 
 abbrev pub ghosts-claim_by : goal.ghosts-claim_by
 ghosts-claim_by a = record { name = a.blank.name; parts = a.blank.parts }

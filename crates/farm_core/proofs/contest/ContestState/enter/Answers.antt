@@ -1,6 +1,6 @@
 use Rattle.std.proofs.Common.{rules}
 use Rattle.farm_core.proofs.Judged.{entry_stepped}
-use Rattle.farm_core.proofs.contest.Contest.enter.Goals as goal
+use Rattle.farm_core.proofs.contest.ContestState.enter.Goals as goal
 
 pub returns : goal.returns
 returns c =

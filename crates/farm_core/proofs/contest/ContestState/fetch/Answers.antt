@@ -1,6 +1,6 @@
 use Rattle.std.proofs.Common.{rules, ◌≡◌, length, sym, ap, ◌∙◌}
 use Rattle.farm_core.proofs.Judged.{fetch_stepped, fetch_counts}
-use Rattle.farm_core.proofs.contest.Contest.fetch.Goals as goal
+use Rattle.farm_core.proofs.contest.ContestState.fetch.Goals as goal
 
 pub returns-in-Some : goal.returns-in-Some
 returns-in-Some c =

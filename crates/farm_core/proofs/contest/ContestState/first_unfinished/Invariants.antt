@@ -3,7 +3,7 @@ use Rattle.std.specs.Prelude.{not}
 use Rattle.std.specs.List.{find}
 use Rattle.farm_model.specs.State.{answer_at, is_final}
 use Rattle.farm_model.specs.Rejudgings.{new_judgings}
-use Rattle.farm_core.proofs.contest.Contest.first_unfinished.Given as goal
+use Rattle.farm_core.proofs.contest.ContestState.first_unfinished.Given as goal
 
 abbrev pub invariant-loop-member : goal.invariant-loop-member
 invariant-loop-member l =

@@ -2,7 +2,7 @@ use Rattle.std.proofs.Common.{ap, ◌∙◌}
 use Rattle.std.specs.List.{position}
 use Rattle.std.specs.Str.{bytes_eq}
 use Rattle.farm_core.proofs.Named.{named}
-use Rattle.farm_core.proofs.contest.Contest.host_place.Goals as goal
+use Rattle.farm_core.proofs.contest.ContestState.host_place.Goals as goal
 
 pub returns-clause-place : goal.returns-clause-place
 returns-clause-place c =

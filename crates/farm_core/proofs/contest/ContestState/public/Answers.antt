@@ -1,5 +1,5 @@
 use Rattle.std.proofs.Common.{rules}
-use Rattle.farm_core.proofs.contest.Contest.public.Goals as goal
+use Rattle.farm_core.proofs.contest.ContestState.public.Goals as goal
 
 pub returns : goal.returns
 returns c = search rules

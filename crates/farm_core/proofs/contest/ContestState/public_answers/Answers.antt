@@ -1,6 +1,6 @@
 use Rattle.std.proofs.Common.{arith}
 use Rattle.std.proofs.lemmas.Grind.{common_steps}
-use Rattle.farm_core.proofs.contest.Contest.public_answers.Goals as goal
+use Rattle.farm_core.proofs.contest.ContestState.public_answers.Goals as goal
 
 pub push_reserved-requires : goal.push_reserved-requires
 push_reserved-requires c = grind (arith, common_steps)

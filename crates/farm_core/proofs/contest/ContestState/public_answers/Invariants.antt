@@ -1,6 +1,6 @@
 use Rattle.std.proofs.Common.{◌≡◌, ◌+◌, ◌++◌, ◌≤◌, drop, length, map, vec_len, vec_capacity}
 use Rattle.farm_model.specs.State.{public_answer}
-use Rattle.farm_core.proofs.contest.Contest.public_answers.Given as goal
+use Rattle.farm_core.proofs.contest.ContestState.public_answers.Given as goal
 
 abbrev pub invariant-loop-submission : goal.invariant-loop-submission
 invariant-loop-submission l = record {

@@ -6,7 +6,7 @@ use Rattle.rejudge_book.specs.Refusals.{AreKnown}
 use Rattle.rejudge_book.specs.Book.{Book}
 use Rattle.farm_core.specs.FarmShape.{AreKept}
 use Rattle.farm_core.proofs.Keeping.{prepared_kept}
-use Rattle.farm_core.proofs.contest.Contest.rejudge.Goals as goal
+use Rattle.farm_core.proofs.contest.ContestState.rejudge.Goals as goal
 
 pub invariant_of-self-2 : goal.invariant_of-self-2
 invariant_of-self-2 c =

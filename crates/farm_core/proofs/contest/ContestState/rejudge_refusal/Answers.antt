@@ -3,7 +3,7 @@ use Rattle.std.specs.Prelude.{IfSome}
 use Rattle.farm_kinds.specs.declared.events.Reply.{Reply}
 use Rattle.farm_core.specs.FarmShape.{HadMemory, list_refusal}
 use Rattle.farm_core.proofs.Refusing.{rest_refuses, book_answers}
-use Rattle.farm_core.proofs.contest.Contest.rejudge_refusal.Goals as goal
+use Rattle.farm_core.proofs.contest.ContestState.rejudge_refusal.Goals as goal
 
 pub returns-clause-refusal : goal.returns-clause-refusal
 returns-clause-refusal c =

@@ -1,6 +1,6 @@
 use Rattle.std.proofs.Common.{rules, sym, ◌∙◌}
 use Rattle.farm_core.proofs.Judged.{renew_stepped}
-use Rattle.farm_core.proofs.contest.Contest.renew.Goals as goal
+use Rattle.farm_core.proofs.contest.ContestState.renew.Goals as goal
 
 pub returns-in-Some : goal.returns-in-Some
 returns-in-Some c =

@@ -5,7 +5,7 @@ use Rattle.farm_model.specs.State.{problem_number}
 use Rattle.farm_model.specs.Refusals.{version_of}
 use Rattle.farm_core.proofs.Named.{names_kept}
 use Rattle.farm_core.proofs.Entering.{version_there, version_few, version_written}
-use Rattle.farm_core.proofs.contest.Contest.replace.Goals as goal
+use Rattle.farm_core.proofs.contest.ContestState.replace.Goals as goal
 
 pub overflow_add-version : goal.overflow_add-version
 overflow_add-version c =

@@ -2,7 +2,7 @@ use Rattle.std.proofs.Common.{◌≡◌, ◌+◌, Some, rules, sym, arith}
 use Rattle.farm_model.specs.State.{problem_number}
 use Rattle.farm_model.specs.Refusals.{version_of}
 use Rattle.farm_core.proofs.Entering.{version_there, refuses_version, takes_version}
-use Rattle.farm_core.proofs.contest.Contest.replace_refusal.Goals as goal
+use Rattle.farm_core.proofs.contest.ContestState.replace_refusal.Goals as goal
 
 pub returns-then-index-ge-MAX_VERSIONS-clause-refusal : goal.returns-then-index-ge-MAX_VERSIONS-clause-refusal
 returns-then-index-ge-MAX_VERSIONS-clause-refusal c =

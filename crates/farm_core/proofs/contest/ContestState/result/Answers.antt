@@ -1,6 +1,6 @@
 use Rattle.std.proofs.Common.{rules, sym, ◌∙◌}
 use Rattle.farm_core.proofs.Judged.{result_stepped}
-use Rattle.farm_core.proofs.contest.Contest.result.Goals as goal
+use Rattle.farm_core.proofs.contest.ContestState.result.Goals as goal
 
 pub returns-in-Some : goal.returns-in-Some
 returns-in-Some c =

@@ -2,7 +2,7 @@ use Rattle.std.proofs.Common.{◌≡◌, ◌<◌, Some, arith, sym, ap, ◌∙�
 use Rattle.std.specs.List.{position}
 use Rattle.std.specs.Str.{bytes_eq}
 use Rattle.farm_core.proofs.Submits.{submit_stepped}
-use Rattle.farm_core.proofs.contest.Contest.submit.Goals as goal
+use Rattle.farm_core.proofs.contest.ContestState.submit.Goals as goal
 
 pub returns : goal.returns
 returns c =

@@ -1,7 +1,7 @@
 use Rattle.std.proofs.Common.{◌≡◌, ◌+◌, Some, None, true, false, rules, sym, ap, ◌∙◌, get_or}
 use Rattle.farm_model.specs.State.{up_number}
 use Rattle.farm_core.proofs.Named.{none_up, number_up, number_down}
-use Rattle.farm_core.proofs.contest.Contest.up_number.Goals as goal
+use Rattle.farm_core.proofs.contest.ContestState.up_number.Goals as goal
 
 pub returns-in_err-place-clause-number : goal.returns-in_err-place-clause-number
 returns-in_err-place-clause-number c =

@@ -5,14 +5,14 @@ use Rattle.farm_kinds.specs.Names.{is_name}
 use Rattle.farm_kinds.proofs.names.Name.read.Goals as goal
 
 -- the word stands at the front of the buffer
-text : (word front : List ℕ) → front ≡ word → take (length word) (front ++ drop (length word) (replicate 32 0)) ≡ word
-text word front e = take_at front _ (length word) (ap length e) ∙ e
+text : (word prefix : List ℕ) → prefix ≡ word → take (length word) (prefix ++ drop (length word) (replicate 32 0)) ≡ word
+text word prefix e = take_at prefix _ (length word) (ap length e) ∙ e
 
-whole_of : (word front : List ℕ) → front ≡ word → length word ≤ 32 → length (front ++ drop (length word) (replicate 32 0)) ≡ 32
-whole_of word front e h = rw (length-append, drop-replicate, length-replicate, e) (omega arith)
+whole_of : (word prefix : List ℕ) → prefix ≡ word → length word ≤ 32 → length (prefix ++ drop (length word) (replicate 32 0)) ≡ 32
+whole_of word prefix e h = rw (length-append, drop-replicate, length-replicate, e) (omega arith)
 
-zeros_of : (word front : List ℕ) → front ≡ word → front ++ drop (length word) (replicate 32 0) ≡ take (length word) (front ++ drop (length word) (replicate 32 0)) ++ replicate (32 - length word) 0
-zeros_of word front e = rw (text word front e) (rw (drop-replicate, e) refl)
+zeros_of : (word prefix : List ℕ) → prefix ≡ word → prefix ++ drop (length word) (replicate 32 0) ≡ take (length word) (prefix ++ drop (length word) (replicate 32 0)) ++ replicate (32 - length word) 0
+zeros_of word prefix e = rw (text word prefix e) (rw (drop-replicate, e) refl)
 
 -- a name has at most 32 bytes
 short : (word : List ℕ) → is_name word ≡ true → length word ≤ 32

@@ -26,4 +26,4 @@ returns-clause-fills g c =
 pub returns-clause-ok : goal.returns-clause-ok
 returns-clause-ok g c =
     let f = Fills-trans _ _ _ c.args.window.now _ c.wait_for.new.window (Fills-more (g.S.Source.left c.args.source.now) _ _ c.grow.ensures.ahead c.grow.ensures.taken c.grow.ensures.more) c.wait_for.ensures.fills in
-    shown_more_whole _ f.front _ c.args.seen c.args.len f.whole c.requires.shows (c.in_default-wait_for.ensures.whole refl)
+    shown_more_whole _ f.prefix _ c.args.seen c.args.len f.whole c.requires.shows (c.in_default-wait_for.ensures.whole refl)

@@ -46,7 +46,7 @@ invariant_of-self-2 c =
     let b = c.remove-2.ensures in
     let d = c.remove-3.ensures in
     layout _ (without_task old lease.task) e.left (some_of (λ x. not (on lease.task x)) old single) (omega (arith, e.less, c.self.invariant.few))
-    (index_taken order.Judging old n lease c.self.inside.by_judging c.remove.new.self c.remove.result c.self.invariant.judgings single e.held (a.lease ∙ ap (λ task. find (has_key c.self.inside.by_judging.order (record { rank = task.judging; task = task })) c.self.inside.by_judging.leases) (sym e.same)) a.order a.taken a.spare)
+    (index_taken order.Judging old n lease c.self.inside.by_judging c.remove.new.self c.remove.result c.self.invariant.judgings single e.held (a.lease ∙ ap (λ task. find (has_key c.self.inside.by_judging.order (record { group = task.judging; task = task })) c.self.inside.by_judging.leases) (sym e.same)) a.order a.taken a.spare)
     (index_taken order.Host old n lease c.self.inside.by_host c.remove-2.new.self c.remove-2.result c.self.invariant.hosts single e.held (b.lease ∙ ap (λ k. find (has_key c.self.inside.by_host.order k) c.self.inside.by_host.leases) c.key.ensures) b.order b.taken b.spare)
     (index_taken order.End old n lease c.self.inside.by_end c.remove-3.new.self c.remove-3.result c.self.invariant.ends single e.held (d.lease ∙ ap (λ k. find (has_key c.self.inside.by_end.order k) c.self.inside.by_end.leases) c.key-2.ensures) d.order d.taken d.spare)
     (omega (arith, e.less, c.self.invariant.room))

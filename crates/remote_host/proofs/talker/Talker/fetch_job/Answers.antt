@@ -1,6 +1,6 @@
 use Rattle.std.proofs.Common.{◌+◌, None, ◌∙◌}
 use Rattle.remote_host.proofs.Turning.{plain_refused, job_turned, said_is}
-use Rattle.remote_host.proofs.talker.Talker.turn.Goals as goal
+use Rattle.remote_host.proofs.talker.Talker.fetch_job.Goals as goal
 
 pub returns-in-Err-clause-talks : goal.returns-in-Err-clause-talks
 returns-in-Err-clause-talks g c =

@@ -17,16 +17,16 @@ pub returns-in-Err-clause-stops : goal.returns-in-Err-clause-stops
 returns-in-Err-clause-stops c =
     let m = c.loop-self.self-inside in
     let now : State = record { limits = m.limits; hart = hart_of m.processor m.pc; inputs = inputs_of m.files; output = m.output.items; cost = m.cost } in
-    entered_finish c.args.self.now.state now c.enter.new.processor c.in-Err.stop c.loop-self.invariant.on_way.same (omega arith) c.in-Err.ensures.enters
+    entered_finish c.args.self.now.state now c.fetch_page.new.processor c.in-Err.stop c.loop-self.invariant.on_way.same (omega arith) c.in-Err.ensures.enters
 
 pub returns-in-Some : goal.returns-in-Some
 returns-in-Some c =
     let m = c.loop-self.self-inside in
     let now : State = record { limits = m.limits; hart = hart_of m.processor m.pc; inputs = inputs_of m.files; output = m.output.items; cost = m.cost } in
-    let entered : State = record now { hart = hart_of c.enter.new.processor m.pc } in
+    let entered : State = record now { hart = hart_of c.fetch_page.new.processor m.pc } in
     let pauses : Pauses (Some c.in-Some.stop) entered (moved entered c.run_in_page-pause.new.processor c.run_in_page-pause.result.pc (c.self.inside.limits.instructions - c.run_in_page-pause.result.left)) =
     rw c.in-Some.is at (c.run_in_page-pause.ensures.pauses entered (record { has_hart = refl; has_cost = refl; has_limit = sym c.loop-self.invariant.limit })) in
-    let whole = resumed c.args.self.now.state now (moved entered c.run_in_page-pause.new.processor c.run_in_page-pause.result.pc (c.self.inside.limits.instructions - c.run_in_page-pause.result.left)) (hart_of c.enter.new.processor m.pc)
+    let whole = resumed c.args.self.now.state now (moved entered c.run_in_page-pause.new.processor c.run_in_page-pause.result.pc (c.self.inside.limits.instructions - c.run_in_page-pause.result.left)) (hart_of c.fetch_page.new.processor m.pc)
     (Some c.in-Some.stop) c.loop-self.invariant.on_way (omega arith) c.in-Ok.ensures.enters pauses in
     record { stops = whole.0; later = whole.1; time = whole.2 }
 
@@ -34,7 +34,7 @@ pub loop-self-smaller : goal.loop-self-smaller
 loop-self-smaller c =
     let m = c.loop-self.self-inside in
     let now : State = record { limits = m.limits; hart = hart_of m.processor m.pc; inputs = inputs_of m.files; output = m.output.items; cost = m.cost } in
-    let entered : State = record now { hart = hart_of c.enter.new.processor m.pc } in
+    let entered : State = record now { hart = hart_of c.fetch_page.new.processor m.pc } in
     let pauses : Pauses None entered (moved entered c.run_in_page-pause.new.processor c.run_in_page-pause.result.pc (c.self.inside.limits.instructions - c.run_in_page-pause.result.left)) =
     rw c.in-None.is at (c.run_in_page-pause.ensures.pauses entered (record { has_hart = refl; has_cost = refl; has_limit = sym c.loop-self.invariant.limit })) in
     let more : m.cost < (c.self.inside.limits.instructions - c.run_in_page-pause.result.left) = pauses.1 in
@@ -44,10 +44,10 @@ pub loop-self-preserved : goal.loop-self-preserved
 loop-self-preserved c =
     let m = c.loop-self.self-inside in
     let now : State = record { limits = m.limits; hart = hart_of m.processor m.pc; inputs = inputs_of m.files; output = m.output.items; cost = m.cost } in
-    let entered : State = record now { hart = hart_of c.enter.new.processor m.pc } in
+    let entered : State = record now { hart = hart_of c.fetch_page.new.processor m.pc } in
     let pauses : Pauses None entered (moved entered c.run_in_page-pause.new.processor c.run_in_page-pause.result.pc (c.self.inside.limits.instructions - c.run_in_page-pause.result.left)) =
     rw c.in-None.is at (c.run_in_page-pause.ensures.pauses entered (record { has_hart = refl; has_cost = refl; has_limit = sym c.loop-self.invariant.limit })) in
-    let whole = resumed c.args.self.now.state now (moved entered c.run_in_page-pause.new.processor c.run_in_page-pause.result.pc (c.self.inside.limits.instructions - c.run_in_page-pause.result.left)) (hart_of c.enter.new.processor m.pc)
+    let whole = resumed c.args.self.now.state now (moved entered c.run_in_page-pause.new.processor c.run_in_page-pause.result.pc (c.self.inside.limits.instructions - c.run_in_page-pause.result.left)) (hart_of c.fetch_page.new.processor m.pc)
     None c.loop-self.invariant.on_way (omega arith) c.in-Ok.ensures.enters pauses in
     record { limit = c.loop-self.invariant.limit; on_way = whole.0; aligned = c.run_in_page-pause.ensures.aligned; fits = c.loop-self.invariant.fits; code = c.forget_stale.ensures c.run_in_page-pause.new.processor.memory c.run_in_page-pause.ensures.code }
 
