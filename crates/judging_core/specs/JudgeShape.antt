@@ -1,9 +1,10 @@
 -- How judgings lie in memory.
-use Rattle.std.specs.Prelude.{◌≡◌, ℕ, ◌≤◌, List, map, reverse, length, sum_by, All}
+use Rattle.std.specs.Prelude.{◌≡◌, ℕ, ◌≤◌, List, Some, map, reverse, length, sum_by, All}
 use Rattle.farm_kinds.specs.declared.kinds.Kind.{Kind}
 use Rattle.farm_kinds.specs.declared.outcomes.Answer.{Answer}
 use Rattle.farm_kinds.specs.RuleValue.{RuleValue}
 use Rattle.farm_model.specs.Limits.{max_tests}
+use Rattle.farm_model.specs.Numbered.{item_of}
 use Rattle.farm_model.specs.Judgings.{Judging, empty_judging, judging_answer}
 use Rattle.lazy_stop.specs.Matters.{IsPossible}
 use Rattle.judging_core.specs.declared.judgings.KeptJudging.{KeptJudging}
@@ -24,6 +25,10 @@ judging_values judgings = map judging_value judgings
 -- what is reported of each judging, in order
 abbrev pub answers_by : RuleValue → List Judging → List Answer
 answers_by rule judgings = map (judging_answer rule) judgings
+
+-- this is what is reported of the judging of this number
+pub record IsReported (rule : RuleValue) (judgings : List Judging) (n : ℕ) (answer : Answer) : Type 0 where
+  pub each : (judging : Judging) → item_of judgings n ≡ Some judging → answer ≡ judging_answer rule judging
 
 -- at most 1,000 cells, and for each whether its task was ever handed out
 pub record IsWellKept (kept : KeptJudging) : Type 0 where

@@ -67,7 +67,7 @@ abbrev pub IsWantedUpTo : RuleValue → Mode → Row → ℕ → Type 0
 IsWantedUpTo rule mode row last =
     (rank : ℕ) → 1 ≤ rank → slice_get row (rank - 1) ≡ Some None → is_wanted rule mode row rank ≡ nat_le rank last
 
--- the same of the judging of this number
+-- up to this rank the empty cells of the judging of this number are to be judged, and behind it none is
 pub record IsLastWanted (rule : RuleValue) (judgings : List Judging) (n last : ℕ) : Type 0 where
   pub each : (judging : Judging) → item_of judgings n ≡ Some judging → IsWantedUpTo rule judging.mode judging.row last
 

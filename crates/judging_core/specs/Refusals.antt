@@ -1,14 +1,10 @@
 -- Why a result does not count, part by part.
-use Rattle.std.specs.Prelude.{ℕ, List, Option, Some, None, Bool, ◌&&◌, not}
+use Rattle.std.specs.Prelude.{Option, Some, None, Bool}
 use Rattle.farm_kinds.specs.declared.kinds.Kind.{Kind}
 use Rattle.farm_kinds.specs.declared.outcomes.Count.{Count}
 use Rattle.farm_kinds.specs.declared.outcomes.Count.TheVariants as count
 use Rattle.farm_model.specs.Refusing.{when}
-use Rattle.farm_model.specs.Judgings.{Judging, kept_count, has_test, was_handed}
-
--- there is such a task, and it was never handed out
-abbrev pub is_never_handed : List Judging → ℕ → ℕ → Bool
-is_never_handed judgings j test = has_test judgings j test && not (was_handed judgings j test)
+use Rattle.farm_model.specs.Judgings.{kept_count}
 
 -- the cell holds a kind, or its judging was dropped
 abbrev pub cell_refusal : Option Kind → Bool → Kind → Option Count

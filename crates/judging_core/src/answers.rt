@@ -1,9 +1,6 @@
-ghost use Rattle.std.specs.Prelude.{◌≡◌, ◌+◌, ◌≤◌, List, length, vec_len, vec_capacity, OnOk};
-ghost use Rattle.farm_kinds.specs.RuleValue.{RuleValue};
-ghost use Rattle.farm_model.specs.Judgings.{Judging};
-ghost use Rattle.farm_model.specs.Numbered.{with_change};
+ghost use Rattle.std.specs.Prelude.{◌≡◌, ◌+◌, ◌-◌, ◌≤◌, length, slice_set, vec_len, vec_capacity, OnOk};
 ghost use Rattle.farm_model.specs.Rows.{answer_of};
-ghost use Rattle.judging_core.specs.JudgeShape.{judging_values, answers_by, IsWellKept, AreWellKept, AreRuledBy};
+ghost use Rattle.judging_core.specs.JudgeShape.{IsWellKept};
 
 use crate::judgings::KeptJudging;
 use farm_kinds::{Answer, NoMemory, Verdict};
@@ -30,17 +27,12 @@ pub fn make_answer_room(answers: &mut Vec<Answer>, more: usize) -> Result<(), No
 }
 
 /// Keeps what is reported of a judging that has changed. What is kept of the others stays.
-pub fn keep_answer(answers: &mut Vec<Answer>, judgings: &[KeptJudging], judging: u32)
+pub fn keep_answer(answers: &mut Vec<Answer>, judging: u32, answer: Answer)
     requires numbered { 1 ≤ judging }
-    requires known { judging ≤ length judgings.now }
-    requires count { length answers.old.items ≡ length judgings.now }
-    requires short { AreWellKept judgings.now }
-    ensures answers { (rule : RuleValue) (before : List Judging) (change : Judging → Judging) → AreRuledBy rule judgings.now
-        → judging_values judgings.now ≡ with_change before judging change → answers.old.items ≡ answers_by rule before
-        → answers.new.items ≡ answers_by rule (judging_values judgings.now) }
+    requires known { judging ≤ length answers.old.items }
+    ensures answers { answers.new.items ≡ slice_set answers.old.items (judging - 1) answer }
     ensures len { vec_len answers.new ≡ vec_len answers.old }
     ensures capacity { vec_capacity answers.new ≡ vec_capacity answers.old }
 {
-    let place = judging as usize - 1;
-    answers[place] = answer_of(&judgings[place]);
+    answers[judging as usize - 1] = answer;
 }

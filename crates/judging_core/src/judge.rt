@@ -9,14 +9,15 @@ ghost use Rattle.judging_core.specs.JudgeValue.{first_judge, in_state, with_judg
 ghost use Rattle.judging_core.specs.Batches.{is_open_task, ComesFirst};
 
 use crate::answers::{answer_of, keep_answer, make_answer_room};
+use crate::filling::fill;
 use crate::judgings::{
-    KeptJudging, ask_refusal, cell_at, empty_judging, entry_refusal, fill, judging_at, mark_asked,
+    KeptJudging, ask_refusal, cell_at, empty_judging, entry_refusal, judging_at, mark_asked,
     mark_dropped, mark_handed, result_refusal, test_count,
 };
 use crate::listing::{
     end_counted, end_due, end_host, list_judging, make_room, make_room_ahead, show_open_tests,
 };
-use crate::open::{last_wanted, wanted_up_to};
+use crate::open::wanted_up_to;
 use crate::prepared::{is_next, prepared_judgings, take_prepared};
 use crate::room::{make_lease_room, tests_with};
 use farm_kinds::{
@@ -351,16 +352,15 @@ impl Judge {
         ensures state { self.new ≡ in_state self.old (counted self.old.state judging test given).0 }
         ensures answer { result ≡ Count.Counted }
     {
-        fill(&mut self.judgings, judging, test, given);
-        keep_answer(&mut self.answers, &self.judgings, judging);
+        let standing = fill(&mut self.judgings, judging, test, given);
+        keep_answer(&mut self.answers, judging, standing.answer);
         let task = Task {
             judging,
             test: test as u16,
         };
-        let last = last_wanted(&self.judgings, judging);
-        end_counted(&mut self.leases, task, last);
+        end_counted(&mut self.leases, task, standing.last);
         self.tasks.hide_task(task);
-        self.tasks.hide_behind(judging, last);
+        self.tasks.hide_behind(judging, standing.last);
         Count::Counted
     }
 

@@ -5,7 +5,7 @@ ghost use Rattle.farm_model.specs.Numbered.{item_of};
 ghost use Rattle.farm_model.specs.Judge.{ask_refusal};
 ghost use Rattle.farm_model.specs.Judgings.{kept_count, cell_of, is_asked, entry_refusal, result_refusal, with_result, with_handed, with_asked, with_dropped, empty_judging};
 ghost use Rattle.lazy_stop.specs.Matters.{IsPossible};
-ghost use Rattle.judging_core.specs.Refusals.{cell_refusal, is_never_handed};
+ghost use Rattle.judging_core.specs.Refusals.{cell_refusal};
 ghost use Rattle.std.specs.Option.{option_map};
 ghost use Rattle.judging_core.specs.JudgeShape.{judging_value, judging_values, row_length, IsWellKept, AreWellKept, IsRuledBy, AreRuledBy, CanAllHold};
 
@@ -123,24 +123,16 @@ pub fn result_refusal(
     ensures empty { IfNone result (cell_of (judging_values judgings.now) judging test ≡ Some None) }
     ensures short { IfNone result (test ≤ max_tests) }
 {
-    if is_never_handed(judgings, judging, test) {
+    let Some(kept) = judging_at(judgings, judging) else {
+        return Some(Count::NoJudging);
+    };
+    let Some(cell) = cell_at(kept, test) else {
+        return Some(Count::NoTest);
+    };
+    if !kept.handed.has(test as u16) {
         return Some(Count::NotHanded);
     }
-    entry_refusal(judgings, judging, test, given)
-}
-
-/// Whether there is such a task, and it was never handed out.
-fn is_never_handed(judgings: &[KeptJudging], judging: u32, test: u32) -> bool
-    requires { AreWellKept judgings.now }
-    ensures { result ≡ is_never_handed (judging_values judgings.now) judging test }
-{
-    let Some(kept) = judging_at(judgings, judging) else {
-        return false;
-    };
-    if cell_at(kept, test).is_none() {
-        return false;
-    }
-    !kept.handed.has(test as u16)
+    cell_refusal(cell, kept.dropped, given)
 }
 
 /// Why a result of this cell does not count: it holds a kind, or its judging was dropped.
@@ -163,34 +155,6 @@ fn kept_count(kept: Kind, given: Kind) -> Count
     } else {
         Count::Differs { kept, given }
     }
-}
-
-/// Puts the kind into the cell, which is empty.
-pub fn fill(judgings: &mut Vec<KeptJudging>, judging: u32, test: u32, given: Kind)
-    requires numbered { 1 ≤ judging }
-    requires known { judging ≤ length judgings.old.items }
-    requires empty { cell_of (judging_values judgings.old.items) judging test ≡ Some None }
-    requires short { AreWellKept judgings.old.items }
-    requires possible { CanAllHold given judgings.old.items }
-    ensures value { judging_values judgings.new.items ≡ with_result (judging_values judgings.old.items) judging test given }
-    ensures short { AreWellKept judgings.new.items }
-    ensures ruled { (rule : RuleValue) → AreRuledBy rule judgings.old.items → AreRuledBy rule judgings.new.items }
-    ensures count { length judgings.new.items ≡ length judgings.old.items }
-    ensures len { vec_len judgings.new ≡ vec_len judgings.old }
-    ensures capacity { vec_capacity judgings.new ≡ vec_capacity judgings.old }
-{
-    let kept = &mut judgings[judging as usize - 1];
-    put(&mut kept.row, test as u16, given);
-}
-
-/// Puts the kind into the empty cell.
-fn put(row: &mut Row, test: u16, given: Kind)
-    requires numbered { 1 ≤ test }
-    requires empty { slice_get row.old.cells (test - 1) ≡ Some None }
-    requires possible { IsPossible row.old.rule given }
-    ensures { row.new ≡ record row.old { cells = slice_set row.old.cells (test - 1) (Some given) } }
-{
-    row.put(test, given);
 }
 
 /// Marks the task as handed out.

@@ -7,7 +7,8 @@
 //! judging is final once every cell is filled, and hosts are given the task of each empty cell.
 //!
 //! Where things stand: `judge.rt` has the calls, `judgings.rt` the judgings and why a result does not count,
-//! `answers.rt` what is reported of each, which is kept beside them (`proofs/Reported.antt`), `prepared.rt`
+//! `answers.rt` what is reported of each, which is kept beside them (`proofs/Reported.antt`), `filling.rt` puts a result that counts
+//! into its cell, `prepared.rt`
 //! judgings that are made ahead, `marks.rt` which tasks were handed out, a bit for each, `open.rt` which tasks are
 //! open, `listing.rt` what puts tasks on the list of a claim and takes them off, and what ends leases, `room.rt`
 //! how much room is made for leases; `specs/Listed.antt` says that the open tasks are listed and no others,
@@ -20,6 +21,7 @@
 #![tactic(auto)]
 
 mod answers;
+mod filling;
 mod judge;
 mod judgings;
 mod listing;

@@ -1,7 +1,7 @@
 ghost use Rattle.std.specs.Prelude.{◌≡◌, ◌≤◌, ◌-◌, length, slice_get, Some, None};
 ghost use Rattle.farm_kinds.specs.RuleValue.{RuleValue};
 ghost use Rattle.farm_model.specs.Open.{is_wanted};
-ghost use Rattle.judging_core.specs.Listed.{is_open, IsWantedUpTo, IsLastWanted};
+ghost use Rattle.judging_core.specs.Listed.{is_open, IsWantedUpTo};
 ghost use Rattle.judging_core.specs.JudgeShape.{judging_values, IsWellKept, AreWellKept, AreRuledBy};
 
 use crate::judgings::{KeptJudging, cell_at, judging_at};
@@ -50,17 +50,5 @@ pub fn wanted_up_to(kept: &KeptJudging) -> u16
     match kept.mode {
         Mode::Full => tests,
         Mode::Lazy => kept.row.matters_up_to().min(tests as usize) as u16,
-    }
-}
-
-/// The same of the judging of this number, where there is one.
-pub fn last_wanted(judgings: &[KeptJudging], judging: u32) -> u16
-    requires { AreWellKept judgings.now }
-    ensures { (rule : RuleValue) → AreRuledBy rule judgings.now
-        → IsLastWanted rule (judging_values judgings.now) judging result }
-{
-    match judging_at(judgings, judging) {
-        Some(kept) => wanted_up_to(kept),
-        None => 0,
     }
 }
