@@ -2,7 +2,7 @@ ghost use Rattle.std.specs.Prelude.{◌≡◌, slice_index, ◌≤◌, ◌<◌, 
 ghost use Rattle.std.specs.Option.{option_map};
 ghost use Rattle.std.specs.Result.{result_err};
 ghost use Rattle.farm_kinds.specs.declared.kinds.Kind.{Kind};
-ghost use Rattle.farm_kinds.specs.Rules.{place_of, prio_of, remap_of, verdict_of, standard};
+ghost use Rattle.farm_kinds.specs.Rules.{place_of, possible_kinds, prio_of, remap_of, verdict_of, standard};
 ghost use Rattle.farm_kinds.specs.RuleFaults.{first_high_kind};
 ghost use Rattle.farm_kinds.specs.Ranks.{better_of};
 
@@ -99,6 +99,22 @@ impl Rule {
         ensures { result ≡ remap_of self.now kind }
     {
         self.remap[kind as usize]
+    }
+
+    /// What each of the eight kinds counts as, in their order: the kinds that a result can count as.
+    pub fn remaps(&self) -> [Kind; 8]
+        ensures { result ≡ possible_kinds self.now }
+    {
+        [
+            self.remap(Kind::Correct),
+            self.remap(Kind::WrongAnswer),
+            self.remap(Kind::RunError),
+            self.remap(Kind::TimeLimit),
+            self.remap(Kind::NoOutput),
+            self.remap(Kind::OutputLimit),
+            self.remap(Kind::MemoryLimit),
+            self.remap(Kind::JudgingError),
+        ]
     }
 }
 

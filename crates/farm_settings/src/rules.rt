@@ -69,7 +69,7 @@ fn with_prio(rule: &Rule, kind: Kind, prio: u16) -> Rule
     requires { prio ≤ 999 }
     ensures { result ≡ with_prio rule.now kind prio }
 {
-    match Rule::new(prios_with(rule, kind, prio), remaps_in(rule)) {
+    match Rule::new(prios_with(rule, kind, prio), rule.remaps()) {
         Ok(rule) => rule,
         Err(_) => Rule::standard(),
     }
@@ -102,7 +102,7 @@ fn prios_in(rule: &Rule) -> [u16; 8]
     ]
 }
 
-/// The same with another priority of this kind.
+/// The priorities of the kinds in their order, with this one for `kind`.
 fn prios_with(rule: &Rule, kind: Kind, prio: u16) -> [u16; 8]
     requires { prio ≤ 999 }
     ensures value { result ≡ map (λ k. if same_kind k kind then prio else prio_of rule.now k) every_kind }
@@ -133,23 +133,7 @@ fn prio_or(rule: &Rule, kind: Kind, prio: u16, of: Kind) -> u16
     }
 }
 
-/// What the kinds count as, in their order.
-fn remaps_in(rule: &Rule) -> [Kind; 8]
-    ensures { result ≡ map (remap_of rule.now) every_kind }
-{
-    [
-        rule.remap(Kind::Correct),
-        rule.remap(Kind::WrongAnswer),
-        rule.remap(Kind::RunError),
-        rule.remap(Kind::TimeLimit),
-        rule.remap(Kind::NoOutput),
-        rule.remap(Kind::OutputLimit),
-        rule.remap(Kind::MemoryLimit),
-        rule.remap(Kind::JudgingError),
-    ]
-}
-
-/// The same where this kind counts as another one.
+/// What the kinds count as, in their order, where this one counts as the target.
 fn remaps_with(rule: &Rule, kind: Kind, target: Kind) -> [Kind; 8]
     ensures { result ≡ map (λ k. if same_kind k kind then target else remap_of rule.now k) every_kind }
 {

@@ -1,7 +1,7 @@
 ghost use Rattle.std.specs.Prelude.{◌≡◌, ◌≢◌, ◌≤◌, ◌⊎◌};
 ghost use Rattle.std.specs.Bool.{OnTrue, OnFalse};
 ghost use Rattle.std.specs.List.{Contains};
-ghost use Rattle.farm_kinds.specs.Rules.{prio_of, possible_kinds};
+ghost use Rattle.farm_kinds.specs.Rules.{prio_of};
 ghost use Rattle.lazy_stop.specs.ExtremeKinds.{IsExtremes, Highest, Lowest, RivalIs};
 
 use farm_kinds::{Kind, Rule};
@@ -20,7 +20,7 @@ pub struct Extremes {
 pub fn extremes_of(rule: &Rule) -> Extremes
     ensures { IsExtremes rule.now result }
 {
-    let kinds = possible_kinds(rule);
+    let kinds = rule.remaps();
     let greatest = highest(rule, &kinds);
     let rival = rival(rule, &kinds, greatest);
     let least = lowest(rule, &kinds);
@@ -29,22 +29,6 @@ pub fn extremes_of(rule: &Rule) -> Extremes
         rival,
         least,
     }
-}
-
-/// What each of the eight kinds counts as.
-fn possible_kinds(rule: &Rule) -> [Kind; 8]
-    ensures { result ≡ possible_kinds rule.now }
-{
-    [
-        rule.remap(Kind::Correct),
-        rule.remap(Kind::WrongAnswer),
-        rule.remap(Kind::RunError),
-        rule.remap(Kind::TimeLimit),
-        rule.remap(Kind::NoOutput),
-        rule.remap(Kind::OutputLimit),
-        rule.remap(Kind::MemoryLimit),
-        rule.remap(Kind::JudgingError),
-    ]
 }
 
 /// A kind of the greatest priority.

@@ -1,5 +1,5 @@
 use Rattle.std.proofs.Common.{rules}
-use Rattle.lazy_stop.proofs.extremes.possible_kinds.Goals as goal
+use Rattle.farm_kinds.proofs.rules.Rule.remaps.Goals as goal
 
 pub returns : goal.returns
 returns c = search rules
