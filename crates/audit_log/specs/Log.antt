@@ -4,7 +4,7 @@ use Rattle.std.specs.Prelude.{ℕ, List, [], ◌∷◌, ◌++◌}
 pub record Log : Type 0 where
   -- in the order in which they were added
   pub texts : List (List ℕ)
-  -- an entry whose text has at most so many bytes takes no memory
+  -- an entry whose text has at most `reserved` bytes takes no memory
   pub reserved : ℕ
 
 -- no entries, and no room for one

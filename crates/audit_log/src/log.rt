@@ -55,7 +55,7 @@ impl Audit {
         }
     }
 
-    /// The next entry takes no memory where its text has at most so many bytes.
+    /// The number of bytes of its text up to which the next entry takes no memory.
     pub fn reserved(&self) -> usize
         ensures { result ≡ self.now.reserved }
     {

@@ -274,7 +274,7 @@ touches_no_other file elf limits inputs ok within p out =
     let r = blank elf.entry limits inputs in
     ap (λ (m : State). is_touched m p) (memory_of_fold file elf.segments r within) ∙ untouched_where file elf.segments (memory_of r) p (are_sound file elf ok) out
 
--- ---- the machine of such a file
+-- ---- the machine of a file that is an executable
 
 magic_of : (short magic : Bool) (f : Option ElfFault) → (if short || not magic then Some NotElf else f) ≡ None → magic ≡ true
 magic_of short true f h = refl

@@ -39,7 +39,7 @@ TouchesPagesOfBytes =
     → (a b : ℕ) → byte_of file elf.segments a ≡ Some b
     → is_touched (memory_of (with_segments file elf limits inputs)) (a / 4096) ≡ true
 
--- no page was touched that has no such address
+-- no page was touched of which no address has a byte of the executable
 abbrev pub TouchesNoOther : Type 0
 TouchesNoOther =
     (file : List ℕ) (elf : Image) (limits : Limits) (inputs : Inputs) → elf_of file ≡ Ok elf

@@ -51,7 +51,7 @@ pub fn open<'a>(
     }
     match read_elf(image) {
         Ok(elf) => load_segments(alloc, image, &elf, limits, files),
-        // an image that begins so has no fault
+        // an image that begins as an ELF file has no fault
         Err(_) => Ok(Machine::blank(alloc, limits, files, 0)),
     }
 }

@@ -1,3 +1,4 @@
+//! A law, for the proof alone: the function has an empty body, and its contract is the law.
 ghost use Rattle.case_run.specs.Laws as laws;
 
 /// What a machine with an executable is before its run: which byte each address has, which pages are touched, and that

@@ -32,7 +32,7 @@ pub fn run_case(alloc: Global, case: &Case<'_>) -> Result<Kind, NoMemory>
     result_of(alloc, case, ending, machine.output())
 }
 
-/// The result of a test whose run ended so, with this output.
+/// The result of a test whose run ended as `ending`, with the output `output`.
 fn result_of(
     alloc: Global,
     case: &Case<'_>,
@@ -88,7 +88,7 @@ fn run_validator(
     machine.run()
 }
 
-/// The result of a test whose validator ended so.
+/// The result of a test whose validator ended as `ending`, with the output `output`.
 fn ending_judges(output: &[u8], ending: Ending) -> Kind
     ensures { result ≡ ending_judges output.now ending }
 {

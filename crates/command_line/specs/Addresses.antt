@@ -13,7 +13,7 @@ ipv6 segments = V6 record { segments = segments }
 
 -- the address that the text writes: four numbers below 256 without leading zeros and with dots between them; or groups of up to
 -- four hexadecimal digits with colons between them, eight or, with `::` for the zeros that are left out, fewer, and the last two
--- perhaps as such four numbers. It is the one address that std's grammar, `IsIpText`, has for the text.
+-- perhaps as four numbers with dots. It is the one address that std's grammar, `IsIpText`, has for the text.
 abbrev pub address_of : List ℕ → Option IpAddr
 address_of text = option_or (option_map ipv4 (whole_value (read_ipv4 text))) (option_map ipv6 (whole_value (read_ipv6 text)))
 

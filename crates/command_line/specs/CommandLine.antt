@@ -27,16 +27,17 @@ pub data CommandValue : Type 0 where
   Script : (config store : Option Text) → CommandValue
   -- the lines of the store at this path
   Store : (path : Text) → CommandValue
-  -- the contest in this folder, by so many hosts, and whether a journal is asked for
+  -- the contest in this folder, by `hosts` hosts, and whether a journal is asked for
   Judge : (folder : Text) → (hosts : ℕ) → (journal : Bool) → CommandValue
-  -- the contest that is made of this number, with so many problems and submissions
+  -- the contest that is made of this number, with as many problems and submissions as `size` says
   Make : (number : ℕ) → (size : Size) → CommandValue
-  -- the contest in this folder, at this address and port, by so many lanes for so many connections, each of which it waits
-  -- for so many seconds, and whether none comes any more once the input has ended
+  -- the contest in this folder, at this address and port, by `lanes` lanes for at most `connections` connections, each of
+  -- which it waits for `patience` seconds, and whether none comes any more once the input has ended
   Serve : (folder : Text) → (address : IpAddr) → (port lanes connections patience : ℕ) → (until_input_ends : Bool)
       → CommandValue
-  -- as the judgehost of this name at the server of this address and port, with so many claims, and where no task is open
-  -- with a pause of so many seconds before the next one, if there is to be one; and as whom it asks a proxy, if one is there
+  -- as the judgehost of this name at the server of this address and port, with at most `fuel` claims, and where no task is
+  -- open with a pause of `wait` seconds before the next one, if there is to be one; and as whom it asks a proxy, if one is
+  -- there
   Host : (address : Text) → (port : ℕ) → (name : Text) → (fuel : ℕ) → (wait : Option ℕ) → (login : Option LoginValue)
       → CommandValue
 

@@ -10,7 +10,7 @@ pub struct HostCount {
 }
 
 impl HostCount {
-    /// So many hosts. None where they are more than 16.
+    /// As many hosts as `count`. None where that is more than 16.
     pub fn new(count: u32) -> Option<HostCount>
         ensures { option_map (λ hosts. hosts.count) result ≡ at_most 16 count }
     {

@@ -14,7 +14,7 @@ pub struct MadeSize {
 }
 
 impl MadeSize {
-    /// So many problems and submissions. None where they are too few or too many.
+    /// As many as `problems` and `submissions` say. None where these are not from 1 to 50, and from 1 to 2,000.
     pub fn new(problems: u32, submissions: u32) -> Option<MadeSize>
         ensures { option_map (λ size. record { problems = size.problems; submissions = size.submissions }) result
             ≡ size_with (from_1_to 50 problems) (from_1_to 2000 submissions) }

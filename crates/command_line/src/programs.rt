@@ -20,8 +20,8 @@ pub enum ProgramWords<'a> {
     Wrong(String),
 }
 
-/// Reads the words by the program's grammar. The first word is the program's name, and of those behind it so many must
-/// not be empty, `-` or `--`, and have no value that is empty or begins with `-`.
+/// Reads the words by the program's grammar. The first word is the program's name, and the first `checked` words
+/// behind it must not be empty, `-` or `--`, and have no value that is empty or begins with `-`.
 pub fn read_program<'a, G: Grammar>(
     alloc: Global,
     words: &'a [String],

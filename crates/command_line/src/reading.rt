@@ -144,7 +144,8 @@ fn address(found: &ArgMatches<'_>) -> Option<IpAddr>
     read_address(said)
 }
 
-/// The number of connections that is said; a server that is told none serves on. None where what is said is no such number.
+/// The number of connections that is said; a server that is told none serves on. None where what is said is no number
+/// from 1 to 100,000.
 fn connections(found: &ArgMatches<'_>) -> Option<Connections>
     ensures { option_map (λ connections. connections.count) result
         ≡ connections_with (first_of (codes "connections") (rows_of (found_of found.now))) }
@@ -155,7 +156,7 @@ fn connections(found: &ArgMatches<'_>) -> Option<Connections>
     Connections::new(read_number(said.as_bytes())?)
 }
 
-/// The patience that is said, or that of a minute. None where what is said is no such number.
+/// The patience that is said, or that of a minute. None where what is said is no number from 1 to 3,600.
 fn patience(found: &ArgMatches<'_>) -> Option<Patience>
     ensures { option_map (λ patience. patience.seconds) result
         ≡ patience_with (first_of (codes "patience") (rows_of (found_of found.now))) }
@@ -193,7 +194,7 @@ fn login<'a>(found: &ArgMatches<'a>) -> Option<Option<Login<'a>>>
     login_of(text(found, "user"), text(found, "password-file"))
 }
 
-/// The same by what the two options say.
+/// As whom a host asks a proxy, by what the two options say. None where only one of them is there, or the user is none.
 fn login_of<'a>(user: Option<&'a str>, file: Option<&'a str>) -> Option<Option<Login<'a>>>
     ensures { option_map (λ login. option_map login_value login) result
         ≡ login_with (option_map (λ text. text.now) user.entry) (option_map (λ text. text.now) file.entry) }
@@ -218,7 +219,7 @@ fn login_of<'a>(user: Option<&'a str>, file: Option<&'a str>) -> Option<Option<L
     }
 }
 
-/// For how many seconds a host pauses, where it is said. None where that is no such number.
+/// For how many seconds a host pauses, where it is said. None where what is said is no number from 1 to 60.
 fn wait(found: &ArgMatches<'_>) -> Option<Option<u16>>
     ensures { result ≡ wait_with (first_of (codes "wait") (rows_of (found_of found.now))) }
 {

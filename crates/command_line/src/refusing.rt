@@ -94,7 +94,7 @@ pub(crate) fn refused_by(
     format!(in alloc; "{error}")
 }
 
-/// What is wrong with the first word that is not plain, of so many past the program's name.
+/// What is wrong with the first word that is not plain, of the first `checked` words behind the program's name.
 pub(crate) fn odd_word(
     alloc: Global,
     words: &[String],

@@ -2,8 +2,8 @@ ghost use Rattle.std.specs.Prelude.{◌≡◌, ◌≢◌, ◌≤◌};
 ghost use Rattle.std.specs.Option.{option_map};
 ghost use Rattle.command_line.specs.Ranges.{from_1_to, unlimited};
 
-/// How many lanes a server has, from 1 to 16: of the connections that came, at most so many are being served. That it serves
-/// them at the same time is promised by no contract.
+/// How many lanes a server has, from 1 to 16: at most as many of the connections that came are being served. That it
+/// serves them at the same time is promised by no contract.
 #[derive(Clone, Copy, Debug, PartialEq, Eq)]
 pub struct Lanes {
     count: u16,
@@ -12,7 +12,7 @@ pub struct Lanes {
 }
 
 impl Lanes {
-    /// So many lanes. None where they are too few or too many.
+    /// As many lanes as `count`. None where that is not from 1 to 16.
     pub fn new(count: u32) -> Option<Lanes>
         ensures { option_map (λ lanes. lanes.count) result ≡ from_1_to 16 count }
     {
@@ -43,7 +43,7 @@ pub struct Connections {
 }
 
 impl Connections {
-    /// So many connections. None where they are too few or too many.
+    /// As many connections as `count`. None where that is not from 1 to 100,000.
     pub fn new(count: u32) -> Option<Connections>
         ensures { option_map (λ connections. connections.count) result ≡ from_1_to 100000 count }
     {
@@ -79,7 +79,7 @@ pub struct Patience {
 }
 
 impl Patience {
-    /// So many seconds. None where they are too few or too many.
+    /// A patience of `seconds`. None where that is not from 1 to 3,600.
     pub fn new(seconds: u32) -> Option<Patience>
         ensures { option_map (λ patience. patience.seconds) result ≡ from_1_to 3600 seconds }
     {

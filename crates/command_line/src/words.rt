@@ -24,13 +24,13 @@ pub enum Command<'a> {
     Store {
         path: &'a str,
     },
-    /// The contest in this folder, by so many hosts, and whether a journal is asked for.
+    /// The contest in this folder, by as many hosts as `hosts` says, and whether a journal is asked for.
     Judge {
         folder: &'a str,
         hosts: HostCount,
         journal: bool,
     },
-    /// The contest that is made of this number, with so many problems and submissions.
+    /// The contest that is made of this number, with as many problems and submissions as `size` says.
     Make {
         number: u32,
         size: MadeSize,
@@ -46,9 +46,9 @@ pub enum Command<'a> {
         patience: Patience,
         until_input_ends: bool,
     },
-    /// As the judgehost of this name at the server of this address and port, with so many claims; where no task is open,
-    /// with a pause of so many seconds before the next one, if there is to be one; and as whom it asks a proxy, if one is
-    /// there.
+    /// As the judgehost of this name at the server of this address and port, with at most `fuel` claims; where no task
+    /// is open, with a pause of `wait` seconds before the next one, if there is to be one; and as whom it asks a
+    /// proxy, if one is there.
     Host {
         address: &'a str,
         port: u16,

@@ -19,7 +19,7 @@ abbrev pub size_behind : Option (Bor (List ℕ)) → ℕ
 size_behind None = 0
 size_behind (Some text) = length text.now + 1
 
--- how many numbers there are with so many before them
+-- how many numbers there are with n before them
 abbrev pub total_count : ℕ → Option (List ℕ) → Option ℕ
 total_count n others = option_map (λ ns. n + length ns) others
 

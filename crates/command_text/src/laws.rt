@@ -1,3 +1,4 @@
+//! A law, for the proof alone: the function has an empty body, and its contract is the law.
 ghost use Rattle.std.specs.Prelude.{◌≡◌, ℕ, List, Ok, Some};
 ghost use Rattle.farm_kinds.specs.declared.events.Event.{Event};
 ghost use Rattle.farm_model.specs.Grammar.{line_read};

@@ -35,7 +35,7 @@ entries_more rows row entries i d h before this =
     ∙ ap (λ n. entry_rows 1 (take i entries) ++ entry_row n (get_or entries i d) ∷ []) number in
     rw (map-append view rows (row ∷ []), before, more) (ap (λ v. entry_rows 1 (take i entries) ++ v ∷ []) this)
 
--- the row of the answer behind so many others
+-- the row of the answer behind n others
 abbrev row_behind : ℕ → List SubmissionRow → Answer → List ℕ
 row_behind n entries answer = row_at (n + 1) (slice_get entries n) answer
 

@@ -27,12 +27,12 @@ row_with n team problem word =
 abbrev pub row_of : ℕ → SubmissionRow → Answer → List ℕ
 row_of n entry answer = row_with n (escaped entry.team) (escaped entry.problem) (answer_text answer)
 
--- the same; there is none where it is not known whose it is
+-- the row of the submission of this number; there is none where it is not known whose it is
 abbrev pub row_at : ℕ → Option SubmissionRow → Answer → List ℕ
 row_at n None answer = []
 row_at n (Some entry) answer = row_of n entry answer
 
--- a row for each answer, of which the first is behind so many others
+-- a row for each answer, of which the first is behind `before` others
 abbrev pub rows_from : ℕ → List SubmissionRow → List Answer → List ℕ
 rows_from before entries [] = []
 rows_from before entries (answer ∷ answers) =

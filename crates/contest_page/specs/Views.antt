@@ -23,7 +23,7 @@ json_of_view problems entries =
     object_with ((codes "problems", array (items_of (map string problems))) ∷ reply_field (codes "contest")
     ∷ (codes "submissions", array (items_of (entry_rows 1 entries))) ∷ [])
 
--- the text of the same
+-- the JSON of these problems and submissions as text
 unfoldable pub view_text : List (List ℕ) → List SubmissionRow → List ℕ
 view_text problems entries = compact_text (json_of_view problems entries)
 

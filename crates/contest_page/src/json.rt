@@ -64,7 +64,7 @@ fn contest_value(
     json!(in alloc; {"problems": problems, "reply": "contest", "submissions": submissions})
 }
 
-/// The text of the same: compact JSON, its keys in the order of their bytes.
+/// The JSON of these problems and submissions as text: compact, its keys in the order of their bytes.
 #[tactic(auto, using(crate::proofs::Plain::view_is_whole), unfolding(crate::specs::Views::view_text))]
 pub(crate) fn contest_json(
     alloc: Global,

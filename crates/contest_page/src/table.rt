@@ -33,6 +33,7 @@ fn answer_text(answer: Answer) -> &'static str
 fn shown_name(name: &Name) -> &str
     ensures { result.now ≡ escaped name.now }
 {
+    // For the proof alone: that they are the bytes of a name is known behind it.
     let _bytes = name.as_bytes();
     name_text(name)
 }
@@ -89,7 +90,7 @@ fn push_row(
     }
 }
 
-/// The submission behind so many others.
+/// The submission behind `before` others.
 fn entry_at(entries: &[SubmissionRow], before: usize) -> Option<&SubmissionRow>
     ensures { option_map (λ e. e.now) result ≡ slice_get entries.now before }
 {

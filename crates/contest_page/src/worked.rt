@@ -1,3 +1,4 @@
+//! Computed examples, for the proof alone: each function has an empty body, and the check computes its contract.
 ghost use Rattle.std.specs.Prelude.{◌≡◌, ◌++◌, [], ◌∷◌, codes};
 ghost use Rattle.farm_kinds.specs.declared.kinds.Kind.TheVariants as kind;
 ghost use Rattle.farm_kinds.specs.declared.outcomes.Answer.TheVariants.{Final, Pending};

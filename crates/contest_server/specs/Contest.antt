@@ -26,8 +26,8 @@ view_of roster = record {
   entries = map entry_of roster.submissions;
 }
 
--- how many connections that came may not be given back yet, where so many are served at the same time: beside these,
--- those that have ended and wait for their line, because one that came before them is still being served
+-- how many connections that came may not be given back yet, where at most `lanes` are served at the same time: beside
+-- these, those that have ended and wait for their line, because one that came before them is still being served
 abbrev pub open_limit : ℕ → ℕ
 open_limit lanes = 8192 + lanes
 

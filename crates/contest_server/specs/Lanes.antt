@@ -13,7 +13,7 @@ start_of lane = record { came = lane.promise.value.came.value; begun = lane.prom
 abbrev pub starts_of : {N C Q J : Type 0} → List (Lane (Served N PassValue) (Promised N PassValue C Q J)) → List (Start N)
 starts_of lanes = map start_of lanes
 
--- the connection that began so has been served
+-- the connection that began as s has been served
 abbrev pub visit_of : {N : Type 0} → Start N → Served N PassValue → Visit N
 visit_of s served = record {
   came = s.came;

@@ -102,7 +102,7 @@ pub record Finishes (old own : PassValue) (held held' : Option (List ℕ)) (faul
   pub takes : TakesIn old own whole
   pub ends : HasShown whole held held' faults faults' e result
 
--- Connections were served, on a board that began so and that the contest has entered by these events
+-- connections were served, on a board that began as `start` and that the contest has entered by the events `events`
 pub record HasServed {N : Type 0} (w : Watch N) (start : BoardState) (events : List Event) (door door' : DoorState N)
     (held held' : Option (List ℕ)) (most : ℕ) (e : ServeEnd) : Type 0 where
   pub visits : List (Visit N)
@@ -116,7 +116,7 @@ pub record HasServed {N : Type 0} (w : Watch N) (start : BoardState) (events : L
   pub stands : IsHistory start events visits board history
   pub wrote : Wrote e held held' (conn_lines 1 visits ++ board_text board)
 
--- the same; or memory ran out before any connection was asked for
+-- connections were served, as `HasServed` says; or memory ran out before any connection was asked for
 abbrev pub Serves : {N : Type 0} → Watch N → BoardState → List Event → DoorState N → DoorState N
     → Option (List ℕ) → Option (List ℕ) → ℕ → ServeEnd → Type 0
 Serves w start events door door' held held' most end.NoMemory =

@@ -96,14 +96,14 @@ pub record Stands {N : Type 0} (w : Watch N) (o : Opening N) (visits : List (Vis
   pub beside : IsBeside o.start o.calls o.feed visits d.starts d.pass
   pub each : All (IsVisit w) visits
 
--- of so many connections that came those that are not being served any more were served, and their lines written
+-- of n connections that came those that are not being served any more were served, and their lines written
 pub record Tells {N : Type 0} (w : Watch N) (o : Opening N) (d : DeskValue N) (held : Option (List ℕ)) (n : ℕ) : Type 0 where
   pub visits : List (Visit N)
   pub stands : Stands w o visits d
   pub count : length visits + length d.starts ≡ n
   pub wrote : Appends o.held held (conn_lines 1 visits)
 
--- the same, but only a prefix of their lines was written
+-- of n connections that came those that are not being served any more were served, and a prefix of their lines was written
 pub record TellsPrefix {N : Type 0} (w : Watch N) (o : Opening N) (d : DeskValue N) (held : Option (List ℕ)) (n : ℕ)
     : Type 0 where
   pub visits : List (Visit N)
@@ -113,7 +113,7 @@ pub record TellsPrefix {N : Type 0} (w : Watch N) (o : Opening N) (d : DeskValue
 
 -- One connection
 
--- one more was served, and ended so
+-- one more connection was served, and ended as e
 pub record HasTaken {N : Type 0} (w : Watch N) (o : Opening N) (visits : List (Visit N)) (d : DeskValue N) (e : ConnEnd)
     : Type 0 where
   pub last : Visit N
@@ -128,13 +128,13 @@ pub record TakesFirst {N : Type 0} (w : Watch N) (board : BoardId) (old new : De
   pub coming : new.door.coming ≡ old.door.coming
   pub taken : (o : Opening N) (visits : List (Visit N)) → Stands w o visits old → HasTaken w o visits new e
 
--- what is told of so many connections that came, and whether the last line was written whole
+-- what is told of n connections that came, and whether the last line was written whole
 abbrev pub Told : {N : Type 0} → Watch N → Opening N → DeskValue N → Option (List ℕ) → ℕ → Result (Unit {0}) TextFault
     → Type 0
 Told w o d held n (Ok u) = Tells w o d held n
 Told w o d held n (Err why) = TellsPrefix w o d held n
 
--- the same, and its line was written, where so many connections came
+-- the connection that was accepted first was taken in and its line was written, where n connections came
 pub record TellsFirst {N : Type 0} (w : Watch N) (board : BoardId) (old new : DeskValue N) (held held' : Option (List ℕ))
     (n : ℕ) (result : Result (Unit {0}) TextFault) : Type 0 where
   pub stays : StaysOrderly w board old new
@@ -144,7 +144,7 @@ pub record TellsFirst {N : Type 0} (w : Watch N) (board : BoardId) (old new : De
 
 -- All that are being served
 
--- they were taken in
+-- all that are being served were taken in
 pub record TakesAll {N : Type 0} (w : Watch N) (board : BoardId) (old new : DeskValue N) : Type 0 where
   pub stays : StaysOrderly w board old new
   pub none : new.starts ≡ []
@@ -156,7 +156,7 @@ abbrev pub IfTold : {N : Type 0} → Result (Unit {0}) TextFault → List (Start
 IfTold (Ok u) starts = starts ≡ []
 IfTold (Err why) starts = Unit {0}
 
--- they were taken in and told, up to a line that was not written whole
+-- all that are being served were taken in and told, up to a line that was not written whole, where n connections came
 pub record TellsAll {N : Type 0} (w : Watch N) (board : BoardId) (old new : DeskValue N) (held held' : Option (List ℕ))
     (n : ℕ) (result : Result (Unit {0}) TextFault) : Type 0 where
   pub stays : StaysOrderly w board old new
@@ -164,7 +164,7 @@ pub record TellsAll {N : Type 0} (w : Watch N) (board : BoardId) (old new : Desk
   pub coming : new.door.coming ≡ old.door.coming
   pub told : (o : Opening N) → Tells w o old held n → Told w o new held' n result
 
--- some of them were, the first ones first, up to a line that was not written whole
+-- some that are being served were taken in and told, the first ones first, up to a line that was not written whole
 pub record TellsSome {N : Type 0} (w : Watch N) (board : BoardId) (old new : DeskValue N) (held held' : Option (List ℕ))
     (n : ℕ) (result : Result (Unit {0}) TextFault) : Type 0 where
   pub stays : StaysOrderly w board old new
@@ -214,7 +214,7 @@ abbrev pub IfNextEnded : {N : Type 0} → Option (List N) → Result Coming Text
 IfNextEnded left (Ok c) = IfEnded left c
 IfNextEnded left (Err why) = Unit {0}
 
--- the same, once there was room for one more
+-- room was made for a connection, and the door was asked for it; where it came it is being served
 pub record ServesNext {N : Type 0} (w : Watch N) (board : BoardId) (old new : DeskValue N) (held held' : Option (List ℕ))
     (n : ℕ) (result : Result Coming TextFault) : Type 0 where
   pub stays : StaysOrderly w board old new
@@ -230,7 +230,7 @@ pub record HasCauseNext (door door' out out' : ℕ) (result : Result Coming Text
   pub door_failed : result ≡ Ok coming.Failed → Rose door door'
   pub out_failed : result ≡ Err fault.WriteFault → Rose out out'
 
--- so many connections came since the first desk
+-- n connections came since the desk `first`
 pub record IsUnderWay {N : Type 0} (w : Watch N) (board : BoardId) (first now : DeskValue N) (held held' : Option (List ℕ))
     (n : ℕ) : Type 0 where
   pub stays : StaysOrderly w board first now
@@ -255,7 +255,7 @@ abbrev pub end_after : ServeEnd → Result (Unit {0}) TextFault → ServeEnd
 end_after e (Ok u) = e
 end_after e (Err why) = end_of why
 
--- the lines of all that were being served were written, and so it ended; or one was not written whole
+-- the lines of all that were being served were written, and the serving ended as e; or one was not written whole
 pub record EndsWith {N : Type 0} (w : Watch N) (board : BoardId) (old new : DeskValue N) (held held' : Option (List ℕ))
     (faults faults' n : ℕ) (e result : ServeEnd) : Type 0 where
   pub told : Result (Unit {0}) TextFault
@@ -270,7 +270,7 @@ IfWhole end.DoorFault starts = starts ≡ []
 IfWhole end.WriteFault starts = Unit {0}
 IfWhole end.NoMemory starts = Unit {0}
 
--- so many connections came at the most; where all was done, as many as that, or none is left to come
+-- at most `most` connections came; where all was done, `most` were served, or none is left to come
 pub record Rests {N : Type 0} (w : Watch N) (o : Opening N) (d : DeskValue N) (held : Option (List ℕ)) (most : ℕ)
     (e : ServeEnd) : Type 0 where
   pub visits : List (Visit N)
@@ -286,7 +286,7 @@ pub record ServesAll {N : Type 0} (w : Watch N) (board : BoardId) (old new : Des
   pub whole : IfWhole e new.starts
   pub rests : (o : Opening N) → Tells w o old held 0 → Rests w o new held' most e
 
--- the same, and no connection is being served any more
+-- as many connections were served as came, up to a line that was not written whole, and none is being served any more
 pub record ServesLanes {N : Type 0} (w : Watch N) (board : BoardId) (old new : DeskValue N) (held held' : Option (List ℕ))
     (most : ℕ) (e : ServeEnd) : Type 0 where
   pub orderly : IsOrderly w board new

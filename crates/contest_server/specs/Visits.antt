@@ -51,7 +51,7 @@ watch left held reads writes around =
       start = opening_board (start standard_settings) 1 false;
     }
 
--- the same, on a board that began so, where these cases are given, and these names
+-- what is told as w tells it, on a board that began as `start`, where the cases of `case_at` and the names of `view` are given
 abbrev pub on_board : {N : Type 0} → BoardState → (Task → Option TestCase) → ViewValue → Watch N → Watch N
 on_board start case_at view w = record {
   left = w.left;

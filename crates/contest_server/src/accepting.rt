@@ -138,7 +138,8 @@ fn has_calls<A: Admission>(pass: &Pass<A>, lanes: usize) -> bool
     pass.left().saturating_sub(SHARE + 3) > lanes as u64
 }
 
-/// Makes room for a connection, and begins to serve the next one, where so many came and calls of the board are left.
+/// Makes room for a connection, and begins to serve the next one, where `count` came before it and calls of the board
+/// are left.
 fn serve_ready<
     's,
     E,
@@ -185,7 +186,7 @@ where
     Ok(accept_next(service, scope, desk, count))
 }
 
-/// Waits until a connection can be accepted and a worker is free, and serves it, where so many came.
+/// Waits until a connection can be accepted and a worker is free, and serves it, where `count` came before it.
 pub(crate) fn serve_next<
     's,
     E,

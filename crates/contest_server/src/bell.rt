@@ -43,14 +43,14 @@ impl Bell {
         done
     }
 
-    /// The same, once a moment has gone by, or there is one.
+    /// Which workers are done since this was last asked, once a moment has gone by, or one of them is done.
     pub fn heard_soon<W: Wait>(&self, rt: &W) -> [bool; PLACES] {
         self.waiting
             .park_timeout(rt, Duration::from_millis(MOMENT_MILLISECONDS));
         self.heard(rt)
     }
 
-    /// The same, once there is one.
+    /// Which workers are done since this was last asked, once one of them is.
     pub fn await_any<W: Wait>(&self, rt: &W) -> [bool; PLACES] {
         for _ in rt.forever() {
             let done = self.heard(rt);
@@ -82,13 +82,13 @@ impl Places {
         self.served.iter().filter(|served| served.is_some()).count()
     }
 
-    /// The first connection that is being served behind so many others: how many came before it.
+    /// The first connection behind `others` others that is being served: how many came before it.
     pub fn first_behind(&self, others: u64) -> Option<u64> {
         let served = self.served.iter().flatten().copied();
         served.filter(|before| *before >= others).min()
     }
 
-    /// Gives a free place to the connection behind so many others, and says which.
+    /// Gives a free place to the connection behind `before` others, and says which.
     pub fn take(&mut self, before: u64) -> usize {
         for place in 0..PLACES {
             if self.served[place].is_none() {

@@ -28,7 +28,7 @@ use std::sync::Wait;
 use std::thread;
 use std::thread::Threads;
 
-/// Serves so many connections at the most, each by a worker of its own, and hands the pass back.
+/// Serves at most `connections` connections, each by a worker of its own, and hands the pass back.
 fn serve_in_scope<
     's,
     R: Threads + Wait + Sync,
@@ -89,6 +89,7 @@ where
     (pass, end)
 }
 
+/// Whether all was done. For the proof alone: a function of its own, so that it is known which way was taken.
 fn is_done(end: ServeEnd) -> bool
     ensures done { OnTrue result (end ≡ ServeEnd.Done) }
     ensures other { OnFalse result (end ≢ ServeEnd.Done) }
@@ -144,7 +145,7 @@ fn finish<W: Wait, K: Sink, A: Admission>(
     end
 }
 
-/// Serves so many connections at the most on a board that the contest has entered, where what the public sees is
+/// Serves at most `connections` connections on a board that the contest has entered, where what the public sees is
 /// published, and writes their lines and behind them the text of `board`.
 pub(crate) fn serve_board<
     R: Threads + Wait + Sync,

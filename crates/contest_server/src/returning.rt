@@ -60,7 +60,8 @@ where
     end
 }
 
-/// The same, and writes its line, where so many connections came.
+/// Waits for the connection that was accepted first among those that are being served, takes it in, and writes its
+/// line, where `count` connections came.
 pub(crate) fn tell_next<
     's,
     R: Threads + Wait,
@@ -114,7 +115,7 @@ fn is_first_settled<N: Source + Sink + Peer, A: Admission, C: Clock, Q: Cases + 
 }
 
 /// Takes in the connections that have ended and that no other one came before which is still being served, and writes
-/// their lines, where so many connections came.
+/// their lines, where `count` connections came.
 pub(crate) fn tell_ended<
     's,
     R: Threads + Wait,
@@ -156,7 +157,7 @@ where
     Ok(())
 }
 
-/// Takes in all connections that are being served, and writes their lines, where so many connections came.
+/// Takes in all connections that are being served, and writes their lines, where `count` connections came.
 pub(crate) fn tell_all<
     's,
     R: Threads + Wait,

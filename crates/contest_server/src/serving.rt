@@ -17,8 +17,8 @@ use judge_feed::Naming;
 use std::sync::Wait;
 use std::thread::{Scope, Threads};
 
-/// Takes in the connections that are being served, and writes their lines; then the serving ends so, unless a line was
-/// not written whole.
+/// Takes in the connections that are being served, and writes their lines; then the serving ends as `end`, unless a
+/// line was not written whole.
 fn end_with<
     's,
     R: Threads + Wait,
@@ -67,8 +67,8 @@ pub(crate) fn end_of(fault: TextFault) -> ServeEnd
     }
 }
 
-/// Serves so many connections at the most, and writes their lines. Where a line was not written whole, connections may
-/// still be served.
+/// Serves at most `connections` connections, and writes their lines. Where a line was not written whole, connections
+/// may still be served.
 fn serve_all<
     's,
     E,
@@ -116,7 +116,7 @@ where
     end_with(service, desk, connections as u64, ServeEnd::Done)
 }
 
-/// Serves so many connections at the most, writes their lines, and takes in those whose line was not written.
+/// Serves at most `connections` connections, writes their lines, and takes in those whose line was not written.
 fn serve_desk<
     's,
     E,
@@ -155,7 +155,7 @@ where
     end
 }
 
-/// Serves so many connections at the most, and writes their lines.
+/// Serves at most `connections` connections, and writes their lines.
 pub(crate) fn serve_lanes<
     's,
     E,

@@ -61,7 +61,7 @@ pub(crate) fn end_of<T: Tree, S: Source, K: Sink, G: Gate + Sync>(
     end_on(rt, alloc, line, tree, input, out, gate, &mut disk)
 }
 
-/// The same on this disk.
+/// How a command line ends on this disk, where no connection is to come.
 pub(crate) fn end_on<T: Tree, S: Source, K: Sink, G: Gate + Sync>(
     rt: &(impl Threads + Wait + Sync),
     alloc: Global,
@@ -460,7 +460,7 @@ fn check_refused(
     Ok(())
 }
 
-/// The same of a file of settings.
+/// Compares how `farm script` ends where `farm.json` has these settings, and the fault that it tells.
 fn check_settings(
     rt: &(impl Threads + Wait + Sync + Abort),
     alloc: Global,
@@ -481,7 +481,7 @@ fn bad_settings_are_named(rt: HostRuntime) -> Result<(), Fail> {
     Ok(())
 }
 
-/// Settings with so many levels in an object.
+/// Settings with `levels` levels in an object.
 fn nested(alloc: Global, levels: usize) -> Result<Vec<u8>, AllocError> {
     let mut settings = b"{\"lease\":".to_vec(alloc)?;
     settings.extend_from_slice(vec![in alloc; b'['; levels]?.as_slice())?;

@@ -35,7 +35,7 @@ const NOTHING: &str = r#"{"reply":"nothing"}"#;
 
 const NO_HOST: &str = r#"{"host":"h1","reply":"no-host"}"#;
 
-/// The job of a case that echoes its input, `7` and a line feed, and whose answer is the same.
+/// The job of a case that echoes its input, `7` and a line feed, and whose answer is that input.
 const JOB: &str = concat!(
     r#"{"answer":"Nwo=","check":"default","flags":{"absolute":null,"case":false,"relative":null,"space":false},"#,
     r#""image":"twUCABMFAAATBgAEkwjwA3MAAAATBgUAEwUQAJMIAARzAAAAEwUAAJMI0AVzAAAA","input":"Nwo=","#,

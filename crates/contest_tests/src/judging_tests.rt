@@ -169,7 +169,7 @@ fn check_judged<G: Gate + Sync>(
     Ok(())
 }
 
-/// Compares what so many hosts write for the realistic contest.
+/// Compares what `hosts` hosts write for the realistic contest.
 fn check_table<G: Gate + Sync>(
     rt: &(impl Threads + Wait + Sync + Abort),
     alloc: Global,
@@ -195,7 +195,7 @@ fn check_journal(rt: &impl Abort, written: &[u8], hosts: u64, at_work: bool) {
     }
 }
 
-/// The same of the journal that so many hosts write.
+/// Checks the journal that `hosts` hosts write for the realistic contest.
 fn check_journal_of(
     rt: &(impl Threads + Wait + Sync + Abort),
     alloc: Global,

@@ -31,7 +31,7 @@ fn conn(alloc: Global) -> Result<ReliableConn, AllocError>
     Ok(Connection::new(ReliableSource::new(bytes), sink))
 }
 
-/// A door to which one such connection comes.
+/// A door to which one connection comes that asks for the board.
 fn door(alloc: Global) -> Result<ReliableDoor, AllocError>
     ensures { IfOk result (λ door. (door.accepted ≡ 0) × (door.back ≡ [])) }
 {
@@ -40,7 +40,7 @@ fn door(alloc: Global) -> Result<ReliableDoor, AllocError>
     ReliableDoor::new(alloc, coming)
 }
 
-/// Such a connection whose calls may fail, but none does.
+/// A connection that asks for the board and has room for the response; its calls may fail, but none does.
 fn failing_conn(alloc: Global) -> Result<MemoryConn, AllocError>
     ensures { IfOk result IsNew }
 {
@@ -49,7 +49,7 @@ fn failing_conn(alloc: Global) -> Result<MemoryConn, AllocError>
     Ok(Connection::new(source, sink))
 }
 
-/// A door to which one such connection comes, and whose call of this number fails.
+/// A door to which one connection of `failing_conn` comes, and whose call `failing` fails.
 fn failing_door(alloc: Global, failing: u64) -> Result<MemoryDoor, AllocError>
     ensures { IfOk result (λ door. (door.accepted ≡ 0) × (door.back ≡ [])) }
 {

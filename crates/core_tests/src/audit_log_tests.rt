@@ -95,7 +95,7 @@ fn reserves_one(audit: &mut Audit, case: &str) -> bool {
         && is_digest(&audit.head(), part(case, 3))
 }
 
-/// The same of a new log and the entries of the cases: the first case for which it is not so, or nothing.
+/// Has a new log make room for each case's entry and take it: the first case for which it does not, or nothing.
 fn reserve(audit: &mut Audit) -> &'static str {
     if audit.reserved() != 0 {
         return "empty";

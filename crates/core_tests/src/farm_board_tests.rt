@@ -169,8 +169,8 @@ fn is_noted(history: &Option<CallJournal>, passes: &[u64], number: u32) -> bool 
     }
 }
 
-/// Whether the journal of a board with so many seats is so, once its only pass, or where there are two one of them,
-/// has submitted.
+/// Whether the journal of a board with `seats` seats has calls by `passes`, of which the last is the submission
+/// `number`, once the board's only pass, or where there are two one of them, has submitted.
 fn notes(
     rt: &impl Wait,
     alloc: Global,
@@ -187,6 +187,7 @@ fn notes(
     } else {
         keep_turns(rt, &board, &mut pass);
     }
+    // For the proof alone: that no other pass is out is known behind it.
     let _ = pass.is_alone();
     let (farm, history) = board.close(pass);
     let noted = is_noted(&history, passes, number);
@@ -342,7 +343,7 @@ enum Shown {
     Turns,
 }
 
-/// Whether it is so on a board with so many seats.
+/// Whether what `shown` names holds of a board with `seats` seats.
 fn is_so<R: Threads + Wait + Sync>(
     rt: &R,
     alloc: Global,
@@ -483,7 +484,8 @@ fn is_run_error(shown: &Reply) -> bool {
     )
 }
 
-/// The same on a board of these cases.
+/// Has a host judge the submission on a board of these cases, and tells how it ends, and whether a run error is shown
+/// then.
 fn judge_of<W: Wait, C: Cases + Drop, A: Admission>(
     rt: &W,
     alloc: Global,

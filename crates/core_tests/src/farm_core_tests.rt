@@ -39,7 +39,7 @@ fn add_problem(farm: &mut Farm, name: Name) {
     take(farm, problem);
 }
 
-/// So many submissions to the problem, which are all correct.
+/// Adds `submissions` submissions to the problem, which are all correct.
 fn submit_all(farm: &mut Farm, problem: Name, submissions: u32) {
     for judging in 1..=submissions {
         let submit = Event::Submit {
@@ -113,8 +113,8 @@ fn rejudge_and_close(alloc: Global, farm: &mut Farm, event: &Event) -> Result<Cl
     Ok((closed, seen(farm, WRONG_ANSWER)))
 }
 
-/// What comes of it in a farm of its own. No other function here owns a farm: each way out of one that does has to be
-/// proved to drop it, and so all that it holds.
+/// What comes, in a farm of its own, of the rejudging that `event` closes. No other function here owns a farm: each
+/// way out of one that does has to be proved to drop it, and so all that it holds.
 fn closed_by(alloc: Global, event: Event) -> Result<Closed, NoMemory> {
     let mut farm = Farm::new(alloc, Settings::standard(alloc));
     let closed = rejudge_and_close(alloc, &mut farm, &event);

@@ -104,7 +104,7 @@ fn step_of(turn: u16, place: usize) -> Step {
     }
 }
 
-/// Whether these are the first steps of host 7, and so many, where nothing fails.
+/// Whether these are the first `count` steps of host 7, where nothing fails.
 fn are_first_steps(steps: &[Step], count: usize) -> bool {
     for (at, step) in steps.iter().enumerate() {
         let turn = (at / 5 % 1000) as u16 + 1;
@@ -115,7 +115,7 @@ fn are_first_steps(steps: &[Step], count: usize) -> bool {
     steps.len() == count
 }
 
-/// Whether the host ends so, after so many steps and runs.
+/// Whether the host ends as `end`, after `steps` steps and `runs` runs.
 fn is_played(
     alloc: Global,
     given: Given,

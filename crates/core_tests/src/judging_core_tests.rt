@@ -17,13 +17,14 @@ use std::test::Fail;
 /// a `~` and what it should answer behind `=`. Numbers of a step are, in this order, those of a host, of a judging and
 /// of a test, as far as it has them.
 ///
-/// `set-up` adds a judging of so many tests and two hosts. `host`, `add` and `add-waiting` are answered the number of
-/// what they add, these two a judging of the class normal with so many tests, of which the second waits to be asked
-/// for. `reserve` makes room ahead for judgings of these numbers of tests, and `add-reserved` makes it and adds them: the
-/// first of the class low, the second of the class high, and the third of the class normal. A claim is `handed` a
-/// judging, a test and until when; the host that does `claim-each` claims once for each test from one to another of
-/// judging 1, and is handed them in turn. A fetch of at most so many tasks is handed a `batch`: a judging, its tests from
-/// one to another, and until when. `tick`, with a moment, and `down` are answered how many leases end.
+/// `set-up` adds a judging, of as many tests as it says, and two hosts. `host`, `add` and `add-waiting` are answered
+/// the number of what they add, the last two a judging of the class normal, of as many tests as they say; that of
+/// `add-waiting` waits to be asked for. `reserve` makes room ahead for judgings of these numbers of tests, and
+/// `add-reserved` makes it and adds them: the first of the class low, the second of the class high, and the third of
+/// the class normal. A claim is `handed` a judging, a test and until when; the host that does `claim-each` claims once
+/// for each test from one to another of judging 1, and is handed them in turn. A `fetch`, which says behind its host
+/// how many tasks it takes at most, is handed a `batch`: a judging, its tests from one to another, and until when.
+/// `tick`, with a moment, and `down` are answered how many leases end.
 const ROWS: &str = concat!(
     "final once every cell is filled|standard|each|",
     "set-up 2~",
@@ -287,7 +288,7 @@ const ROWS: &str = concat!(
     "\n",
 );
 
-/// Whether a claim is answered so.
+/// Whether a claim is answered as `wanted`.
 fn is_claim(claim: Claim, wanted: &str) -> bool {
     let what = match claim {
         Claim::Holding => "holding",
@@ -307,7 +308,7 @@ fn is_task(task: Task, wanted: &str) -> bool {
     task.judging == number(wanted, 1) && task.test == rank(wanted, 2)
 }
 
-/// Whether a fetch is answered so.
+/// Whether a fetch is answered as `wanted`.
 fn is_fetched(answer: &Fetched, wanted: &str) -> bool {
     match answer {
         Fetched::Holding => wanted == "holding",
@@ -337,7 +338,7 @@ fn are_all(tests: &[u16], first: u16, last: u16) -> bool {
     next == last.saturating_add(1)
 }
 
-/// Whether a result is answered so.
+/// Whether a result is answered as `wanted`.
 fn is_count(count: Count, wanted: &str) -> bool {
     let (what, kept, given) = match count {
         Count::NoJudging => ("no-judging", "", ""),
@@ -351,7 +352,7 @@ fn is_count(count: Count, wanted: &str) -> bool {
     are_words(wanted, what, kept) && word(wanted, 2) == given
 }
 
-/// Whether a host that renews its leases is answered so.
+/// Whether a host that renews its leases is answered as `wanted`.
 fn is_renewed(renewed: Renewed, wanted: &str) -> bool {
     let what = match renewed {
         Renewed::NoJudging => "no-judging",
@@ -367,7 +368,7 @@ fn is_renewed(renewed: Renewed, wanted: &str) -> bool {
     word(wanted, 0) == what
 }
 
-/// Whether the jury that asks for a judging is answered so.
+/// Whether the jury that asks for a judging is answered as `wanted`.
 fn is_ask_end(end: AskEnd, wanted: &str) -> bool {
     let what = match end {
         AskEnd::NoJudging => "no-judging",
@@ -378,7 +379,7 @@ fn is_ask_end(end: AskEnd, wanted: &str) -> bool {
     wanted == what
 }
 
-/// Whether this is said of a judging that is there.
+/// Whether what is wanted is said of a judging that is there.
 fn is_known(said: Option<bool>, wanted: &str) -> bool {
     match said {
         Some(said) => is_said(said, wanted),
@@ -386,7 +387,7 @@ fn is_known(said: Option<bool>, wanted: &str) -> bool {
     }
 }
 
-/// Whether a host that is one of these claims a task, and is answered so.
+/// Whether `host`, where it is one of the `hosts`, claims a task and is answered as `wanted`.
 fn claims(judge: &mut Judge, hosts: u32, host: u32, wanted: &str) -> bool
     requires { judge.old.hosts ≡ hosts }
     ensures { judge.new.hosts ≡ hosts }
@@ -397,7 +398,8 @@ fn claims(judge: &mut Judge, hosts: u32, host: u32, wanted: &str) -> bool
     is_claim(claim(judge, host), wanted)
 }
 
-/// Whether a host that is one of these claims once for each of these tests, and is handed them in turn.
+/// Whether `host`, where it is one of the `hosts`, claims once for each test from `first` to `last`, and is handed
+/// them in turn.
 fn claims_each(judge: &mut Judge, hosts: u32, host: u32, first: u16, last: u16) -> bool
     requires { judge.old.hosts ≡ hosts }
     ensures { judge.new.hosts ≡ hosts }
@@ -414,7 +416,7 @@ fn claims_each(judge: &mut Judge, hosts: u32, host: u32, first: u16, last: u16) 
     true
 }
 
-/// Whether a host that is one of these fetches at most so many tasks, and is answered so.
+/// Whether `host`, where it is one of the `hosts`, fetches at most `most` tasks and is answered as `wanted`.
 fn fetches(judge: &mut Judge, hosts: u32, host: u32, most: &str, wanted: &str) -> bool
     requires { judge.old.hosts ≡ hosts }
     ensures { judge.new.hosts ≡ hosts }
@@ -437,7 +439,8 @@ fn claim(judge: &mut Judge, host: u32) -> Claim
     claim_by::<Brand>(judge, host, Blank::new(1))
 }
 
-/// The claim takes at most 58 steps of a counter that begins at nothing, which nobody is told of.
+/// Claims a task for a host that is one of these, by a counter of steps that is there for the proof alone: it begins at
+/// nothing, and the claim takes at most 58.
 fn claim_by<L: Ledger>(judge: &mut Judge, host: u32, blank: Blank) -> Claim
     requires name { blank.name ≡ L.name }
     requires parts { blank.parts ≡ L.parts }
@@ -452,7 +455,7 @@ fn claim_by<L: Ledger>(judge: &mut Judge, host: u32, blank: Blank) -> Claim
     claim
 }
 
-/// A count of at most 58 steps.
+/// For the proof alone: the count is at most 58 steps.
 fn few_steps<L: Ledger>(_steps: &Steps<L>)
     requires { _steps.now ≤ 58 }
 {}
@@ -466,6 +469,7 @@ fn fetch(judge: &mut Judge, host: u32, most: u8) -> Fetched
     fetch_by::<Brand>(judge, host, most, Blank::new(1))
 }
 
+/// Fetches tasks for a host that is one of these, by a counter of steps that is there for the proof alone.
 fn fetch_by<L: Ledger>(judge: &mut Judge, host: u32, most: u8, blank: Blank) -> Fetched
     requires name { blank.name ≡ L.name }
     requires parts { blank.parts ≡ L.parts }
@@ -571,7 +575,7 @@ fn add_few_reserved(alloc: Global, judge: &mut Judge, mode: Mode, tests: &str) -
     add_reserved(alloc, judge, mode, first, second, third) == Ok(true)
 }
 
-/// Adds a judging of so many tests and two hosts.
+/// Adds a judging of `tests` tests and two hosts.
 fn set_up(judge: &mut Judge, hosts: &mut u32, tests: u16, mode: Mode) -> bool
     requires { judge.old.hosts ≡ hosts.old }
     ensures { judge.new.hosts ≡ hosts.new }
@@ -634,7 +638,7 @@ fn enter(judge: &mut Judge, asked: &str, wanted: &str) -> bool
     )
 }
 
-/// Whether a judge of a mode, which has so many hosts, takes a step that adds to it as it should.
+/// Whether a judge of a mode, which has `hosts` hosts, takes a step that adds to it as it should.
 fn is_answered(alloc: Global, judge: &mut Judge, hosts: &mut u32, mode: Mode, step: &str) -> bool
     requires { judge.old.hosts ≡ hosts.old }
     ensures { judge.new.hosts ≡ hosts.new }
@@ -651,7 +655,7 @@ fn is_answered(alloc: Global, judge: &mut Judge, hosts: &mut u32, mode: Mode, st
     }
 }
 
-/// The same of a step of judging.
+/// Whether a judge with `hosts` hosts takes a step of judging as it should.
 fn is_judged(judge: &mut Judge, hosts: u32, asked: &str, wanted: &str) -> bool
     requires { judge.old.hosts ≡ hosts }
     ensures { judge.new.hosts ≡ hosts }
@@ -675,7 +679,7 @@ fn is_judged(judge: &mut Judge, hosts: u32, asked: &str, wanted: &str) -> bool
     }
 }
 
-/// The same of a step that only looks.
+/// Whether the judge answers a step that only looks as it should.
 fn is_told(judge: &Judge, asked: &str, wanted: &str) -> bool {
     let first = number(asked, 1);
     match word(asked, 0) {
@@ -703,8 +707,9 @@ fn play<'a>(alloc: Global, judge: &mut Judge, mode: Mode, steps: &'a str) -> &'a
     ""
 }
 
-/// The same of an empty judge of leases of a minute. No other function here owns a judge: each way out of one that does
-/// has to be proved to drop it, and so all that it holds.
+/// Has an empty judge of leases of a minute take the steps: the first that it does not answer as it should, or nothing.
+/// No other function here owns a judge: each way out of one that does has to be proved to drop it, and so all that it
+/// holds.
 fn play_by(alloc: Global, rule: Rule, mode: Mode, steps: &str) -> &str {
     let mut judge = Judge::new(alloc, rule, 60);
     let wrong = play(alloc, &mut judge, mode, steps);
@@ -712,7 +717,8 @@ fn play_by(alloc: Global, rule: Rule, mode: Mode, steps: &str) -> &str {
     wrong
 }
 
-/// The same lazily, and then in full.
+/// Has an empty judge take the steps lazily, and then one in full: the first that is not answered as it should, or
+/// nothing.
 fn play_in_each_mode(alloc: Global, rule: Rule, steps: &str) -> &str {
     let wrong = play_by(alloc, rule, Mode::Lazy, steps);
     if !wrong.is_empty() {

@@ -54,7 +54,7 @@ const ROWS: &str = concat!(
     "\n",
 );
 
-/// Whether a kind that is put is answered so.
+/// Whether a kind that is put is answered as `wanted`.
 fn is_put(put: Put, wanted: &str) -> bool {
     let (what, kept) = match put {
         Put::First => ("first", ""),
@@ -63,7 +63,7 @@ fn is_put(put: Put, wanted: &str) -> bool {
     are_words(wanted, what, kept)
 }
 
-/// Whether the kind, as the rule has it, is put in the cell of a test that is there, and is answered so.
+/// Whether the kind, as the rule has it, is put in the cell of a test that is there, and is answered as `wanted`.
 fn puts(row: &mut Row, rule: Rule, tests: u16, asked: &str, wanted: &str) -> bool
     requires rule { row.old.rule ≡ rule }
     requires tests { length row.old.cells ≡ tests }
@@ -108,7 +108,7 @@ fn holds(row: &Row, tests: u16, test: u16, wanted: &str) -> bool
     wanted == held
 }
 
-/// Whether the row of a rule, which has so many tests, answers the step as it should.
+/// Whether the row of the rule, which has `tests` tests, answers the step as it should.
 fn is_answered(row: &mut Row, rule: Rule, tests: u16, step: &str) -> bool
     requires rule { row.old.rule ≡ rule }
     requires tests { length row.old.cells ≡ tests }
@@ -142,7 +142,7 @@ fn play<'a>(row: &mut Row, rule: Rule, tests: u16, steps: &'a str) -> &'a str
     ""
 }
 
-/// The same of a row of empty cells.
+/// Has a row of empty cells take the steps: the first that it does not answer as it should, or nothing.
 fn wrong_step<'a>(alloc: Global, made: &str, steps: &'a str) -> &'a str {
     let Some(rule) = rule_of(word(made, 0)) else {
         return "no rule";

@@ -7,8 +7,8 @@ use std::test::Fail;
 /// Books, a row each: what is shown, and behind `|` the steps, each before a `~`, with what is answered behind `=`.
 ///
 /// A lease stands there as its host, its judging, its test and its end, and a task as its judging and its test. `room`
-/// asks whether so many more leases can be granted. `grant-all`, `renew-first`, `end-hosts` and `due-in-order` are of
-/// many leases, and are answered whether each of them went well.
+/// asks whether as many more leases as it says can be granted. `grant-all`, `renew-first`, `end-hosts` and
+/// `due-in-order` are of many leases, and are answered whether each of them went well.
 const ROWS: &str = concat!(
     "one before the end|",
     "reserve 64 = yes~",
@@ -241,7 +241,7 @@ fn is_answered(book: &mut LeaseBook, step: &str) -> bool {
     }
 }
 
-/// The same of a step that ends leases.
+/// Whether the book answers a step that ends leases as it should.
 fn is_ended(book: &mut LeaseBook, asked: &str, wanted: &str) -> bool {
     let first = number(asked, 1);
     match word(asked, 0) {
@@ -254,7 +254,7 @@ fn is_ended(book: &mut LeaseBook, asked: &str, wanted: &str) -> bool {
     }
 }
 
-/// The same of a step that is of many leases.
+/// Whether the book answers a step that is of many leases as it should.
 fn is_done(book: &mut LeaseBook, asked: &str, wanted: &str) -> bool {
     match asked {
         "grant-all" => is_said(grant_all(book), wanted),
@@ -265,7 +265,7 @@ fn is_done(book: &mut LeaseBook, asked: &str, wanted: &str) -> bool {
     }
 }
 
-/// The same of a step that only looks.
+/// Whether the book answers a step that only looks as it should.
 fn is_told(book: &LeaseBook, asked: &str, wanted: &str) -> bool {
     match word(asked, 0) {
         "find" => is_lease(book.find(task_of(asked)), wanted),
@@ -288,7 +288,7 @@ fn play<'a>(book: &mut LeaseBook, steps: &'a str) -> &'a str {
     ""
 }
 
-/// The same of a new book.
+/// Has a new book take the steps: the first that it does not answer as it should, or nothing.
 fn wrong_step(alloc: Global, steps: &str) -> &str {
     let mut book = LeaseBook::new(alloc);
     let wrong = play(&mut book, steps);

@@ -159,7 +159,7 @@ fn is_answered(tree: &mut LeaseTree, step: &str) -> bool {
     }
 }
 
-/// The same of a step that only looks.
+/// Whether the tree answers a step that only looks as it should.
 fn is_told(tree: &LeaseTree, asked: &str, wanted: &str) -> bool {
     let first = number(asked, 1) as u64;
     match word(asked, 0) {
@@ -185,7 +185,7 @@ fn play<'a>(tree: &mut LeaseTree, steps: &'a str) -> &'a str {
     ""
 }
 
-/// The same of a new tree of an order.
+/// Has a new tree of the order take the steps: the first that it does not answer as it should, or nothing.
 fn wrong_step<'a>(alloc: Global, order: &str, steps: &'a str) -> &'a str {
     let order = match order {
         "judging" => Order::Judging,

@@ -65,7 +65,8 @@ pub struct MemoryBench<'a> {
 }
 
 impl<'a> MemoryBench<'a> {
-    /// A bench with so many tests, of which the claim and the post with these numbers are refused.
+    /// A bench with `count` tests, of which the claim that `bad_claim` counts is refused, and the post that `bad_post`
+    /// counts.
     pub fn new(
         steps: &'a Steps,
         image: &'a [u8],

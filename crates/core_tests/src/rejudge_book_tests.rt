@@ -10,10 +10,11 @@ use std::test::Fail;
 
 /// Books, a row each: what is shown, and behind `|` the steps, each before a `~`, with what is answered behind `=`.
 ///
-/// `add` adds so many submissions. `prepare`, with the number of the first new judging, and `reserve` have a list of
-/// submissions behind their first word: numbers with a comma between two of them, `1..9` for all from one to another, or
-/// `-` for none. The old judging of each submission has its number. A member is its submission, its old and its new
-/// judging. `room` and `reserved-room` ask whether so many more submissions, and members, take no memory.
+/// `add` adds as many submissions as it says. `prepare`, with the number of the first new judging, and `reserve` have
+/// a list of submissions behind their first word: numbers with a comma between two of them, `1..9` for all from one to
+/// another, or `-` for none. The old judging of each submission has its number. A member is its submission, its old
+/// and its new judging. `room` asks whether as many more submissions as it says take no memory, and `reserved-room`
+/// whether a rejudging of as many members takes none.
 const ROWS: &str = concat!(
     "a member is busy until its rejudging is closed|",
     "add 3 = yes~",
@@ -128,7 +129,7 @@ fn push_list(list: &mut Vec<u32>, text: &str) -> Result<(), AllocError> {
     Ok(())
 }
 
-/// Adds so many submissions.
+/// Adds `submissions` submissions.
 fn add(book: &mut RejudgeBook, submissions: u32) -> bool {
     for _ in 0..submissions {
         if book.add_submission().is_err() {
@@ -138,14 +139,14 @@ fn add(book: &mut RejudgeBook, submissions: u32) -> bool {
     true
 }
 
-/// Whether each submission of the list is one of so many.
+/// Whether each number of the list is that of one of `submissions` submissions.
 fn are_known(submissions: usize, list: &[u32]) -> bool
     ensures { result ≡ true → AreKnown submissions list.now }
 {
     list.iter().all(|s| 1 <= *s && *s as usize <= submissions)
 }
 
-/// Prepares the rejudging where its conditions hold, and tells whether it is answered so.
+/// Prepares the rejudging where its conditions hold, and tells whether it is answered as `wanted`.
 fn prepares(book: &mut RejudgeBook, members: &[u32], first: u32, wanted: &str) -> bool {
     if !are_known(book.submissions(), members) || book.rejudgings() >= 100 {
         return false;
@@ -159,7 +160,7 @@ fn prepares(book: &mut RejudgeBook, members: &[u32], first: u32, wanted: &str) -
     }
 }
 
-/// Makes room where its condition holds, and tells whether it is answered so.
+/// Makes room where its condition holds, and tells whether it is answered as `wanted`.
 fn reserves(book: &mut RejudgeBook, members: &[u32], wanted: &str) -> bool {
     if !are_known(book.submissions(), members) {
         return false;
@@ -251,7 +252,7 @@ fn is_answered(book: &mut RejudgeBook, list: &[u32], asked: &str, wanted: &str) 
     }
 }
 
-/// The same of a step that only looks.
+/// Whether the book answers a step that only looks as it should.
 fn is_told(book: &RejudgeBook, asked: &str, wanted: &str) -> bool {
     let first = number(asked, 1);
     match word(asked, 0) {
@@ -267,7 +268,7 @@ fn is_told(book: &RejudgeBook, asked: &str, wanted: &str) -> bool {
     }
 }
 
-/// The same, with room for the list.
+/// Whether the book answers the step as it should; `list` is room for the list that stands in it.
 fn is_right(book: &mut RejudgeBook, list: &mut Vec<u32>, step: &str) -> bool {
     let (asked, wanted) = parts_of(step, " = ");
     list.clear();
@@ -287,7 +288,7 @@ fn play<'a>(book: &mut RejudgeBook, list: &mut Vec<u32>, steps: &'a str) -> &'a 
     ""
 }
 
-/// The same of a new book.
+/// Has a new book take the steps: the first that it does not answer as it should, or nothing.
 fn wrong_step(alloc: Global, steps: &str) -> &str {
     let mut list = Vec::new(alloc);
     let mut book = RejudgeBook::new(alloc);
@@ -338,7 +339,7 @@ fn push_pairs(pairs: &mut Vec<(Answer, Answer)>, text: &str) -> Result<(), Alloc
     Ok(())
 }
 
-/// Whether the row of a matrix is so.
+/// Whether the row of a matrix is as `wanted`.
 fn is_row(row: &MatrixRow, wanted: &str) -> bool {
     let (old, rest) = parts_of(wanted, ">");
     let (new, count) = parts_of(rest, ">");
@@ -373,7 +374,7 @@ fn has_rows(alloc: Global, pairs: &[(Answer, Answer)], wanted: &str) -> bool {
     }
 }
 
-/// The same of pairs that a text has.
+/// Whether the matrix of the pairs that the text has is as `wanted`.
 fn is_matrix(alloc: Global, text: &str, wanted: &str) -> bool {
     let mut pairs = Vec::new(alloc);
     let right = push_pairs(&mut pairs, text).is_ok() && has_rows(alloc, pairs.as_slice(), wanted);

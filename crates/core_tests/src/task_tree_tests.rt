@@ -55,7 +55,7 @@ fn set_shown(tree: &mut TaskTree, task: Task, shown: bool) {
     }
 }
 
-/// Hides what is shown of the judging behind the test, if there is such a judging.
+/// Hides what is shown of the judging behind the test `last`, if there is that judging.
 fn hide_behind(tree: &mut TaskTree, last: Task) {
     if last.judging == 0 || last.judging as usize > tree.judging_count() {
         return;

@@ -104,7 +104,7 @@ fn append(start: u128, digits: &[u8]) -> u128
     (start * ten_to(digits.len()) + small_number(digits) as u128).min(WIDE)
 }
 
-/// The number with so many zeros behind it, or 10^25 where it is at least that.
+/// The number `start` with `count` zeros behind it, or 10^25 where that is less.
 #[tactic(auto, using(crate::proofs::Bounds::zeros_step))]
 fn append_zeros(start: u128, count: usize) -> u128
     requires { start ≤ 10 ^ 25 }

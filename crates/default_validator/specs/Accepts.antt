@@ -71,6 +71,6 @@ is_wide_float (Some d) = d.floating && nat_le (10 ^ 24) (unsigned_abs d.value)
 abbrev pub is_wide_token : List ℕ → Bool
 is_wide_token token = is_wide_float (decimal_of token)
 
--- the place of the answer's first such token, where a tolerance is set
+-- the place of the answer's first wide token, where a tolerance is set
 unfoldable pub wide_token_of : Flags → List ℕ → Option ℕ
 wide_token_of flags answer = if has_tolerance flags then position is_wide_token (tokens answer) else None

@@ -1,3 +1,4 @@
+//! Laws, for the proof alone: each function has an empty body, and its contract is the law.
 ghost use Rattle.std.specs.Prelude.{◌≡◌, ◌≤◌, ◌<◌, ◌+◌, ℕ, List, Ok, Some, take, codes};
 ghost use Rattle.std.specs.List.{sum};
 ghost use Rattle.farm_tree.specs.declared.reads.TreeFile.{TreeFile};

@@ -1,3 +1,4 @@
+//! A law, for the proof alone: the function has an empty body, and its contract is the law.
 ghost use Rattle.std.specs.Prelude.{◌≡◌, ◌≤◌, ◌↔◌, ℕ, List, length, Ok};
 ghost use Rattle.farm_kinds.specs.declared.Limits.{Limits};
 ghost use Rattle.elf_image.specs.Image.{Image, elf_of};

@@ -1,3 +1,4 @@
+//! A law, for the proof alone: the function has an empty body, and its contract is the law.
 ghost use Rattle.std.specs.Prelude.{◌≡◌, ◌≤◌, ◌<◌, ◌↔◌, ℕ, List, Some, None};
 ghost use Rattle.std.specs.List.{Contains};
 ghost use Rattle.farm_model.specs.declared.records.Lease.{Lease};

@@ -1,3 +1,4 @@
+//! Laws, for the proof alone: each function has an empty body, and its contract is the law.
 ghost use Rattle.std.specs.Prelude.{◌≡◌, ℕ, List, Ok, Err};
 ghost use Rattle.problem_settings.specs.declared.yaml.BadLine.{BadLine};
 ghost use Rattle.problem_settings.specs.Lines.{lines_of};

@@ -48,7 +48,8 @@ load_count file (suc k) = if is_load file k then load_count file k + 1 else load
 
 -- ---- what is wrong with a PT_LOAD entry
 
--- the fault of an entry in a file of so many bytes, with its number among the PT_LOAD ones, behind these segments
+-- the fault of an entry in a file of `length` bytes, with its number `index` among the PT_LOAD ones, behind the segments
+-- `earlier`
 abbrev pub load_fault : ℕ → List Segment → ℕ → Segment → Option ElfFault
 load_fault length earlier index s =
     if nat_lt length (s.offset + s.len) then Some (PastFile index)

@@ -1,3 +1,4 @@
+//! A law, for the proof alone: the function has an empty body, and its contract is the law.
 ghost use Rattle.elf_image.specs.Laws as laws;
 
 /// What the definition of an executable's bytes in memory says, segment by segment.

@@ -1,3 +1,4 @@
+//! Computed examples, for the proof alone: each function has an empty body, and the check computes its contract.
 ghost use Rattle.std.specs.Prelude.{◌≡◌, [], ◌∷◌, take, Ok, Err, Some, None};
 ghost use Rattle.elf_image.specs.declared.fault.ElfFault.TheVariants.{BadStart, NoSegment, Truncated, PastFile};
 ghost use Rattle.elf_image.specs.Image.{elf_of, byte_of};

@@ -27,13 +27,13 @@ pub enum Exit {
     InputLimit,
     /// The link to a server failed, or the connection that it made.
     LinkFault,
-    /// The server gave this answer, which is none that it may give.
+    /// The server gave the answer `wrong`, which is none that it may give.
     BadAnswer { wrong: Wrong },
     /// The disk of a store failed.
     StoreFault,
-    /// The file is no store of this farm, for this reason, and one line says so.
+    /// The file is no store of this farm, for the reason `flaw`, and one line says so.
     BadStore { flaw: StoreFlaw },
-    /// The record of an event would end here, which is more than a store holds.
+    /// The record of an event would end at the offset `end`, which is more than a store holds.
     StoreFull { end: u64 },
 }
 

@@ -35,7 +35,7 @@ serve_complete files folder address port lanes connections patience until_input_
     subst (λ (o : Option CommandValue). IfSome o (λ command. CommandIsDone files command link store left (¬ T × ¬ S × ¬ K × ¬ D × ¬ L × ¬ Y) e)) is
     (λ has faultless. done has faultless.0 faultless.3 faultless.2)
 
--- the same of how it ends: the counts are those that the words say
+-- how `farm serve` ends, where the numbers of lanes, connections and seconds are those that the words say
 pub serve_ends : {N M : Type 0} (files : Option (List TreeFile)) (folder : List ℕ) (address : IpAddr) (port lanes connections patience lanes' connections' patience' : ℕ) (until_input_ends : Bool)
     (command : Option CommandValue) (door : DoorUse N) (link : LinkUse M) (store : StoreUse) (old new : Streams) (unread unwritten : Type 0) (e : Exit)
     → Some (Serve folder address port lanes connections patience until_input_ends) ≡ command → lanes' ≡ lanes → connections' ≡ connections → patience' ≡ patience
@@ -115,7 +115,7 @@ served {N} files folder at lanes connections door listening held held' unwritten
     subst (λ (z : Exit). ServeEnds files folder at lanes connections door held held' unwritten z) (sym is)
     (by_end files folder at lanes connections door held held' unwritten ended whole)
 
--- what failed where a contest's serving ended so
+-- what failed where a contest's serving ended as `ended`
 pub write_failed : (door door' out out' : ℕ) (ended : ServeEnd) → HasCauseEnd door door' out out' ended → exit_of ended ≡ exit.WriteFault → Rose out out'
 write_failed door door' out out' end.Done h is = let both : exit.Done ≡ exit.WriteFault = is in cc
 write_failed door door' out out' end.DoorFault h is = let both : exit.DoorFault ≡ exit.WriteFault = is in cc

@@ -47,7 +47,7 @@ pub record Lends {N : Type 0} (link : LinkUse N) (conn back : N) : Type 0 where
   pub sound : link.faults conn ≡ 0
   pub went : TakesBack between link.new back
 
--- a connection as it stands on the link, where so much of its bytes was taken and is in no response yet
+-- a connection as it stands on the link, where the bytes `ahead` were taken and are in no response yet
 abbrev pub line_of : {N : Type 0} → LinkUse N → N → List ℕ → Line
 line_of link conn ahead = record { held = link.held conn; left = link.left conn; ahead = ahead }
 
@@ -102,7 +102,7 @@ host_line name claims posts word =
     codes "host " ++ (name ++ (codes " claims " ++ (decimal claims ++ (codes " posted "
     ++ (decimal posts ++ (codes " " ++ (word ++ codes "\n")))))))
 
--- the line of a host that ended so
+-- the text is the line of a host that ended as `end`
 pub record IsHostLine (name : List ℕ) (claims posts : ℕ) (end : HostEnd) (text : List ℕ) : Type 0 where
   pub word : List ℕ
   pub called : end_word end ≡ Some word

@@ -44,7 +44,7 @@ listening_of address port patience until_input_ends = record {
   until_input_ends = until_input_ends;
 }
 
--- how a command ends whose serving ended so
+-- how a command ends whose serving had this end
 abbrev pub exit_of : ServeEnd → Exit
 exit_of end.Done = exit.Done
 exit_of end.DoorFault = exit.DoorFault

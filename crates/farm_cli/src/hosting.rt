@@ -195,7 +195,7 @@ fn caller_of(name: Name, wait: Option<u16>, lines: Text) -> Caller
     }
 }
 
-/// Writes the line of a host that ended so, or answers why there is none.
+/// Writes the line of a host that ended as `end`, or answers why there is none.
 fn tell<K: Sink>(
     alloc: Global,
     name: Name,

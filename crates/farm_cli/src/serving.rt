@@ -18,9 +18,9 @@ use std::alloc::Global;
 use std::sync::Wait;
 use std::thread::Threads;
 
-/// `farm serve`: serves the contest in the folder to at most so many connections that come where the door is to listen,
-/// at most `lanes` of them at the same time. A line is written for each connection, and behind them the board. The person is
-/// told what of the folder is skipped, and why it is no contest.
+/// `farm serve`: serves the contest in the folder to at most `connections` connections that come where the door is to
+/// listen, at most `lanes` of them at the same time. A line is written for each connection, and behind them the board.
+/// The person is told what of the folder is skipped, and why it is no contest.
 pub fn serve<R: Threads + Wait + Sync, T: Tree, K: Sink, C: Clock + Sync, D: Door, P: Person>(
     rt: &R,
     alloc: Global,
@@ -87,7 +87,7 @@ where
     exit_of(serve_contest(rt, alloc, roster, lanes, connections, clock, door, out))
 }
 
-/// How the program ends where the serving of a contest ends so.
+/// How the program ends where the serving of a contest ends as `end`.
 fn exit_of(end: ServeEnd) -> Exit
     ensures { result ≡ exit_of end }
 {

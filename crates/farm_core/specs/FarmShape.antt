@@ -18,12 +18,12 @@ AreShort problems = All (λ problem. problem.tests ≤ max_tests) problems
 
 -- Rejudgings
 
--- the member's submission is one of so many
+-- the member's submission is one of `submissions` submissions
 pub record HasSubmission (submissions : ℕ) (member : Member) : Type 0 where
   pub numbered : 1 ≤ member.submission
   pub within : member.submission ≤ submissions
 
--- the member's new judging is one of so many
+-- the member's new judging is one of `judgings` judgings
 pub record HasJudging (judgings : ℕ) (member : Member) : Type 0 where
   pub numbered : 1 ≤ member.new
   pub within : member.new ≤ judgings

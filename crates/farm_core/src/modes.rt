@@ -29,7 +29,7 @@ pub fn judged_mode(named: Option<ProblemMode>, other: Mode) -> Mode
     }
 }
 
-/// Whether judgings of such a problem are asked for from the start.
+/// Whether judgings of a problem that has a mode of its own, or none, are asked for from the start.
 pub fn is_asked_at_once(named: Option<ProblemMode>) -> bool
     ensures { result ≡ option_map_or is_asked_at_once named true }
 {

@@ -17,7 +17,7 @@ pub fn is_verified(details: &[JudgingDetails], judging: u32) -> bool
     }
 }
 
-/// The submission that the judging of this number is of. 0 where there is no such judging.
+/// The submission that the judging of this number is of. 0 where no judging has the number.
 pub fn owner_of(details: &[JudgingDetails], judging: u32) -> u32
     ensures { result ≡ owner_of details.now judging }
 {

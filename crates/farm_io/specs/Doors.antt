@@ -21,7 +21,7 @@ pub record DoorState (N : Type 0) : Type 0 where
 abbrev pub DoesListen : {N : Type 0} → DoorState N → Type 0
 DoesListen d = IsSome d.listens
 
--- the same door, which listens there
+-- the door d, which listens as `at` says
 abbrev pub listening_at : {N : Type 0} → DoorState N → Listening → DoorState N
 listening_at d at = record {
   coming = d.coming;
@@ -93,7 +93,7 @@ pub record HasCauseAccepted {N : Type 0} (before now : ℕ) (result : Accepted N
   pub later : before ≤ now
   pub failed : IsFailed result → Rose before now
 
--- the same of listening
+-- the count of faults never falls, and rises where the door cannot listen
 pub record HasCauseListening (before now : ℕ) (result : Result (Unit {0}) DoorErr) : Type 0 where
   pub later : before ≤ now
   pub failed : (e : DoorErr) → result ≡ Err e → Rose before now

@@ -64,7 +64,7 @@ pub trait Door {
         ensures fresh { IfConn result (λ c. IsFresh (Self.Conn.held c) (Self.Conn.Source.faults c) (Self.Conn.Sink.faults c)) }
         ensures cause { HasCauseAccepted (faults self.old) (faults self.new) result };
 
-    /// Asks the connection that was accepted behind so many others to close with its next response, and at once where
+    /// Asks the connection that was accepted behind `before` others to close with its next response, and at once where
     /// it says nothing. That is no more than a wish.
     fn ask_to_close(&mut self, before: u64)
         ensures kept { state self.new ≡ state self.old }

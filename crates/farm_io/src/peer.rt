@@ -4,7 +4,7 @@ use crate::streams::{Sink, Source};
 
 /// What a connection is told by its door, and how it ends for whoever is at its other end.
 pub trait Peer: Source + Sink {
-    /// Whether a door ever asks such connections to close.
+    /// Whether a door ever asks connections of this type to close.
     ghost asks: { Bool };
 
     /// Whether the door has asked it to close with its next response. Nothing is said of when it has.

@@ -5,7 +5,7 @@ ghost use Rattle.farm_io.specs.Beside.{Side};
 /// What [`Source::take`] did.
 #[derive(Clone, Copy, Debug, PartialEq, Eq)]
 pub enum Taken {
-    /// So many bytes were moved, at least one.
+    /// This number of bytes was moved, at least one.
     Bytes(usize),
     /// Nothing is left.
     End,

@@ -17,7 +17,7 @@ use std::{io, rt};
 /// For how long nobody is let in where the machine has no room for a connection.
 const PAUSE_MILLISECONDS: u64 = 20;
 
-/// A connection that was accepted behind so many others, and may not have ended.
+/// A connection that was accepted behind `before` others, and may not have ended.
 #[derive(Drop)]
 struct Open {
     before: u64,

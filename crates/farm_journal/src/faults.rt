@@ -23,7 +23,7 @@ pub(crate) fn open_fault(read: ReadFault) -> OpenFault
 pub enum AddFault {
     /// The disk failed at an earlier event: the journal has to be opened again.
     Spent,
-    /// The record would end here, past the limit. Nothing was written.
+    /// The record would end at the offset `end`, past the limit. Nothing was written.
     Full { end: u64 },
     /// The disk failed, and its count of faults rose. The event may be stored or not.
     Disk,

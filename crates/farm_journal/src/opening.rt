@@ -212,7 +212,7 @@ fn go_on_as<Y: Disk, P: Player>(
     }
 }
 
-/// Whether a crash of a first opening leaves such a file, of so many bytes.
+/// Whether the file, which has `len` bytes, is one that a crash of a first opening leaves.
 pub fn is_unborn<Y: Disk>(disk: &mut Y, len: u64) -> Result<bool, OpenFault>
     requires { IsTrue (Y.tells disk.old) → len ≡ length (Y.time disk.old).now.seen }
     ensures answer { IsTrue (Y.tells disk.old) → IfOk result (λ unborn. unborn ≡ is_unborn (Y.time disk.old).now.seen) }
@@ -285,7 +285,7 @@ pub(crate) fn open_file<Y: Disk, P: Player>(
     open_synced(alloc, disk, digest, farm, len)
 }
 
-/// Opens the file, of so many bytes, once all of it is on the disk.
+/// Opens the file, which has `len` bytes, once all of it is on the disk.
 fn open_synced<Y: Disk, P: Player>(
     alloc: Global,
     disk: &mut Y,

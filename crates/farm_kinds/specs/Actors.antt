@@ -3,7 +3,7 @@ use Rattle.std.specs.Prelude.{ℕ, List, Option, Some, None}
 use Rattle.farm_kinds.specs.declared.events.Event.{Event}
 use Rattle.farm_kinds.specs.declared.events.Event.TheVariants as event
 
--- who acts, where the event is the jury's: such an event is entered in the audit log where it is accepted
+-- who acts, where the event is the jury's: the jury's events are entered in the audit log where they are accepted
 abbrev pub jury_actor : Event → Option (List ℕ)
 jury_actor (event.Problem who name tests) = Some who
 jury_actor (event.Replace who name tests) = Some who

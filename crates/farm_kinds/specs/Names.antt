@@ -7,7 +7,7 @@ use Rattle.std.specs.List.{list_all}
 abbrev pub is_name_byte : ℕ → Bool
 is_name_byte b = is_ascii_alphanumeric b || b == 95 || b == 45
 
--- 1 to 32 such bytes
+-- 1 to 32 letters, digits, `_` and `-`
 abbrev pub is_name : List ℕ → Bool
 is_name word = nat_le 1 (length word) && nat_le (length word) 32 && list_all is_name_byte word
 

@@ -10,13 +10,13 @@ use crate::outcomes::{Answer, Class, How, Task};
 /// What a line, a host or a request asks of the farm.
 #[derive(Debug, Drop)]
 pub enum Event {
-    /// Someone adds a problem with this many tests.
+    /// Someone adds a problem with `tests` tests.
     Problem {
         who: Name,
         name: Name,
         tests: u32,
     },
-    /// Someone gives a problem this many tests, in a version of its own. Judgings that are there keep their
+    /// Someone gives a problem `tests` tests, in a version of its own. Judgings that are there keep their
     /// cells.
     Replace {
         who: Name,
@@ -37,7 +37,7 @@ pub enum Event {
     Claim {
         host: Name,
     },
-    /// A host asks for this many tasks of one judging at most, from 1 to 16. A number below 1 counts as 1, and one
+    /// A host asks for at most `most` tasks of one judging, from 1 to 16. A number below 1 counts as 1, and one
     /// over 16 as 16.
     Fetch {
         host: Name,
@@ -62,7 +62,7 @@ pub enum Event {
         judging: u32,
         test: u32,
     },
-    /// Time goes on to this moment, in seconds.
+    /// Time goes on to `moment`, in seconds.
     Tick {
         moment: u64,
     },
@@ -114,8 +114,8 @@ pub enum Event {
 }
 
 impl Event {
-    /// Who acts, where the event is the jury's. Such an event is entered in the audit log where it is
-    /// accepted, and no other event is.
+    /// Who acts, where the event is the jury's. The jury's events are entered in the audit log where they are
+    /// accepted, and no others.
     pub fn jury_actor(&self) -> Option<Name>
         ensures { result ≡ jury_actor self.now }
     {
@@ -137,7 +137,7 @@ impl Event {
 /// What an event is answered.
 #[derive(Debug, Drop)]
 pub enum Reply {
-    /// The problem is known, in this version.
+    /// The problem is known, in the version `version`.
     Problem {
         name: Name,
         version: u32,
@@ -146,17 +146,17 @@ pub enum Reply {
     Host {
         name: Name,
     },
-    /// The submission and its judging have these numbers.
+    /// The submission has the number `submission`, and its judging the number `judging`.
     Submitted {
         submission: u32,
         judging: u32,
     },
-    /// The host holds the task until this moment, in seconds.
+    /// The host holds the task until the moment `until`, in seconds.
     Handed {
         task: Task,
         until: u64,
     },
-    /// The host holds these tests of the judging until this moment, in seconds.
+    /// The host holds the tests `tests` of the judging until the moment `until`, in seconds.
     Batch {
         judging: u32,
         tests: Few,
@@ -166,28 +166,28 @@ pub enum Reply {
     Nothing,
     /// The result counts.
     Counted,
-    /// The cell holds this kind already.
+    /// The cell holds the kind `kept` already, which was given again.
     Repeat {
         kept: Kind,
     },
-    /// The cell holds another kind, which stays.
+    /// The cell holds the kind `kept`, which stays, and not the kind `given`.
     Differs {
         kept: Kind,
         given: Kind,
     },
     /// The judging was dropped, and takes no more results.
     Dropped,
-    /// The host holds the task, and the other tasks of its judging that it holds, until this moment, in seconds.
+    /// The host holds the task, and the other tasks of its judging that it holds, until the moment `until`, in seconds.
     Until {
         until: u64,
     },
-    /// So many leases ended.
+    /// `count` leases ended.
     Ended {
         count: u32,
     },
     /// What is reported of the judging.
     Shown(Answer),
-    /// The judging is of this submission.
+    /// The judging is of the submission `submission`.
     Owned {
         submission: u32,
     },
@@ -195,7 +195,7 @@ pub enum Reply {
     Board {
         rows: Answers,
     },
-    /// The rejudging has this number, and its judgings are numbered from `first` to `last`.
+    /// The rejudging has the number `number`, and its judgings are numbered from `first` to `last`.
     Rejudging {
         number: u32,
         first: u32,
@@ -206,11 +206,11 @@ pub enum Reply {
         rows: MatrixRows,
         members: u32,
     },
-    /// The judgings of so many members are the current ones now.
+    /// The new judgings of the rejudging's `members` members are the current ones now.
     Applied {
         members: u32,
     },
-    /// The judgings of so many members were dropped.
+    /// The new judgings of the rejudging's `members` members were dropped.
     Cancelled {
         members: u32,
     },
@@ -218,12 +218,12 @@ pub enum Reply {
     Verified {
         judging: u32,
     },
-    /// The audit log has so many entries, and this is its last digest.
+    /// The audit log has `count` entries, and `head` is its last digest.
     Audit {
         count: u32,
         head: [u8; 32],
     },
-    /// A problem has from 1 to 1,000 tests.
+    /// A problem has from 1 to 1,000 tests, and not `tests`.
     BadTests {
         tests: u32,
     },
@@ -239,11 +239,11 @@ pub enum Reply {
     NoHost {
         name: Name,
     },
-    /// There are as many as there may be.
+    /// There may be no more than `limit` of what would be added.
     Full {
         limit: u32,
     },
-    /// The host holds as many leases as it may.
+    /// The host holds as many leases as it may: `limit`.
     Holding {
         limit: u32,
     },
@@ -251,7 +251,7 @@ pub enum Reply {
     NoJudging {
         judging: u32,
     },
-    /// The judging has no test of this rank.
+    /// The judging has no test of the rank `test`.
     NoTest {
         test: u32,
     },
@@ -273,7 +273,7 @@ pub enum Reply {
     NotFinal {
         number: u32,
     },
-    /// The submission is in this rejudging, which is open.
+    /// The submission is in the rejudging `rejudging`, which is open.
     Busy {
         submission: u32,
         rejudging: u32,
@@ -282,11 +282,11 @@ pub enum Reply {
     NoRejudging {
         rejudging: u32,
     },
-    /// The rejudging is closed, in this way.
+    /// The rejudging is closed: `how` says in which way.
     Closed {
         how: How,
     },
-    /// This judging of the rejudging is not final.
+    /// The judging `judging` of the rejudging is not final.
     Unfinished {
         judging: u32,
     },

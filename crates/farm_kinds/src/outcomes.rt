@@ -89,9 +89,9 @@ pub enum Count {
     NoTest,
     /// The task was never handed out.
     NotHanded,
-    /// The test's cell holds this kind already, which the result repeats.
+    /// The test's cell holds the kind `kept` already, which the result repeats.
     Repeat { kept: Kind },
-    /// The test's cell holds another kind, which stays.
+    /// The test's cell holds the kind `kept`, which stays, and not the kind `given`.
     Differs { kept: Kind, given: Kind },
     /// The judging was dropped, and takes no more results.
     Dropped,
@@ -106,7 +106,7 @@ pub enum Claim {
     Holding,
     /// No task is open.
     Nothing,
-    /// The host holds the task until this moment, in seconds.
+    /// The host holds the task until the moment `until`, in seconds.
     Handed { task: Task, until: u64 },
 }
 
@@ -117,7 +117,7 @@ pub enum Fetched {
     Holding,
     /// No task is open.
     Nothing,
-    /// The host holds these tests of the judging until this moment, in seconds.
+    /// The host holds the tests `tests` of the judging until the moment `until`, in seconds.
     Batch {
         judging: u32,
         tests: Few,
@@ -134,7 +134,7 @@ pub enum Renewed {
     NoTest,
     /// The host holds no lease on the task.
     NoLease,
-    /// The host holds the task, and the other tasks of the judging that it holds, until this moment, in seconds.
+    /// The host holds the task, and the other tasks of the judging that it holds, until the moment `until`, in seconds.
     Until { until: u64 },
 }
 

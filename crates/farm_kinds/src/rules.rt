@@ -33,10 +33,10 @@ impl Model for Rule {
     ghost inverse = { λ v. record { prio = v.prios; remap = v.remaps } };
 }
 
-/// Why there is no such rule.
+/// Why there is no rule of these priorities.
 #[derive(Clone, Copy, Debug, PartialEq, Eq)]
 pub enum RuleFault {
-    /// This kind's priority is over 999.
+    /// The priority of `kind` is `value`, over 999.
     TooHigh { kind: Kind, value: u16 },
 }
 

@@ -222,7 +222,7 @@ answer_same Pending (Final w) h = absurd (let apart : true ≡ false = ap (begin
 answer_same (Final v) Pending h = absurd (let apart : false ≡ true = ap (begins 112 101 110) h in cc)
 answer_same (Final v) (Final w) h = ap (λ (x : Verdict). Final x) (verdict_same v w (ap (drop 6) h))
 
--- what is written for a `show` tells the answer, or that there is no such judging
+-- what is written for a `show` tells the answer, or that no judging has the number
 pub shown_told : (a b : Answer) → HasLine (reply.Shown a) (reply.Shown b) → a ≡ b
 shown_told a b h = let same : Some (join_with_byte 32 (shown_words a)) ≡ Some (join_with_byte 32 (shown_words b)) = sym (shown_line a) ∙ h in answer_same a b (inside _ _ same) where
   inside : (x y : List ℕ) → Some x ≡ Some y → x ≡ y

@@ -116,7 +116,7 @@ pub record HandsOutBatch (settings : SettingsValue) (s : State) (told : Reply �
   pub asked : is_asked s.judge.judgings judging ≡ true
   pub wanted : All (λ test. IsWantedCell settings (mode_in s judging) (row_in s judging) test) tests
 
--- The same of each test of a batch.
+-- Tests are handed out in a batch only of a judging that was asked for, while their cells are empty and still to be judged.
 abbrev pub FetchesWanted : SettingsValue → List Event → (Reply → Type 0) → Type 0
 FetchesWanted settings es told = (judging : ℕ) (tests : List ℕ) (until : ℕ) → told (reply.Batch judging tests until) →
     HandsOutBatch settings (reached settings es) told
@@ -205,7 +205,7 @@ pub record ReplyKeepsPromise (settings : SettingsValue) (es : List Event) (e : E
   pub cancel_changes_none : CancelChangesNone settings es e new
   pub only_apply_moves : OnlyApplyMoves settings es e new told
 
--- the same of a step with this new state and this reply
+-- what `ReplyKeepsPromise` says of a step to the state `new` with the reply r
 abbrev pub StepKeepsPromise : SettingsValue → List Event → Event → State → Reply → Type 0
 StepKeepsPromise settings es e new r = ReplyKeepsPromise settings es e new (λ x. r ≡ x)
 

@@ -1,3 +1,4 @@
+//! Laws, for the proof alone: each function has an empty body, and its contract is the law.
 ghost use Rattle.std.specs.Prelude.{ℕ, List};
 ghost use Rattle.farm_kinds.specs.declared.events.Event.{Event};
 ghost use Rattle.farm_model.specs.State.{SettingsValue};

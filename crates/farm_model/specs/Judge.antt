@@ -85,7 +85,8 @@ judge_claim s host = refused_or s (claim_refusal s.leases host) (claimed s host 
 abbrev pub open_of : JudgeState → ℕ → List Task
 open_of s j = unwrap_or (option_map (λ judging. open_in s.rule s.leases (j, judging)) (item_of s.judgings j)) []
 
--- how many tasks a host that holds so many is given at most: what it asks for, from 1 to 16, and at most 64 in all
+-- how many tasks a host that holds `held` tasks is given at most: the `most` that it asks for, from 1 to 16, and at most 64 in
+-- all
 abbrev pub batch_size : ℕ → ℕ → ℕ
 batch_size most held = min (min (max most 1) max_batch) (max_held - held)
 
@@ -100,7 +101,7 @@ hand_out_all s host tasks = fold (λ state task. hand_out state host task) s tas
 abbrev pub handed_batch : JudgeState → ℕ → ℕ → List Task → JudgeState × Fetched
 handed_batch s host j tasks = (hand_out_all s host tasks, fetch.Batch j (ranks_of tasks) (lease_end s))
 
--- the task, where there is one, and the next open ones of its judging are handed out, so many in all
+-- the task, where there is one, and the next open ones of its judging are handed out, at most `size` in all
 abbrev pub batch_from : JudgeState → ℕ → ℕ → Option Task → JudgeState × Fetched
 batch_from s host size None = (s, fetch.Nothing)
 batch_from s host size (Some task) = handed_batch s host task.judging (take size (open_of s task.judging))

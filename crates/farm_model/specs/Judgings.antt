@@ -25,7 +25,7 @@ pub record Judging : Type 0 where
   -- whether it takes no more results
   pub dropped : Bool
 
--- a judging of so many tests, none of which was handed out or judged
+-- a judging of `tests` tests, none of which was handed out or judged
 abbrev pub empty_judging : Class → ℕ → Mode → Bool → Judging
 empty_judging class tests mode asked = record {
   class = class;

@@ -50,7 +50,7 @@ prepared rejudgings list olds first =
 abbrev pub members_of : List Rejudging → ℕ → Option (List Member)
 members_of rejudgings number = option_map (λ r. r.members) (item_of rejudgings number)
 
--- the members of the rejudging of this number; none where there is no such rejudging
+-- the members of the rejudging of this number; none where no rejudging has it
 abbrev pub members_in : List Rejudging → ℕ → List Member
 members_in rejudgings number = unwrap_or (members_of rejudgings number) []
 
@@ -94,11 +94,11 @@ is_busy busy rejudgings submission = option_map (busy submission) (busy_with rej
 abbrev pub busy_refusal : {R : Type 0} → (ℕ → ℕ → R) → List Rejudging → List ℕ → Option R
 busy_refusal busy rejudgings list = first_of (map (is_busy busy rejudgings) list)
 
--- there is no such rejudging
+-- no rejudging has the number
 abbrev pub absent_refusal : {R : Type 0} → R → List Rejudging → ℕ → Option R
 absent_refusal absent rejudgings number = unless (is_some (item_of rejudgings number)) absent
 
--- there is no such rejudging, or it is closed
+-- no rejudging has the number, or the one that has it is closed
 abbrev pub closing_refusal : {R : Type 0} → R → (How → R) → List Rejudging → ℕ → Option R
 closing_refusal absent done rejudgings number = first_of (
     absent_refusal absent rejudgings number

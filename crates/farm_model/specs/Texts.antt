@@ -155,7 +155,7 @@ reply_words (reply.NoRejudging r) = codes "no-rejudging" ∷ decimal r ∷ []
 reply_words (reply.Closed h) = codes "closed" ∷ how_text h ∷ []
 reply_words (reply.Unfinished j) = codes "unfinished" ∷ decimal j ∷ []
 reply_words (reply.Already j) = codes "already" ∷ decimal j ∷ []
--- no line is answered so
+-- no line is answered with it
 reply_words reply.NoMemory = []
 
 -- a line for each answer, behind the number of its submission

@@ -1,3 +1,4 @@
+//! A computed example, for the proof alone: the function has an empty body, and the check computes its contract.
 ghost use Rattle.std.specs.Prelude.{◌≡◌, [], ◌∷◌, Some, None, true, false};
 ghost use Rattle.farm_model.specs.Judgings.{task_of};
 ghost use Rattle.farm_model.specs.Leases.{is_held_by, held_count, with_lease, without_task, without_host, renewed, renewed_of, ended_at, left_after, first_due};

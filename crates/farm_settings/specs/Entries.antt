@@ -25,7 +25,7 @@ IsReading told (Ok a) = told ≡ Ok a
 IsReading told (Err (Bad fault)) = told ≡ Err fault
 IsReading told (Err NoMemory) = ⊤
 
--- the same where what was told is there now
+-- what was told is there now, or its fault was answered
 abbrev pub IsSet : {A : Type 0} → Result A SettingsFault → A → Result (Unit {0}) SettingsErr → Type 0
 IsSet told now (Ok done) = told ≡ Ok now
 IsSet told now (Err (Bad fault)) = told ≡ Err fault

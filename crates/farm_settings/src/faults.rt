@@ -12,7 +12,7 @@ pub enum SettingsFault {
     NotJson,
     /// No setting has this key, or within the object of a setting no kind has this name.
     UnknownKey { key: Text },
-    /// The value at this key is none that the setting takes.
+    /// The value at `key` is none that the setting takes.
     BadValue { key: Text },
 }
 

@@ -102,7 +102,7 @@ fn prios_in(rule: &Rule) -> [u16; 8]
     ]
 }
 
-/// The priorities of the kinds in their order, with this one for `kind`.
+/// The priorities of the kinds in their order, where that of this kind is `prio`.
 fn prios_with(rule: &Rule, kind: Kind, prio: u16) -> [u16; 8]
     requires { prio ≤ 999 }
     ensures value { result ≡ map (λ k. if same_kind k kind then prio else prio_of rule.now k) every_kind }
@@ -133,7 +133,7 @@ fn prio_or(rule: &Rule, kind: Kind, prio: u16, of: Kind) -> u16
     }
 }
 
-/// What the kinds count as, in their order, where this one counts as the target.
+/// What the kinds count as, in their order, where this kind counts as `target`.
 fn remaps_with(rule: &Rule, kind: Kind, target: Kind) -> [Kind; 8]
     ensures { result ≡ map (λ k. if same_kind k kind then target else remap_of rule.now k) every_kind }
 {

@@ -1,3 +1,4 @@
+//! Computed examples, for the proof alone: each function has an empty body, and the check computes its contract.
 ghost use Rattle.std.specs.Prelude.{◌≡◌, [], ◌∷◌, Some, None, Ok, Err, codes, true, false};
 ghost use Rattle.serde_json.specs.Data.{null, boolean, number, string, object, unsigned, negative, member, no_members};
 ghost use Rattle.farm_kinds.specs.declared.outcomes.Mode.TheVariants.{Lazy, Full};

@@ -137,13 +137,13 @@ fn put_change(alloc: Global, files: &mut TreeFiles, change: &str) -> Result<(), 
     Ok(())
 }
 
-/// Adds a file with the text that is written so.
+/// Adds a file with the text, in which line feeds and carriage returns are written otherwise.
 fn put_text(alloc: Global, files: &mut TreeFiles, path: &str, text: &str) -> Result<(), Fail> {
     let text = text.replace(alloc, '~', "\n")?;
     put_lines(alloc, files, path, text.as_str())
 }
 
-/// The same where only carriage returns are written otherwise.
+/// Adds a file with the text, in which only carriage returns are written otherwise.
 fn put_lines(alloc: Global, files: &mut TreeFiles, path: &str, text: &str) -> Result<(), Fail> {
     let text = text.replace(alloc, '^', "\r")?;
     put(alloc, files, path, text.as_str().as_bytes())
@@ -343,7 +343,7 @@ fn check_cases(rt: &impl Abort, alloc: Global, roster: &Roster) -> Result<(), Fa
     Ok(())
 }
 
-/// The same of what is read of the files.
+/// Compares the cases of the contest that is read of the files.
 fn check_cases_of(rt: &impl Abort, alloc: Global, files: TreeFiles) -> Result<(), Fail> {
     match read_contest(alloc, &mut ReliableTree::new(alloc, files), "c") {
         Ok(roster) => check_cases(rt, alloc, &roster),
@@ -445,7 +445,7 @@ impl Tree for Heavy {
     }
 }
 
-/// Appends so many submissions of one file to a list.
+/// Appends `count` submissions of one file to a list.
 fn push_submissions(alloc: Global, list: &mut String, count: u32, file: &str) -> Result<(), Fail> {
     for number in 1..=count {
         push_line(alloc, list, number, file)?;
@@ -458,14 +458,14 @@ fn push_line(alloc: Global, list: &mut String, number: u32, file: &str) -> Resul
     Ok(list.push_str(line.as_str())?)
 }
 
-/// The list of so many submissions of one file.
+/// The list of `count` submissions of one file.
 fn list_of(alloc: Global, count: u32, file: &str) -> Result<String, Fail> {
     let mut list = String::new(alloc);
     push_submissions(alloc, &mut list, count, file)?;
     Ok(list)
 }
 
-/// The files with so many submissions of one file.
+/// The files with `count` submissions of one file.
 fn with_submissions(alloc: Global, count: u32, file: &str) -> Result<TreeFiles, Fail> {
     let list = list_of(alloc, count, file)?;
     with_file(alloc, "c/submissions.txt", list.as_str().as_bytes())
@@ -491,7 +491,7 @@ fn check_heavy(rt: &impl Abort, alloc: Global, count: u32, expected: &str) -> Re
     Ok(())
 }
 
-/// So many submissions of one file, each of 16 MiB, behind 23 bytes in test files.
+/// Submissions of one file, each of 16 MiB, behind 23 bytes in test files.
 #[test]
 fn a_contest_has_at_most_1_gibibyte(rt: HostRuntime) -> Result<(), Fail> {
     check_heavy(&rt, rt.alloc(), 63, "63 submissions")?;
@@ -511,7 +511,7 @@ fn a_contest_has_at_most_100000_submissions(rt: HostRuntime) -> Result<(), Fail>
     check_many(&rt, rt.alloc(), 100_001, "too many submissions 100001")
 }
 
-/// Adds folders of so many more problems, with one file each that is not read.
+/// Adds the folders of `count` more problems, with one file each that is not read.
 fn put_problems(alloc: Global, files: &mut TreeFiles, count: u32) -> Result<(), Fail> {
     for number in 1..=count {
         put_problem(alloc, files, number)?;
@@ -524,7 +524,7 @@ fn put_problem(alloc: Global, files: &mut TreeFiles, number: u32) -> Result<(), 
     put(alloc, files, path.as_str(), b"")
 }
 
-/// The files with so many more problems.
+/// The files with `count` more problems.
 fn with_problems(alloc: Global, count: u32) -> Result<TreeFiles, Fail> {
     let mut files = changed(alloc, "")?;
     put_problems(alloc, &mut files, count)?;

@@ -33,7 +33,7 @@ is_look_entry (entry.Call call) = is_look call.event
 is_look_entry (entry.Split number new) = false
 is_look_entry (entry.Join number old) = false
 
--- all entries are calls of such events
+-- all entries are calls of events that only look
 abbrev pub are_looks : List HistoryEntry → Bool
 are_looks [] = true
 are_looks (e ∷ es) = is_look_entry e && are_looks es

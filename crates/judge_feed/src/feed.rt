@@ -30,7 +30,7 @@ impl<A: Admission, J: Naming> Model for Feed<A, J> {
     ghost invariant = { λ f. KeepsFeed J.board J.start J.number f.publisher f.pass };
 }
 
-/// Publishes what the public sees now.
+/// Publishes what the public sees now. For the proof alone: a function of its own, which is lent the parts of the feed.
 fn refresh_by<W: Wait, A: Admission, J: Naming>(
     rt: &W,
     alloc: Global,
@@ -55,7 +55,8 @@ fn refresh_by<W: Wait, A: Admission, J: Naming>(
     }
 }
 
-/// Publishes what the public sees now, unless the judging is pending.
+/// Publishes what the public sees now, unless the judging is pending. For the proof alone: a function of its own,
+/// which is lent the parts of the feed.
 fn follow_by<W: Wait, A: Admission, J: Naming>(
     rt: &W,
     alloc: Global,
@@ -79,8 +80,8 @@ fn follow_by<W: Wait, A: Admission, J: Naming>(
 }
 
 impl<A: Admission, J: Naming> Feed<A, J> {
-    /// A feed that has published what the public sees now, and so many readers, each of which was told of it. Where no
-    /// memory is left the pass comes back. It makes one call on the pass.
+    /// A feed that has published what the public sees now, and `readers` readers, each of which was told of it. Where
+    /// no memory is left the pass comes back. `open` makes one call on the pass.
     pub fn open<W: Wait>(
         rt: &W,
         alloc: Global,

@@ -75,7 +75,7 @@ impl Model for Cells {
 }
 
 impl Cells {
-    /// So many empty cells.
+    /// `count` empty cells.
     pub fn new(alloc: Global, count: u16) -> Result<Cells, NoMemory>
         ensures { IfOk result (λ cells. cells ≡ replicate count None) }
     {

@@ -1,3 +1,4 @@
+//! Laws, for the proof alone: each function has an empty body, and its contract is the law.
 ghost use Rattle.std.specs.Prelude.{IsTrue, ◌≡◌, ◌≢◌, ◌↔◌, ◌+◌, ℕ, List, [], ◌∷◌, Some, None, slice_get, slice_set};
 ghost use Rattle.std.specs.List.{Contains};
 ghost use Rattle.farm_kinds.specs.RuleValue.{RuleValue};
@@ -96,7 +97,8 @@ pub fn final_is_the_full_answer()
         → answer_of rule Full later ≡ Final (Tests v) }
 {}
 
-/// What a kind counts as is possible: the condition of [`crate::Row::put`] for a remapped kind.
+/// What a kind counts as is possible: the condition of [`crate::Row::put`] for a remapped kind. A call does nothing
+/// but tell the proof so.
 pub fn remapped_is_possible(rule: &Rule, kind: Kind)
     ensures { IsPossible rule.now (remap_of rule.now kind) }
 {}

@@ -14,7 +14,7 @@ book_value a = record { leases = a.held.leases; spare = a.spare }
 pub record AreSame (xs ys : List Lease) : Type 0 where
   pub count : (p : Lease → Bool) → count_by p xs ≡ count_by p ys
 
--- the tree has these leases in this order, and room for so many more
+-- the tree has these leases in this order, and room for `spare` more
 pub record IsIndex (by : Order) (leases : List Lease) (spare : ℕ) (tree : OrderedLeases) : Type 0 where
   pub order : tree.order ≡ by
   pub same : AreSame leases tree.leases

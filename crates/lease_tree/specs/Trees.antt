@@ -13,13 +13,13 @@ IsSized Leaf = Unit {0}
 IsSized (Fork' p lease size left right) =
     (size ≡ min (length (leases_of left) + length (leases_of right) + 1) (2 ^ 32 - 1)) × IsSized left × IsSized right
 
--- two sides with so many leases: none is more than three times as heavy as the other, where a side weighs one more
--- than its leases
+-- of two sides with `left` and `right` leases none is more than three times as heavy as the other, where a side weighs one
+-- more than its leases
 pub record IsEven (left right : ℕ) : Type 0 where
   pub left_light : left + 1 ≤ 3 * (right + 1)
   pub right_light : right + 1 ≤ 3 * (left + 1)
 
--- the same, but for one lease more or less on one side
+-- two sides with `left` and `right` leases are even, but for one lease more or less on one side
 pub record IsNearlyEven (left right : ℕ) : Type 0 where
   pub left_light : left + 1 ≤ 3 * (right + 1) + 3
   pub right_light : right + 1 ≤ 3 * (left + 1) + 3
@@ -34,7 +34,7 @@ IsBalanced Leaf = Unit {0}
 IsBalanced (Fork' p lease size left right) =
     IsEven (length (leases_of left)) (length (leases_of right)) × IsBalanced left × IsBalanced right
 
--- the same, but for one lease more or less on one side of the root
+-- the tree is balanced, but for one lease more or less on one side of the root
 abbrev pub IsNearlyBalanced : Tree → Type 0
 IsNearlyBalanced Leaf = Unit {0}
 IsNearlyBalanced (Fork' p lease size left right) =

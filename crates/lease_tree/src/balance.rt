@@ -35,7 +35,8 @@ fn rotate_left(left: Tree, node: Box<Node>, right: Tree) -> Tree
     join(join(left, node, before), middle, join(after, root, outer))
 }
 
-/// The same for a left side that is too heavy.
+/// A tree whose left side is not too heavy any more: the left tree's root comes up, or where the inner
+/// side of that tree is the heavy one, that side's root.
 fn rotate_right(left: Tree, node: Box<Node>, right: Tree) -> Tree
     ensures leases { leases_of result ≡ leases_of left ++ node.value.lease ∷ leases_of right }
     ensures sized { IsSized left → IsSized right → IsSized result }
@@ -58,7 +59,7 @@ fn rotate_right(left: Tree, node: Box<Node>, right: Tree) -> Tree
 }
 
 /// A tree of the leases on the left, of the node and of those on the right, of which no side is more than
-/// three times as heavy as the other, where each side is such a tree and one of them was changed by one
+/// three times as heavy as the other, where each side is balanced so and one of them was changed by one
 /// lease.
 pub fn balance(left: Tree, node: Box<Node>, right: Tree) -> Tree
     ensures leases { leases_of result ≡ leases_of left ++ node.value.lease ∷ leases_of right }
@@ -74,14 +75,14 @@ pub fn balance(left: Tree, node: Box<Node>, right: Tree) -> Tree
     join(left, node, right)
 }
 
-/// Whether this side is more than three times as heavy as the other one, where the tree has so many leases.
+/// Whether this side is more than three times as heavy as the other one, where the tree has `size` leases.
 pub fn is_heavy(side: &Tree, size: u32) -> bool
     ensures { IsSized side.now → result ≡ nat_lt (3 * (size + 1)) (4 * (min (length (leases_of side.now)) (2 ^ 32 - 1) + 1)) }
 {
     3 * (size as u64 + 1) < 4 * weight(side)
 }
 
-/// Whether the other side is more than three times as heavy as this one, where the tree has so many leases.
+/// Whether the other side is more than three times as heavy as this one, where the tree has `size` leases.
 pub fn is_light(side: &Tree, size: u32) -> bool
     ensures { IsSized side.now → result ≡ nat_lt (4 * (min (length (leases_of side.now)) (2 ^ 32 - 1) + 1)) (size + 1) }
 {

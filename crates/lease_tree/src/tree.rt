@@ -182,7 +182,7 @@ impl LeaseTree {
     }
 }
 
-/// Fills the pool up to that many nodes.
+/// Fills the pool up to `wanted` nodes.
 fn fill(alloc: Global, pool: &mut Vec<Box<Node>>, wanted: usize) -> Result<(), NoMemory>
     requires few { vec_len pool.old ≤ wanted }
     requires room { wanted ≤ vec_capacity pool.old }

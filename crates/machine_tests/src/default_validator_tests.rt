@@ -31,7 +31,7 @@ fn name_of(set: bool) -> &'static str {
     if set { "yes" } else { "no" }
 }
 
-/// Whether a tolerance is so much.
+/// Whether a tolerance is the number `wanted`, or there is none where that is `-`.
 fn is_amount(amount: Option<i128>, wanted: &str) -> bool {
     match (amount, wanted.parse::<u64>()) {
         (Some(amount), Ok(wanted)) => amount == wanted as i128,
@@ -51,7 +51,7 @@ fn is_read(read: Result<Flags, FlagFault>, wanted: &str) -> bool {
     word(wanted, 0) == what && number(wanted, 1) as usize == place as usize
 }
 
-/// Whether the flags are so.
+/// Whether the flags are as `wanted`.
 fn are_flags(flags: &Flags, wanted: &str) -> bool {
     word(wanted, 0) == name_of(flags.case)
         && word(wanted, 1) == name_of(flags.space)
@@ -104,7 +104,7 @@ const NUMBERS: &str = concat!(
     "case_sensitive float_tolerance 0|1e5|1E5 => accepted\n",
 );
 
-/// The same of white space and case.
+/// Flags, an answer and an output, written as in `NUMBERS`, and what the validator says: white space and case.
 const SPACES: &str = concat!(
     "|a b~|a  b => accepted\n",
     "|a b~|a b => accepted\n",

@@ -294,7 +294,7 @@ fn words_of(program: &str) -> &'static [u32] {
     }
 }
 
-/// The same of the longer ones.
+/// The words of a program that is longer.
 fn long_words_of(program: &str) -> &'static [u32] {
     match program {
         "echo" => ECHO.as_slice(),
@@ -360,7 +360,7 @@ fn name_of(trap: Trap) -> &'static str {
     }
 }
 
-/// Whether a program ends so.
+/// Whether the ending of a program is as `wanted`.
 fn is_ending(ending: Ending, wanted: &str) -> bool {
     let (what, trap) = match ending {
         Ending::Exit(code) => return word(wanted, 0) == "exit" && number(wanted, 1) == code,
@@ -372,7 +372,7 @@ fn is_ending(ending: Ending, wanted: &str) -> bool {
     word(wanted, 0) == what && word(wanted, 1) == trap
 }
 
-/// Whether the machine ends so, at this cost and with so many pages.
+/// Whether the machine ends with the ending, the cost and the number of pages that `wanted` says.
 fn ends(machine: &mut Machine<'_>, wanted: &str) -> bool {
     let Ok(ending) = machine.run() else {
         return false;

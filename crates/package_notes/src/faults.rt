@@ -101,7 +101,7 @@ fn wide_text(alloc: Global, name: &Text, at: usize) -> Result<String, AllocError
     format!(in alloc; "data/{name}.ans: {text}")
 }
 
-/// What is wrong with a file of so many bytes, which are too many.
+/// What is wrong with a file of `len` bytes, which are too many.
 pub fn large_text(alloc: Global, name: &Text, len: u64) -> Result<String, AllocError> {
     let name = shown(alloc, name)?;
     format!(in alloc; "{name}: the file has {len} bytes, and at most 16777216 are read")

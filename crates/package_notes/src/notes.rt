@@ -7,9 +7,9 @@ pub enum Note {
     YamlKey { line: u32, key: Text },
     /// A key under `limits` that is not read, and the number of its line from 1.
     LimitKey { line: u32, key: Text },
-    /// So many MiB of memory, which are cut down to 256.
+    /// A memory of `said` MiB, which is cut down to 256.
     Memory { said: u32 },
-    /// So many MiB of output, which are cut down to 64.
+    /// An output of `said` MiB, which is cut down to 64.
     Output { said: u32 },
     /// A key of `domjudge-problem.ini` that is not read, and the number of its line from 1.
     IniKey { line: u32, key: Text },

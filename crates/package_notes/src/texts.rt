@@ -54,7 +54,7 @@ fn skipped_limit(alloc: Global, line: u32, key: &Text) -> Result<String, AllocEr
     format!(in alloc; "problem.yaml line {line}: limits: {key} is not read")
 }
 
-/// That a limit of so many MiB is cut down to the most that there is.
+/// That a limit of `said` MiB is cut down to `most`, the most that there is.
 fn cut_down(alloc: Global, limit: &str, said: u32, most: u32) -> Result<String, AllocError> {
     format!(in alloc;
         "problem.yaml: {limit} of {said} MiB is cut down to {most}, the most that there is"

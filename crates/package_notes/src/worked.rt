@@ -1,3 +1,4 @@
+//! Computed examples, for the proof alone: each function has an empty body, and the check computes its contract.
 ghost use Rattle.std.specs.Prelude.{◌≡◌, [], ◌∷◌, Some, None, codes};
 ghost use Rattle.package_notes.specs.Files.{file_notes, folder_notes};
 ghost use Rattle.package_notes.specs.Notes.{ini_notes_in, yaml_notes};

@@ -55,7 +55,7 @@ pub(crate) fn name_below<'a>(lines: &Lines<'a>) -> Result<Scalar<'a>, BadLine>
     }
 }
 
-/// The fault of the indented lines in front, of which none is indented less than so much.
+/// The first fault of the indented lines in front: a tab, or an indentation of less than `depth`.
 fn shallow_below(depth: usize, lines: &Lines) -> Option<BadLine>
     ensures { result ≡ shallow_in depth (below (lines_at lines.now)) }
 {
@@ -109,7 +109,7 @@ pub(crate) fn sizes_below(lines: &Lines) -> Result<Sizes, BadLine>
     block(indent_of(first.text), lines)
 }
 
-/// The sizes of a block whose lines are indented so much.
+/// The sizes of a block whose lines are indented by `depth`.
 #[tactic(auto, using(crate::proofs::EntryLemmas::block_step, crate::proofs::EntryLemmas::block_stop))]
 fn block(depth: usize, lines: &Lines) -> Result<Sizes, BadLine>
     ensures value { result ≡ block_from depth no_sizes (entries is_deeper (below (lines_at lines.now))) }

@@ -108,7 +108,7 @@ fn milliseconds(value: &[u8]) -> Option<u32>
     Some(ms)
 }
 
-/// The limit once a line is read, where it was so much before.
+/// The limit in milliseconds once the line is read, where it was `ms` before.
 fn with_setting(line: &Line, ms: u32) -> Result<u32, IniFault>
     requires some { 1 ≤ ms }
     requires most { ms ≤ 1000000 }

@@ -4,7 +4,7 @@ ghost use Rattle.problem_settings.specs.MachineLimits.{limits_of};
 use crate::yaml::Yaml;
 use farm_kinds::Limits;
 
-/// The limits of a run of the problem, whose time limit is so many milliseconds, where a second stands for `ips`
+/// The limits of a run of the problem, whose time limit is `ms` milliseconds, where a second stands for `ips`
 /// instructions: instructions are rounded down, and a MiB is 256 pages.
 pub fn limits(yaml: &Yaml, ms: u32, ips: u32) -> Limits
     requires memory { yaml.now.memory ≤ 256 }

@@ -41,7 +41,7 @@ pub struct SkippedKey {
 }
 
 /// The keys of `problem.yaml` that are not read, in the order of their lines: those that no rule of this part of the
-/// format names, also under `limits`. The lines that belong to such a key are skipped with it.
+/// format names, also under `limits`. The lines that belong to a skipped key are skipped with it.
 #[tactic(auto, unfolding(crate::specs::Skipped::yaml_skipped))]
 pub fn yaml_skipped(alloc: Global, bytes: &[u8]) -> Result<Vec<SkippedKey>, NoMemory>
     requires { length bytes.now ≤ 16777216 }

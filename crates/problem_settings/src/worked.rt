@@ -1,3 +1,4 @@
+//! Computed examples, for the proof alone: each function has an empty body, and the check computes its contract.
 ghost use Rattle.std.specs.Prelude.{◌≡◌, [], Ok, Err, codes};
 ghost use Rattle.problem_settings.specs.declared.ini.IniFault.TheVariants.{BadLimit};
 ghost use Rattle.problem_settings.specs.declared.yaml.Validation.TheVariants.{Default, Custom};

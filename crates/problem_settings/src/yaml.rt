@@ -41,7 +41,7 @@ pub enum YamlWhy {
     BadEscape,
     /// The value has a form of YAML that is not read, or bytes behind its closing quote.
     Form,
-    /// The key takes no such value.
+    /// The value is none that the key takes.
     BadValue,
     /// The problem is interactive.
     Interactive,

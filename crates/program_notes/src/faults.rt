@@ -16,15 +16,15 @@ const LIMIT: usize = 1_048_576;
 /// Why the bytes of a file are no program: the first fault in this order.
 #[derive(Clone, Copy, Debug, PartialEq, Eq)]
 pub enum ProgramFault {
-    /// They are so many, which are more than 1 MiB.
+    /// There are this many bytes, more than 1 MiB.
     Size(u64),
-    /// They begin as an ELF file, which has this fault.
+    /// The bytes begin as an ELF file, which has this fault.
     Elf(ElfFault),
-    /// There are none.
+    /// There are no bytes.
     Empty,
-    /// They are a text, such as a source.
+    /// The bytes are a text, such as a source.
     Source,
-    /// They are so many, which is no multiple of 4.
+    /// There are this many bytes, which is no multiple of 4.
     Length(u64),
 }
 

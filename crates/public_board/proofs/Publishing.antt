@@ -26,7 +26,7 @@ pub replicate_snoc : {A : Type 0} (n : ℕ) (x : A) → replicate (suc n) x ≡ 
 replicate_snoc zero x = refl
 replicate_snoc (suc n) x = ap (λ xs. x ∷ xs) (replicate_snoc n x)
 
--- one more of the same
+-- n times x and one more x is n + 1 times x
 pub one_more : {A : Type 0} (n m : ℕ) (xs : List A) (x y : A) → xs ≡ replicate n x → y ≡ x → m ≡ n + 1 → xs ++ y ∷ [] ≡ replicate m x
 one_more n m xs x y all same more =
     let s : m ≡ suc n = omega arith in
@@ -39,7 +39,7 @@ published_last old new rows done =
     (λ (t : (rows ≢ last_of old) × (new ≡ old ++ rows ∷ [])). ap last_of t.1 ∙ last_snoc old rows)
     done
 
--- the last of several that are the same
+-- of n times r the last is r, and those before it are n - 1 times r
 last_same : {A : Type 0} (n : ℕ) (r x : A) (ys : List A) → replicate n r ≡ ys ++ x ∷ [] → (x ≡ r) × (ys ≡ replicate (n - 1) r)
 last_same zero r x [] e = absurd (cc e)
 last_same zero r x (y ∷ ys) e = absurd (cc e)

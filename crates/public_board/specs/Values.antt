@@ -22,7 +22,7 @@ module _ {R : Type 0} where
 
 -- Reading
 
--- a reader: it has seen these versions, and was told that there are so many
+-- a reader: it has seen the versions `seen`, and was told that there are `told` of them
 pub record ReaderValue (R : Type 0) : Type 0 where
   pub seen : List (List R)
   -- the versions that there were when the reader was made
@@ -72,7 +72,7 @@ GivesNewer allows old new known None = Gives allows old new (last_of new.seen) �
 GivesNewer allows old new known (Some version) =
     Gives allows old new version.rows.items × (version.number ≡ length new.seen)
 
--- the row stands at this place in such rows
+-- the row stands at the place `at` in the rows that are given
 pub record GivesRow {R : Type 0} (allows : List (List R) → Type 0) (old new : ReaderValue R) (at : ℕ) (row : R) : Type 0 where
   pub rows : List R
   pub gives : Gives allows old new rows

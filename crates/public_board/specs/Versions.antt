@@ -27,7 +27,7 @@ module _ {R : Type 0} where
   abbrev pub informed : View R → View R → View R
   informed v w = record { seen = v.seen; told = longer v.told w.seen; least = max v.least w.least }
 
--- what a view knows is so
+-- what the view v knows of the versions is so
 pub record Fits {R : Type 0} (versions : List (List R)) (v : View R) : Type 0 where
   pub seen : IsPrefix v.seen versions
   pub told : IsPrefix v.told versions

@@ -69,7 +69,7 @@ fn publish_rows<R: Row, J: Publication<R>, W: Wait>(
     }
 }
 
-/// No rows, with room for so many.
+/// No rows, with room for `room` rows.
 fn no_rows<R: Row>(alloc: Global, room: usize) -> Result<Rows<R>, NoMemory>
     ensures { IfOk result (λ rows. (rows.rows.items ≡ []) × (rows.count ≡ 0) × (rows.room ≡ room)) }
 {
@@ -81,7 +81,7 @@ fn no_rows<R: Row>(alloc: Global, room: usize) -> Result<Rows<R>, NoMemory>
     })
 }
 
-/// A writer that has published nothing, with room for so many rows and readers.
+/// A writer that has published nothing, with room for `room` rows and `readers` readers.
 fn new_writer<R: Row, J: Publication<R>>(
     alloc: Global,
     room: usize,
@@ -119,7 +119,7 @@ fn new_reader<R: Row, J: Publication<R>>(
     })
 }
 
-/// So many readers that know what was published.
+/// As many readers as `readers` says, which know what was published.
 fn new_readers<R: Row, J: Publication<R>>(
     alloc: Global,
     writer: &mut RowsWriter<R, J>,
@@ -141,8 +141,8 @@ fn new_readers<R: Row, J: Publication<R>>(
     Ok(Readers { readers: all })
 }
 
-/// A publisher of these rows, and so many readers, each of which was told of them. There is room for `most` rows, or for
-/// these where they are more; a version of more rows is answered `NoMemory` later.
+/// A publisher of the rows `first`, and `readers` readers, each of which was told of them. There is room for `most`
+/// rows, or for `first` where it has more; a version of more rows is answered `NoMemory` later.
 pub fn open<R: Row, J: Publication<R>, W: Wait>(
     rt: &W,
     alloc: Global,

@@ -18,7 +18,7 @@ pub struct Version<R> {
     pub rows: Vec<R>,
 }
 
-/// The rows of the last version, where there are at least so many versions.
+/// The rows of the last version, where there are at least `told` versions.
 fn read_rows<R: Row, J: Publication<R>>(
     alloc: Global,
     reader: RowsReader<R, J>,
@@ -41,7 +41,7 @@ fn read_rows<R: Row, J: Publication<R>>(
     }
 }
 
-/// The last version, where there are at least so many, or none where its number is the one that is known.
+/// The last version, where there are at least `told` versions, or none where its number is `known`.
 fn read_newer<R: Row, J: Publication<R>>(
     alloc: Global,
     reader: RowsReader<R, J>,
@@ -71,7 +71,7 @@ fn read_newer<R: Row, J: Publication<R>>(
     }
 }
 
-/// One row of the last version, where there are at least so many versions.
+/// The row `number` of the last version, where there are at least `told` versions.
 fn read_row<R: Row, J: Publication<R>>(
     reader: RowsReader<R, J>,
     told: u64,

@@ -9,7 +9,7 @@ pub trait Row: Copy {
         ensures other { OnFalse result (self.now ≢ other.now) };
 }
 
-/// Whether the rows are the same.
+/// Whether both lists have the same rows.
 pub(crate) fn same_rows<R: Row>(xs: &[R], ys: &[R]) -> bool
     ensures same { OnTrue result (xs.now ≡ ys.now) }
     ensures other { OnFalse result (xs.now ≢ ys.now) }

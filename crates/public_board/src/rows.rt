@@ -7,8 +7,8 @@ use left_right::Absorb;
 use std::alloc::AllocError;
 use std::collections::LinkedList;
 
-/// The rows that readers take, and how many versions there were. There is room for so many rows, so a change takes no
-/// memory.
+/// The rows that readers take, and `count`, how many versions there were. There is room for `room` rows, so a change
+/// to no more rows takes no memory.
 #[derive(Drop)]
 pub struct Rows<R> {
     pub rows: Vec<R>,
@@ -17,7 +17,7 @@ pub struct Rows<R> {
     ghost roomy: { room ≤ vec_capacity rows },
 }
 
-/// The same as plain data. No value of it is made.
+/// For the proof alone: what [`Rows`] has, as plain data. No value of it is made.
 pub struct Shown<R> {
     pub rows: LinkedList<R>,
     pub count: u64,

@@ -11,7 +11,7 @@ use std::collections::LinkedList;
 use std::marker::PhantomData;
 
 /// What is published: which lists of versions may come to be, from the first version on. Each read tells that the
-/// versions so far are such a list.
+/// versions so far are one of these lists.
 pub trait Publication<R> {
     ghost allows: { List (List R) → Type 0 };
 }

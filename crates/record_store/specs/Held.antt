@@ -6,7 +6,7 @@ use Rattle.record_store.specs.Model.{DiskState, IsQuiet}
 abbrev pub length_of : ℕ → ℕ → ℕ
 length_of low high = low + 256 * high
 
--- The lines of the held records, from the first gate behind so many bytes on. A record is held where its gate is 1, and it
+-- The lines of the held records, from the first gate behind n bytes on. A record is held where its gate is 1, and it
 -- and the byte after it lie in the file.
 abbrev pub held_behind : ℕ → List ℕ → List (List ℕ)
 held_behind (suc n) (byte ∷ rest) = held_behind n rest

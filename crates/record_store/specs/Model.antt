@@ -9,7 +9,7 @@ pub record Opening : Type 0 where
   pub path : List ℕ
   pub access : Access
 
--- So many bytes from this offset on were written.
+-- `len` bytes from the offset `at` on were written.
 pub record Range : Type 0 where
   pub at : ℕ
   pub len : ℕ

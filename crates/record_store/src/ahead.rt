@@ -57,7 +57,7 @@ pub(crate) fn read_ahead<Y: Disk>(
     Ok(())
 }
 
-/// Whether so many bytes from the offset on were read ahead.
+/// Whether `size` bytes from the offset on were read ahead.
 fn has(ahead: &Ahead, at: u64, size: usize) -> bool
     ensures from { result ≡ true → ahead.now.from ≤ at }
     ensures room { result ≡ true → at + size ≤ ahead.now.from + length ahead.now.bytes.items }

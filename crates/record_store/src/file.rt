@@ -119,7 +119,7 @@ fn open_file<R: Files<File = File>>(files: &R, path: &str, access: Access) -> io
 
 /// The file at the path, which is made where it is missing, and which no other open file of the system has locked: so two
 /// programs never write one store. Of an empty one, which may be new, the folder is synced: the name of a new file is on
-/// the disk only then. A device is no such file.
+/// the disk only then. A device is refused.
 fn open_to_change<R: Files<File = File>>(files: &R, path: &str) -> io::Result<File> {
     let file = OpenOptions::new()
         .read(true)
@@ -138,8 +138,8 @@ fn open_to_change<R: Files<File = File>>(files: &R, path: &str) -> io::Result<Fi
     Ok(file)
 }
 
-/// The file at the path, which no program that locks it changes while it is read. A folder, a pipe or a device is no such
-/// file, and is not opened.
+/// The file at the path, which no program that locks it changes while it is read. A folder, a pipe or a device is
+/// refused, and not opened.
 fn open_to_read<R: Files<File = File>>(files: &R, path: &str) -> io::Result<File> {
     if !fs::metadata(files, path)?.is_file() {
         return Err(io::ErrorKind::InvalidInput.into());

@@ -64,7 +64,7 @@ fn read_gate<Y: Disk>(disk: &mut Y, at: u64) -> Result<u8, DiskErr>
     Ok(gate[0])
 }
 
-/// So many bytes from the offset on, in place of what the line was.
+/// Reads `size` bytes from the offset on into `line`, in place of what it was.
 fn read_line<Y: Disk>(
     disk: &mut Y,
     ahead: &mut Ahead,

@@ -63,7 +63,7 @@ pub last_of : (o : Option BookFault) → first_of (None ∷ o ∷ []) ≡ o
 last_of None = refl
 last_of (Some f) = refl
 
--- where there is no such one, no submission of the list has a mark
+-- where no submission of the list is refused for a mark, none of them has one
 pub unmarked : (marks list : List ℕ) (s : ℕ) → marked_refusal marks list ≡ None → has list s ≡ true → mark_of marks s ≡ 0
 unmarked marks [] s e t = cc
 unmarked marks (m ∷ list) s e t =

@@ -9,9 +9,9 @@ pub record Book : Type 0 where
   pub rejudgings : List Rejudging
   -- how many there are, numbered from 1
   pub submissions : ℕ
-  -- so many more submissions take no memory
+  -- `spare` more submissions take no memory
   pub spare : ℕ
-  -- a rejudging of at most so many members takes no memory
+  -- a rejudging of at most `reserved` members takes no memory
   pub reserved : ℕ
 
 -- no rejudgings, no submissions, and no room for any

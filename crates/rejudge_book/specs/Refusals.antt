@@ -9,12 +9,12 @@ use Rattle.rejudge_book.specs.declared.faults.BookFault.TheVariants as fault
 use Rattle.rejudge_book.specs.declared.faults.CloseFault.{CloseFault}
 use Rattle.rejudge_book.specs.declared.faults.CloseFault.TheVariants as close
 
--- it is the number of one of so many submissions
+-- it is the number of one of `submissions` submissions
 pub record IsKnown (submissions : ℕ) (submission : ℕ) : Type 0 where
   pub numbered : 1 ≤ submission
   pub within : submission ≤ submissions
 
--- each submission of the list is one of so many
+-- each number of the list is that of one of `submissions` submissions
 abbrev pub AreKnown : ℕ → List ℕ → Type 0
 AreKnown submissions list = All (IsKnown submissions) list
 

@@ -78,7 +78,7 @@ impl RejudgeBook {
         self.marks.capacity().min(self.places.capacity()) - self.marks.len()
     }
 
-    /// A rejudging of at most so many members takes no memory.
+    /// The number of members up to which a rejudging takes no memory.
     pub fn reserved(&self) -> usize
         ensures { result ≡ self.now.reserved }
     {
@@ -115,7 +115,7 @@ impl RejudgeBook {
         self.places.push_reserved(0);
     }
 
-    /// Makes room for one more submission and for a rejudging of these submissions, where such a rejudging
+    /// Makes room for one more submission and for a rejudging of the submissions `members`, where this rejudging
     /// could be prepared. Nothing but the room changes, and room is never given back.
     pub fn reserve(&mut self, members: &[u32]) -> Result<(), BookFault>
         requires known { AreKnown self.old.submissions members.now }
@@ -262,7 +262,7 @@ impl RejudgeBook {
         Ok(())
     }
 
-    /// Makes room for a rejudging of so many members. At `NoMemory` nothing changes.
+    /// Makes room for a rejudging of `members` members. At `NoMemory` nothing changes.
     pub fn reserve_members(&mut self, members: usize) -> Result<(), NoMemory>
         ensures enough { OnOk result (members ≤ self.new.reserved) }
         ensures rejudgings { self.new.rejudgings ≡ self.old.rejudgings }

@@ -5,9 +5,9 @@ use farm_kinds::How;
 pub enum BookFault {
     /// The list is empty.
     EmptySet,
-    /// The submission stood earlier in the list. It is the first such one of the list.
+    /// The submission stood earlier in the list. It is the first of the list that did.
     Twice { submission: u32 },
-    /// The submission is in a rejudging that is open. It is the first such one of the list.
+    /// The submission is in `rejudging`, which is open. It is the first of the list that is in an open one.
     Busy { submission: u32, rejudging: u32 },
     /// No memory was left.
     NoMemory,
@@ -18,6 +18,6 @@ pub enum BookFault {
 pub enum CloseFault {
     /// No rejudging has the number.
     NoRejudging,
-    /// The rejudging is closed, in this way.
+    /// The rejudging is closed: `how` says in which way.
     Closed { how: How },
 }

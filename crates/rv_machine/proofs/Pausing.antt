@@ -44,7 +44,7 @@ pub within_way : (s : State) (p new : Storage) (pc k spent limit : ℕ) → s.li
 within_way s p new pc k spent limit e h w d =
     record { same = w.same ∙ within_finish (moved s p pc spent) k new (rw e h) d; later = later s p new pc (pc / 4096 * 4096 + 4 * k) spent (spent + 1) w.later (omega arith) }
 
--- where the run from s goes on as that from t, it stops as that
+-- where the run from s goes on as the run from t, it stops as the run from t does
 stops_from : (s t u : State) (x : Stop) → finish s ≡ finish t → Stops x t u → Stops x s u
 stops_from s t u (stop.Ended e) same w = same ∙ w
 stops_from s t u stop.Call same w = (same ∙ w.0, same ∙ w.1)

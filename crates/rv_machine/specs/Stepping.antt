@@ -23,7 +23,7 @@ pub data Outcome : Type 0 where
 
 -- ---- system calls
 
--- the call answers a number in x10 and costs 1 and so many bytes
+-- the call answers the number v in x10, and costs 1 and n more, one for each byte
 abbrev pub answers : State → ℕ → ℕ → Outcome
 answers s v n =
     Next (record s {
@@ -108,7 +108,8 @@ abbrev pub onward : (State → Finish) → Outcome → Finish
 onward f (Next t) = f t
 onward f (End e t) = record { ending = e; state = t }
 
--- the first ending when the step is repeated; each step costs at least 1, so none is left to make after so many
+-- the first ending when the step is repeated, n times at most; each step costs at least 1, so with a cost of n left no more
+-- can be made
 abbrev pub finish_within : ℕ → State → Finish
 finish_within zero s = record { ending = Time; state = s }
 finish_within (suc n) s = onward (finish_within n) (machine_step s)

@@ -178,7 +178,7 @@ pub fn forget(code: &mut Code, at: u32)
     }
 }
 
-/// Forgets the step of the word that a store changed, if there was such a store.
+/// Forgets the step of the word that the store `stale` changed, if there was one.
 pub fn forget_stale(code: &mut Code, stale: Option<Stored>)
     ensures { (m : paged.State) → decoded.IsKept stale m code.old → decoded.IsCode m code.new }
 {
@@ -188,7 +188,7 @@ pub fn forget_stale(code: &mut Code, stale: Option<Stored>)
     }
 }
 
-// Forgets the step of the word that has the address, where there is such a page.
+// Forgets the step of the word at the address on the decoded page `k`, where there is that page.
 fn clear(steps: &mut Vec<Box<[Instr; 1024]>>, k: usize, at: u32)
     ensures count { length steps.new.items ≡ length steps.old.items }
     ensures whole { (i : ℕ) → length (get_or (decoded.pages steps.new.items) i []) ≡ length (get_or (decoded.pages steps.old.items) i []) }

@@ -1,3 +1,4 @@
+//! Laws, for the proof alone: each function has an empty body, and its contract is the law.
 ghost use Rattle.rv_machine.specs.Laws as laws;
 
 /// What the ending of a run is, in other words: the first ending when the machine's step is repeated. Every run comes

@@ -84,7 +84,7 @@ impl<'a> Machine<'a> {
 
     /// Puts bytes at an address, and touches their pages. Where these are more than the limit nothing is put, and the
     /// run ends as `Ending::Memory` before its first instruction; after `NoMemory` it ends as that. A machine that has
-    /// ended, by its run or by such a call, stays as it is.
+    /// ended, by its run or by an earlier call of `place`, stays as it is.
     pub fn place(&mut self, at: u32, bytes: &[u8]) -> Result<(), NoMemory>
         requires { at + length bytes.now ≤ 2 ^ 32 }
         ensures placed { OnOk result (self.new ≡ running.placed at bytes.now self.old) }

@@ -44,7 +44,7 @@ half_at s a = byte_at s a + 0x100 * byte_at s (a + 1)
 abbrev pub word_at : State → ℕ → ℕ
 word_at s a = byte_at s a + 0x100 * byte_at s (a + 1) + 0x10000 * byte_at s (a + 2) + 0x1000000 * byte_at s (a + 3)
 
--- so many bytes from an address on
+-- the bytes from the address a on, as many as the second number says
 abbrev pub bytes_at : State → ℕ → ℕ → List ℕ
 bytes_at s a zero = []
 bytes_at s a (suc n) = byte_at s a ∷ bytes_at s (a + 1) n
@@ -61,7 +61,7 @@ touch s p =
 abbrev pub is_over : State → ℕ → Bool
 is_over s p = if is_touched s p then false else nat_le s.limit (length s.pages)
 
--- so many pages from one on are touched, one after the other
+-- the pages from p on, as many as the second number says, are touched, one after the other
 abbrev pub touch_pages : State → ℕ → ℕ → State
 touch_pages s p zero = s
 touch_pages s p (suc k) = touch (touch_pages s p k) (p + k)
@@ -133,7 +133,7 @@ pub record TouchesPage (old new : State) (p : ℕ) : Type 0 where
   pub others : (m : ℕ) → m ≢ p → is_touched new m ≡ is_touched old m
   pub limit : new.limit ≡ old.limit
 
--- ---- when an access of so many bytes (1, 2 or 4) at an address is allowed, and why it is refused
+-- ---- when an access of n bytes (1, 2 or 4) at an address is allowed, and why it is refused
 
 abbrev pub Allows : ℕ → State → ℕ → Type 0
 Allows n s a = (a % n ≡ 0) × (is_over s (a / 4096) ≡ false)

@@ -27,7 +27,7 @@ pub enum MemFault {
 pub struct Memory {
     alloc: Global,
     limit: u32,
-    // For the low bits of a page's number, the last such page that was used.
+    // For the low bits of a page's number, the page with these bits that was used last.
     recent: Vec<Recent>,
     index: PageIndex,
     pages: Vec<Page>,
@@ -234,6 +234,7 @@ impl Memory {
         Ok(())
     }
 
+    // What `store8` does, as a function of its own for the proof alone: all that `store8` promises follows by laws.
     #[inline(always)]
     #[tactic(auto, using(crate::proofs::Places::indexed_set, crate::proofs::Places::whole_set, crate::proofs::Recents::recent_set))]
     fn set8(&mut self, at: u32, value: u32) -> Result<usize, MemFault>
@@ -250,6 +251,7 @@ impl Memory {
         Ok(k)
     }
 
+    // What `store16` does, as a function of its own for the proof alone: all that `store16` promises follows by laws.
     #[inline(always)]
     #[tactic(auto, using(crate::proofs::Places::indexed_set, crate::proofs::Places::whole_set, crate::proofs::Recents::recent_set, crate::proofs::Storing::store16_in_page, crate::proofs::Storing::length_set_bytes))]
     fn set16(&mut self, at: u32, value: u32) -> Result<usize, MemFault>
@@ -269,6 +271,7 @@ impl Memory {
         Ok(k)
     }
 
+    // What `store32` does, as a function of its own for the proof alone: all that `store32` promises follows by laws.
     #[inline(always)]
     #[tactic(auto, using(crate::proofs::Places::indexed_set, crate::proofs::Places::whole_set, crate::proofs::Recents::recent_set, crate::proofs::Storing::store32_in_page, crate::proofs::Storing::length_set_bytes))]
     fn set32(&mut self, at: u32, value: u32) -> Result<usize, MemFault>
@@ -333,7 +336,7 @@ impl Memory {
         }
     }
 
-    // Takes back the pages after the first so many.
+    // Takes back the pages behind the first `kept`.
     #[tactic(auto, using(crate::proofs::Places::indexed_take, crate::proofs::Places::whole_take, crate::proofs::Recents::recent_none))]
     fn forget_after(&mut self, kept: usize)
         ensures { self.new ≡ record { limit = self.old.limit; pages = take kept self.old.pages } }

@@ -103,7 +103,7 @@ fn run_on(rt: &HostRuntime, limits: Limits, image: &[u8], stdin: &[u8]) -> io::R
     }
 }
 
-/// Runs a machine that took so many nanoseconds to load, writes its output and says how it ended.
+/// Runs a machine that took `load` nanoseconds to load, writes its output and says how it ended.
 fn run_machine(rt: &HostRuntime, machine: &mut Machine<'_>, load: u128) -> io::Result<()> {
     let start = Instant::now(rt)?;
     let ended = run_to_end(machine);

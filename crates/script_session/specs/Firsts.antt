@@ -52,7 +52,7 @@ CameFirst stored.StoreFault old new = ⊤
 CameFirst (stored.StoreFull at) old new = OneUnanswered old new
 CameFirst stored.NoMemory old new = OneUnanswered old new
 
--- the same of a session that stores nothing
+-- what `CameFirst` says, of a session that stores nothing
 abbrev pub ScriptCameFirst : ScriptEnd → SessionState → SessionState → Type 0
 ScriptCameFirst script.Done old new = ⊤
 ScriptCameFirst script.ReadFault old new = ⊤

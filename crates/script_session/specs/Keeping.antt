@@ -64,7 +64,7 @@ pub record KeptPrefix (Kept : List Event → List Event → Type 0) (least all :
   pub run : all ≡ es ++ others
   pub kept : Kept least es
 
--- what is known of the events of a session that ended so
+-- what is known of the events of a session with this end
 abbrev pub EndsKeeping : (List Event → List Event → Type 0) → (List Event → List Event → Type 0)
     → (List Event → ℕ → Type 0) → StoredEnd → List Event → List Event → Type 0
 EndsKeeping Kept Lost Full end.Done least all = KeptPrefix Kept least all
@@ -108,7 +108,8 @@ SettlesAs Kept Lost least es held held' old new (Some end.StoreFault) =
     (held' ≡ held) × ((others : List Event) → Lost least (es ++ others))
 SettlesAs Kept Lost least es held held' old new (Some e) = ⊥
 
--- the same, where the session has this end besides, which came first
+-- a session whose end is `first` puts what is pending: it ends so, and that or a prefix of it was put; or what keeps the
+-- events failed, nothing was put, and it ends as `StoreFault`
 abbrev pub FinishesAs : (List Event → List Event → Type 0) → (List Event → List Event → Type 0) → List Event → List Event
     → Option (List ℕ) → Option (List ℕ) → List ℕ → StoredEnd → StoredEnd → Type 0
 FinishesAs Kept Lost least es held held' old first result =

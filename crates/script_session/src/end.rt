@@ -26,7 +26,7 @@ pub enum StoredEnd {
     InputLimit,
     /// The disk of the store failed. Replies to events that may not be stored were not written.
     StoreFault,
-    /// The record of an event would end here, past the limit of the store.
+    /// The record of an event would end at the offset `end`, past the limit of the store.
     StoreFull { end: u64 },
     /// No memory was left.
     NoMemory,

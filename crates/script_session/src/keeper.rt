@@ -13,7 +13,7 @@ use farm_kinds::{Event, NoMemory, Reply};
 pub(crate) enum KeepFault {
     /// The disk failed.
     Disk,
-    /// The event has no room, and would end here.
+    /// The event has no room, and would end at the offset `end`.
     Full { end: u64 },
     /// No memory was left.
     NoMemory,

@@ -25,7 +25,7 @@ const ONE: &str = concat!(
     "c/submissions/1.rv32|\u{13}\0\0\0\n",
 );
 
-/// The same without a submission.
+/// The files of a contest of one test without a submission, written as those of `ONE`.
 const NONE: &str = concat!(
     "c/problems/echo/problem.yaml|\n",
     "c/problems/echo/data/secret/01.in|7~\n",
@@ -119,7 +119,7 @@ const ROWS: &str = concat!(
     "1 0|host fetch correct correct|host fetch correct correct => 1 pending~board 1~\n",
 );
 
-/// The same of a contest without submissions.
+/// A line as those of `ROWS`, of a contest without submissions.
 const WITHOUT: &str =
     "2 2|host fetch cut| => conn 1 requests 2 cut~conn 2 requests 0 end~board 0~\n";
 
@@ -224,7 +224,7 @@ fn failing_door(alloc: Global) -> Result<MemoryDoor, AllocError>
     Ok(door)
 }
 
-/// How serving ends at this door, which gives so many connections back.
+/// How serving ends at a door that fails, and how many connections that door was given back.
 fn serve_failing_door<R: Threads + Wait + Sync>(
     rt: &R,
     alloc: Global,

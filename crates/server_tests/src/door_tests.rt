@@ -39,7 +39,7 @@ fn memory_conn(alloc: Global, bytes: &[u8]) -> Result<MemoryConn, AllocError>
     Ok(Connection::new(source, sink))
 }
 
-/// The same where nothing fails.
+/// A connection that gives these bytes, has room for 8 and never fails.
 fn reliable_conn(alloc: Global, bytes: &[u8]) -> Result<ReliableConn, AllocError>
     ensures { IfOk result IsReliableNew }
 {

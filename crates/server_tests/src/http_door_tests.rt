@@ -165,7 +165,8 @@ const TEXTS: &str = concat!(
     "GET /a HTTP/1.1^~^~POST / HTTP/1.1^~content-length: 1^~^~ => GET /a keep |cut cut cut \n",
 );
 
-/// The same: heads of 64 and 65 fields, heads of 16,384 and 16,385 bytes, and as many without a line feed.
+/// Lines as those of `TEXTS`: heads of 64 and 65 fields, heads of 16,384 and 16,385 bytes, and as many without a line
+/// feed.
 const LONG: &str = concat!(
     "GET / HTTP/1.1^~<a: b^~*64>^~ => GET / keep |end end end \n",
     "GET / HTTP/1.1^~<a: b^~*65>^~ => bad-head bad-head bad-head \n",

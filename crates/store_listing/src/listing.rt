@@ -215,7 +215,7 @@ pub fn list_store<Y: Disk, K: Sink>(
     }
 }
 
-/// Lists the store of a file of so many bytes.
+/// Lists the store of a file of `len` bytes.
 fn list_sized<Y: Disk, K: Sink>(
     alloc: Global,
     disk: &mut Y,

@@ -1,4 +1,4 @@
-//! Examples of a store as text.
+//! Examples of a store as text, for the proof alone: the check computes them.
 ghost use Rattle.std.specs.Prelude.{◌≡◌, [], ◌∷◌, codes};
 ghost use Rattle.store_listing.specs.Listing.{store_text, size_behind};
 

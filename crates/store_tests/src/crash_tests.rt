@@ -30,7 +30,7 @@ const ROWS: &str = concat!(
     "apply 1=>1 wrong-answer~2 correct~board 2~\n",
 );
 
-/// The board once so many rows were answered. Nothing for more than there are.
+/// The board once `answered` rows were answered. Nothing where there are not as many.
 fn board_after(alloc: Global, answered: usize) -> Result<String, AllocError> {
     let row = match answered.checked_sub(1) {
         Some(last) => ROWS.lines().nth(last).unwrap_or(""),
@@ -149,7 +149,8 @@ fn image_of(
     Ok(image)
 }
 
-/// Opens a store on what a crash left, and compares its board with those behind so many rows and behind one more.
+/// Opens a store on what a crash left, and compares its board with those behind `answered` rows and behind one
+/// more.
 fn check_image(
     rt: &impl Abort,
     alloc: Global,

@@ -37,7 +37,7 @@ fn play<Y: Disk>(
     }
 }
 
-/// The same on a farm of its own.
+/// Opens the store of the disk on a farm of its own, and plays lines on it.
 fn play_anew<Y: Disk>(
     alloc: Global,
     disk: &mut Y,

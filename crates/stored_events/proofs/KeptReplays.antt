@@ -48,7 +48,7 @@ take_none : (xs : List Event) → take 0 xs ≡ []
 take_none [] = refl
 take_none (x ∷ xs) = refl
 
--- a prefix of the run has so many events that are stored
+-- the first k events that are stored are those of a prefix of the run
 HasPrefix : State → List Event → ℕ → Type 0
 HasPrefix s es k = (j : ℕ) × (take k (kept_events s es) ≡ kept_events s (take j es))
 

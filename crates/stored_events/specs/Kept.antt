@@ -53,7 +53,7 @@ is_done (reply.Verified judging) = true
 is_done (reply.Audit count head) = true
 is_done r = false
 
--- an event that was answered so is stored
+-- the event e is stored, where it was answered r
 abbrev pub is_kept : Event → Reply → Bool
 is_kept e r = not (is_look e) && is_done r
 

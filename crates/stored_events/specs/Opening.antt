@@ -60,8 +60,8 @@ abbrev pub is_first_record : List ℕ → Bool
 is_first_record behind = (length behind == 74) && (slice_index behind 73 == 0)
     && bytes_eq (take 2 behind) (71 ∷ 0 ∷ []) && is_some (config_of (take 71 (drop 2 behind)))
 
--- A crash of a first opening leaves such a file, of at most 75 bytes: no byte or one, anything behind a 0, or the first
--- record and a closed gate behind any first byte.
+-- A crash of a first opening may leave this file: it has at most 75 bytes, and is no byte or one, anything behind a 0, or
+-- the first record and a closed gate behind any first byte.
 abbrev pub is_unborn : List ℕ → Bool
 is_unborn file = nat_le (length file) 75
     && (nat_le (length file) 1 || (slice_index file 0 == 0) || is_first_record (drop 1 file))

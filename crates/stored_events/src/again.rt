@@ -1,4 +1,4 @@
-//! A store that was left by a crash is opened again.
+//! A store that was left by a crash is opened again: a law, for the proof alone.
 ghost use Rattle.std.specs.Prelude.{◌≡◌, ◌∷◌, ℕ, List, length, map, take, Ok};
 ghost use Rattle.hex.specs.Hex.{IsBytes};
 ghost use Rattle.record_store.specs.Held.{held};

@@ -13,7 +13,7 @@ pub fn config_line(digest: &[u8; 32]) -> [u8; 71]
     line
 }
 
-/// The digest that the line of a configuration says. None where the line is no such line.
+/// The digest that the line of a configuration says. None where the line is that of no configuration.
 pub fn config_of(line: &[u8]) -> Option<[u8; 32]>
     ensures { result ≡ config_of line.now }
 {

@@ -9,7 +9,7 @@ use record_store::DiskErr;
 pub enum OpenFault {
     /// The disk failed, and its count of faults rose.
     Disk,
-    /// The store is of the configuration with this SHA-256 digest. Nothing was written to it.
+    /// The store is of the configuration with the SHA-256 digest `kept`. Nothing was written to it.
     OtherConfig { kept: [u8; 32] },
     /// This record, from 1 on, is none of this farm's: the first is no configuration's, or the line of a later one is not
     /// what is written of an event that changes the farm where it stands. Where no line is held, the file is somebody's

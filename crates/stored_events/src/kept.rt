@@ -8,8 +8,8 @@ ghost use Rattle.stored_events.specs.Kept.{is_look, is_done, is_kept, kept_event
 
 use farm_kinds::{Event, Reply};
 
-/// Whether an event that was answered so is stored: it is no look at the farm, was not refused, and is no claim for which
-/// no task is open. Every event that changes the farm is; so is a `tick`.
+/// Whether the event, where it was answered `reply`, is stored: it is no look at the farm, was not refused, and is no
+/// claim for which no task is open. Every event that changes the farm is; so is a `tick`.
 pub fn is_kept(event: &Event, reply: &Reply) -> bool
     ensures { result ≡ is_kept event.now reply.now }
 {
@@ -42,8 +42,8 @@ fn is_done(reply: &Reply) -> bool
     }
 }
 
-/// An event that is not stored changes nothing. So the events of a run that are stored lead to the state to which the
-/// whole run leads, and what is stored of a run goes on with the run.
+/// For the proof alone: an event that is not stored changes nothing. So the events of a run that are stored lead to
+/// the state to which the whole run leads, and what is stored of a run goes on with the run.
 #[tactic(auto, using(crate::proofs::KeptLaws::not_kept, crate::proofs::KeptLaws::kept_lead, crate::proofs::KeptLaws::kept_append))]
 pub fn kept_events_lead_to_the_state()
     ensures unchanged { (s : State) (e : Event) → is_kept e (reply_to s e) ≡ false → (farm_step s e).0 ≡ s }

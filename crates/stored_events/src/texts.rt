@@ -1,4 +1,4 @@
-//! The texts of events in a store.
+//! The texts of events in a store: a law, for the proof alone.
 ghost use Rattle.std.specs.Prelude.{◌≡◌, ◌≤◌, ◌<◌, ◌^◌, ℕ, List, length, Ok, Some};
 ghost use Rattle.farm_kinds.specs.declared.events.Event.{Event};
 ghost use Rattle.farm_model.specs.Grammar.{line_read};

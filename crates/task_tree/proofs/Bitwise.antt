@@ -69,7 +69,7 @@ least words place k h z = record {
   ];
 }
 
--- the same where the word was read
+-- k is put in, or taken out, where its word was read as w and is v now
 pub inserted_at : (xs old : List ℕ) (k w v : ℕ) → xs ≡ old → k / 64 < length xs → w ≡ get_or xs (k / 64) w → bit_at v (k % 64) ≡ 1 → ((i : ℕ) → i ≢ k % 64 → bit_at v i ≡ bit_at w i) → IsInserted old (set xs (k / 64) v) k
 inserted_at xs old k w v same h r e f =
     subst (λ o. IsInserted o (set xs (k / 64) v) k) same (inserted xs k v h e (λ i n. f i n ∙ ap (λ u. bit_at u i) (get_or_read xs (k / 64) w h r 0)))
@@ -112,7 +112,7 @@ cut_none old from = record {
   above = λ i l s. absurd (omega (arith, l, s));
 }
 
--- the same behind the last word
+-- the numbers from `from` on are taken out of all words, where the place is behind the last
 pub cut_whole : (old new : List ℕ) (from place : ℕ) → length old ≤ place → IsCutTo old new from place → IsCut old new from
 cut_whole old new from place past h = record {
   size = h.size;

@@ -22,7 +22,7 @@ hidden class tests = record { class = class; shown = replicate tests false }
 abbrev pub tests_listed : List JudgingTasks → ℕ → ℕ
 tests_listed judgings n = option_map_or (λ j. length j.shown) (item_of judgings n) 0
 
--- there is such a task
+-- the task is there: its judging has a test of its rank
 pub record HasTask (judgings : List JudgingTasks) (task : Task) : Type 0 where
   pub low : 1 ≤ task.test
   pub high : task.test ≤ tests_listed judgings task.judging
@@ -36,7 +36,7 @@ with_shown judgings task shown =
 abbrev pub with_class : List JudgingTasks → ℕ → Class → List JudgingTasks
 with_class judgings n class = with_change judgings n (λ j. record j { class = class })
 
--- as many tests more as it takes to have at least so many; their tasks are hidden
+-- the judging with as many tests more as it takes to have at least `tests`; their tasks are hidden
 abbrev pub widened : ℕ → JudgingTasks → JudgingTasks
 widened tests j = record j { shown = j.shown ++ replicate (tests - length j.shown) false }
 
@@ -58,7 +58,7 @@ with_hidden_behind judgings n rank = with_change judgings n (λ j. record j { sh
 abbrev pub shown_of : List JudgingTasks → ℕ → List Bool
 shown_of judgings n = option_map_or (λ j. j.shown) (item_of judgings n) []
 
--- there is such a task, and it is shown
+-- the task is there, and shown
 abbrev pub is_shown : List JudgingTasks → Task → Bool
 is_shown judgings task = unwrap_or (item_of (shown_of judgings task.judging) task.test) false
 

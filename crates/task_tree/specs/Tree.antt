@@ -11,7 +11,7 @@ of_class classes High = classes.high
 of_class classes Normal = classes.normal
 of_class classes Low = classes.low
 
--- each class has room for so many judgings
+-- each class has room for `count` judgings
 pub record HasRoom (classes : Classes) (count : ℕ) : Type 0 where
   pub room : (c : Class) → count ≤ 64 * length (of_class classes c).numbers
 

@@ -120,7 +120,7 @@ impl TaskTree {
         self.judgings.len()
     }
 
-    /// Whether there is such a task, shown or not: a judging of this number, with a test of this rank.
+    /// Whether the task is there, shown or not: a judging of its number, with a test of its rank.
     pub fn has_task(&self, task: Task) -> bool
         ensures { result ≡ true ↔ HasTask self.now task }
     {

@@ -34,7 +34,7 @@ impl Words {
         }
     }
 
-    /// So many words of zeros: an empty set with room for 64 numbers a word.
+    /// `count` words of zeros: an empty set with room for 64 numbers a word.
     pub fn zeros(alloc: Global, count: usize) -> Result<Words, AllocError>
         requires { count ≤ 2 ^ 32 }
         ensures { IfOk result (λ words. words ≡ replicate count 0) }

@@ -25,7 +25,7 @@ fn fault_text(alloc: Global, text: &[u8]) -> Result<Vec<u8>, AllocError> {
     joined(alloc, word, key.as_slice())
 }
 
-/// The same for the rows.
+/// The fault as `fault_text` tells it, for the rows.
 pub(crate) fn fault_told(alloc: Global, text: &[u8]) -> Result<Vec<u8>, NoMemory> {
     Ok(fault_text(alloc, text)?)
 }

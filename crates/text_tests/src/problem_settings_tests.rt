@@ -96,7 +96,7 @@ const LINES: &str = concat!(
     "a: |~ {[~~name: b => default 64 8 |b||\n",
 );
 
-/// The same of values.
+/// Texts of `problem.yaml` and what is told of them: values.
 const VALUES: &str = concat!(
     "name: a b   => default 64 8 |a b||\n",
     "name:   a # b => default 64 8 |a||\n",
@@ -140,7 +140,7 @@ const VALUES: &str = concat!(
     "validator_flags: [a => 1 form\n",
 );
 
-/// The same of `validation`.
+/// Texts of `problem.yaml` and what is told of them: `validation`.
 const VALIDATIONS: &str = concat!(
     "validation: => default 64 8 |||\n",
     "validation: '' => default 64 8 |||\n",
@@ -160,7 +160,7 @@ const VALIDATIONS: &str = concat!(
     "validation: custom # score => custom 64 8 |||\n",
 );
 
-/// The same of `limits`.
+/// Texts of `problem.yaml` and what is told of them: `limits`.
 const SIZES: &str = concat!(
     "limits: => default 64 8 |||\n",
     "limits:~ memory: 256~ output: 64 => default 256 64 |||\n",
@@ -288,7 +288,7 @@ fn limits_of(alloc: Global, ms: u32, ips: u32) -> Result<Limits, NoMemory> {
     }
 }
 
-/// The limits of a run, of so many milliseconds and with so many instructions of a second.
+/// The limits of a run of the milliseconds and with the instructions of a second that `numbers` says.
 pub(crate) fn limits_told(alloc: Global, numbers: &str) -> Result<Vec<u8>, NoMemory> {
     let (ms, ips) = numbers.split_once(' ').unwrap_or((numbers, ""));
     let (ms, ips) = (

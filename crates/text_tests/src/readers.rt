@@ -25,11 +25,11 @@ pub(crate) enum Reader {
     Limits,
     /// The text of `farm.json`: its fault.
     SettingsFault,
-    /// The same: what the settings say.
+    /// The text of `farm.json`: what the settings say.
     Settings,
-    /// The same: what a copy of them says.
+    /// The text of `farm.json`: what a copy of the settings says.
     SettingsCopy,
-    /// The same: how long it is, and the lease.
+    /// The text of `farm.json`: how long it is, and the lease.
     Lease,
     /// The text of `problem.yaml`: what it says.
     Yaml,
@@ -49,7 +49,7 @@ fn told(alloc: Global, part: &str, reader: Reader) -> Result<Vec<u8>, NoMemory> 
     }
 }
 
-/// The same of the text of a file.
+/// What is told of the text of a file.
 fn told_of_file(alloc: Global, text: &[u8], reader: Reader) -> Result<Vec<u8>, NoMemory> {
     match reader {
         Reader::SettingsFault => fault_told(alloc, text),

@@ -56,7 +56,7 @@ pub(crate) fn check_told(rt: &impl Abort, told: &[u8], want: &[u8], row: &str) {
     assert_eq!(rt; told, want, "{row}");
 }
 
-/// The same of a text that is written, where there is memory for it.
+/// Compares a text that is written with what is wanted, where there is memory for it.
 pub(crate) fn check_written(rt: &impl Abort, written: Result<Text, NoMemory>, want: &str) {
     match written {
         Ok(text) => check_told(rt, text.as_slice(), want.as_bytes(), want),

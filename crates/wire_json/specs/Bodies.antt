@@ -33,8 +33,8 @@ object_of (b ∷ bytes) = if is_utf8 (b ∷ bytes) then option_and_then only_obj
 abbrev pub begins_value : ℕ → Bool
 begins_value b = (b == 44) || ((b == 91) || (b == 123))
 
--- A body with more such bytes than this would take many times its size to be read, and says nothing that a shorter one
--- could not: there are fewer submissions.
+-- A body with more than 131,072 bytes that begin a value would take many times its size to be read, and says nothing that a
+-- shorter one could not: there are fewer submissions.
 abbrev pub has_too_many_values : List ℕ → Bool
 has_too_many_values bytes = nat_lt 131072 (count_by begins_value bytes)
 

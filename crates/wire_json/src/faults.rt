@@ -48,15 +48,15 @@ impl Field {
 #[derive(Clone, Copy, Debug, PartialEq, Eq)]
 pub enum BodyFault {
     /// The body has more than 131,072 bytes with which a list, an object, or a value behind the first of one begins. No
-    /// request needs so many, and reading them would take many times the body's size.
+    /// request needs as many, and reading them would take many times the body's size.
     TooManyValues,
     /// The strings of the body have more than 1,048,576 bytes. No field takes one of more than 32.
     TooLongStrings,
     /// The body is no JSON text (RFC 8259) in UTF-8, is nested deeper than 127, or is no object.
     NotJson,
-    /// The body lacks this field.
+    /// The body lacks the field `name`.
     MissingField { name: Field },
-    /// The value of this field is none that it takes.
+    /// The value of the field `name` is none that it takes.
     BadField { name: Field },
     /// No memory was left.
     NoMemory,

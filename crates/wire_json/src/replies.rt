@@ -100,7 +100,7 @@ fn rejudging_value(alloc: Global, number: u32, first: u32, last: u32) -> Result<
     json!(in alloc; {"first": first, "last": last, "number": number, "reply": "rejudging"})
 }
 
-/// How often an old answer became a new one in a rejudging of so many members.
+/// How often an old answer became a new one in a rejudging of `members` members.
 fn matrix_value(alloc: Global, matrix: &MatrixRows, members: u32) -> Result<Value, AllocError>
     ensures { IfOk result (λ v. view v ≡ json_of (reply.Matrix matrix.now members)) }
 {

@@ -1,3 +1,4 @@
+//! Computed examples, for the proof alone: each function has an empty body, and the check computes its contract.
 ghost use Rattle.std.specs.Prelude.{◌≡◌, [], ◌∷◌, Some, None, Ok, Err, codes};
 ghost use Rattle.serde_json.specs.Written.{compact_text};
 ghost use Rattle.farm_kinds.specs.Names.{jury};

@@ -11,7 +11,7 @@ use Rattle.work_maker.specs.Files.{file_with, problem_path, test_path, yaml_text
 use Rattle.work_maker.proofs.Each.{Each, each_both, each_flat}
 use Rattle.work_maker.proofs.Listed.{IsMade}
 
--- a problem of a contest with so many problems
+-- a problem of a contest with `problems` problems
 pub record IsProblem (problems : ℕ) (made : MadeProblem) : Type 0 where
   pub first : 1 ≤ made.number
   pub last : made.number ≤ problems

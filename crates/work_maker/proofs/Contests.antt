@@ -51,7 +51,7 @@ use Rattle.work_maker.proofs.Packages.{bound, HasFiles, IsSmall, IsSmallPackage,
 abbrev package_path : ℕ → List ℕ
 package_path i = in_folder (problems_of contest_folder) (problem_name i)
 
--- a contest with so many problems and submissions
+-- the problems and the submissions of a contest with `count` problems
 pub record IsMadeContest (count : ℕ) (made : List MadeProblem) (submissions : List MadeSubmission) : Type 0 where
   pub few : count ≤ 50
   pub are_problems : Each (IsProblem count) made

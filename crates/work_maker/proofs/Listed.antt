@@ -35,7 +35,7 @@ part_then sep (b ∷ bs) rest h =
 
 -- ---- a line
 
--- a submission of a contest with so many problems
+-- a submission of a contest with `problems` problems
 pub record IsMade (problems : ℕ) (submission : MadeSubmission) : Type 0 where
   pub first : 1 ≤ submission.problem
   pub last : submission.problem ≤ problems

@@ -48,7 +48,7 @@ pub record HasFiles (files : List TreeFile) (stem : List ℕ) : Type 0 where
   pub input : IsHeld bound (file_at files (input_path stem))
   pub answer : IsHeld bound (file_at files (answer_path stem))
 
--- so many bytes at most
+-- the total is at most `most` bytes
 pub record IsTotal (most : ℕ) (total : Result ℕ PackageFault) : Type 0 where
   pub bytes : ℕ
   pub is : total ≡ Ok bytes

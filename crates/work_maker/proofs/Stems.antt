@@ -9,7 +9,7 @@ use Rattle.package_folder.specs.Order.{in_order}
 use Rattle.work_maker.specs.Files.{test_path, problem_path}
 use Rattle.work_maker.proofs.Each.{passes_below, passes_at, both}
 
--- the paths of the files of so many tests from this one on, and the tests
+-- the paths of the files of as many tests as the third number says, from `test` on; and those of the tests themselves
 abbrev pub test_paths : ℕ → ℕ → ℕ → List (List ℕ)
 test_paths problem test zero = []
 test_paths problem test (suc more) =

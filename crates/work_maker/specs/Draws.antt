@@ -9,7 +9,7 @@ next state = (state * 1664525 + 1013904223) % 2 ^ 32
 abbrev pub drawn : ℕ → ℕ
 drawn state = state / 65536
 
--- the state behind so many draws
+-- the state behind as many draws as the first number says
 abbrev pub after : ℕ → ℕ → ℕ
 after zero state = state
 after (suc draws) state = after draws (next state)

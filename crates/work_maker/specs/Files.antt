@@ -92,7 +92,7 @@ submission_files submissions = image_files 1 submissions ++ file_with list_path 
 abbrev pub files_with : List MadeProblem → List MadeSubmission → List TreeFile
 files_with problems submissions = flat_map problem_files problems ++ submission_files submissions
 
--- the files of the contest of this number, with so many problems and submissions
+-- the files of the contest `number`, with `problems` problems and `submissions` submissions
 abbrev pub made_files : ℕ → ℕ → ℕ → List TreeFile
 made_files number problems submissions =
     files_with (made_problems number problems) (made_submissions number problems submissions)

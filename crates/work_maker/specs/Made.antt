@@ -20,7 +20,7 @@ pub record MadeSubmission : Type 0 where
 abbrev pub tests_by : ℕ → ℕ
 tests_by state = 1 + drawn state % 5
 
--- the inputs of so many tests, a draw for each
+-- the inputs of as many tests as the first number says, a draw for each
 abbrev pub inputs_from : ℕ → ℕ → List ℕ
 inputs_from zero state = []
 inputs_from (suc tests) state = drawn (next state) % 1000 ∷ inputs_from tests (next state)
@@ -32,7 +32,7 @@ problem_by number state = record { number = number; inputs = inputs_from (tests_
 abbrev pub after_problem : ℕ → ℕ
 after_problem state = after (tests_by (next state)) (next state)
 
--- so many problems, of which the first has this number
+-- as many problems as the first number says, of which the first one has the number `number`
 abbrev pub problems_from : ℕ → ℕ → ℕ → List MadeProblem
 problems_from zero number state = []
 problems_from (suc more) number state =
@@ -42,7 +42,7 @@ abbrev pub after_problems : ℕ → ℕ → ℕ
 after_problems zero state = state
 after_problems (suc more) state = after_problems more (after_problem state)
 
--- a submission to one of so many problems: three draws
+-- a submission to one of `problems` problems: three draws
 abbrev pub submission_from : ℕ → ℕ → MadeSubmission
 submission_from problems state = record {
   problem = 1 + drawn (after 1 state) % problems;

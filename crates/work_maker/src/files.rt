@@ -51,7 +51,7 @@ pub fn add_test(
     Ok(())
 }
 
-/// Adds the file of a test whose name ends so.
+/// Adds the file of a test whose name ends as `ending`.
 fn add_test_file(
     alloc: Global,
     files: &mut TreeFiles,

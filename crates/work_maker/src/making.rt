@@ -15,8 +15,8 @@ use std::alloc::Global;
 /// The path of a made contest's folder.
 pub const FOLDER: &str = "contest";
 
-/// The tree of the contest of this number, with so many problems and submissions. No call of it fails, and its folder
-/// is read as a contest, without a fault.
+/// The tree of the contest of this number, with `problems` problems and `submissions` submissions. No call of it fails,
+/// and its folder is read as a contest, without a fault.
 pub fn make_contest(
     alloc: Global,
     number: u32,
@@ -32,8 +32,8 @@ pub fn make_contest(
     Ok(MemoryTree::new(alloc, files, Vec::new(alloc)))
 }
 
-/// The files of the contest of this number, with so many problems and submissions: those of a contest's folder without a
-/// fault.
+/// The files of the contest of this number, with `problems` problems and `submissions` submissions: those of a
+/// contest's folder without a fault.
 pub fn make_files(
     alloc: Global,
     number: u32,
@@ -52,7 +52,7 @@ pub fn make_files(
     Ok(files)
 }
 
-/// Draws so many problems, and adds their files. At `NoMemory` a part of them may be there.
+/// Draws `problems` problems, and adds their files. At `NoMemory` a part of them may be there.
 fn add_problems(
     alloc: Global,
     files: &mut TreeFiles,
@@ -88,7 +88,8 @@ fn add_problem(
     Ok(())
 }
 
-/// Draws so many submissions, and adds their images and the list of them. At `NoMemory` a part of them may be there.
+/// Draws `submissions` submissions, and adds their images and the list of them. At `NoMemory` a part of them may be
+/// there.
 fn add_submissions(
     alloc: Global,
     files: &mut TreeFiles,

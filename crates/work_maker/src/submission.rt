@@ -15,7 +15,7 @@ pub struct Submission {
     pub team: u32,
 }
 
-/// Draws a submission to one of so many problems.
+/// Draws a submission to one of `problems` problems.
 pub fn draw_submission(draws: &mut Draws, problems: u16) -> Submission
     requires { 0 < problems }
     ensures submission { submission_value result ≡ submission_from problems draws.old.state }

@@ -1,3 +1,4 @@
+//! Computed examples, for the proof alone: each function has an empty body, and the check computes its contract.
 ghost use Rattle.std.specs.Prelude.{◌≡◌, ◌++◌, ◌∷◌, [], ℕ, List, codes, map, Some};
 ghost use Rattle.rv_word.specs.Table.{instruction_of};
 ghost use Rattle.farm_tree.specs.declared.reads.TreeFile.{TreeFile};
