@@ -32,7 +32,7 @@ pub(crate) fn words_of(alloc: Global, line: &str) -> Result<Vec<String>, AllocEr
     Ok(words)
 }
 
-/// The bytes that a text writes, in which `~` is a line feed and `^` a carriage return.
+/// The bytes that a part of a row writes.
 pub(crate) fn bytes_of(alloc: Global, text: &str) -> Result<Vec<u8>, AllocError> {
     let text = text.replace(alloc, '~', "\n")?;
     Ok(text.replace(alloc, '^', "\r")?.into_bytes())

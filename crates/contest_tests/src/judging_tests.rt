@@ -15,8 +15,7 @@ use std::thread::Threads;
 /// How many bytes a sink of these tests holds.
 const ROOM: usize = 8192;
 
-/// The files of a contest, a line each: the path, and behind `|` what the file holds, in which `~` is a line feed, or
-/// behind `#` its bytes in hexadecimal digits. Its programs copy their input (1, 5), write nothing (2), run for ever
+/// The files of a contest, a line each: the path, and behind `|` what the file holds. Its programs copy their input (1, 5), write nothing (2), run for ever
 /// (3), are no image (4), and write `9` (6) and `3` (7).
 const CONTEST: &str = concat!(
     "c/problems/echo/problem.yaml|name: Echo~validator_flags: float_tolerance 1e-6~\n",

@@ -1,4 +1,5 @@
 //! Tests of the commands of the program: scripts, contests that are judged and served, hosts and stores.
+//! How rows of tests are written stands in `docs/PROVING.md`.
 #![tactic(auto)]
 
 #[cfg(test)]

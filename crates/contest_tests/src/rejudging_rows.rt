@@ -1,7 +1,7 @@
 //! Scripts of rejudgings, verification and the audit log, with what is written for them.
 
 /// Scripts, a row each: the name, behind `|` the text of the file of settings, or nothing where none is named, behind the
-/// next `|` the script, and behind `=>` what is written for it. `~` is a line feed and `^` a carriage return.
+/// next `|` the script, and behind `=>` what is written for it.
 pub const REJUDGINGS: &str = concat!(
     "apply_is_one_change||",
     "problem A 1~",

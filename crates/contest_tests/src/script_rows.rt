@@ -1,7 +1,7 @@
 //! Scripts of judgings, hosts, settings and lines, with what is written for them.
 
 /// Scripts, a row each: the name, behind `|` the text of the file of settings, or nothing where none is named, behind the
-/// next `|` the script, and behind `=>` what is written for it. `~` is a line feed and `^` a carriage return.
+/// next `|` the script, and behind `=>` what is written for it.
 pub const SCRIPTS: &str = concat!(
     "smallest_path||",
     "problem A 2~",

@@ -12,7 +12,7 @@ use std::thread::Threads;
 /// How many bytes a sink of these tests holds.
 const ROOM: usize = 65_536;
 
-/// Runs on one disk, one behind the other: words, the input, the status and the output. `~` is a line feed.
+/// Runs on one disk, one behind the other: words, the input, the status and the output.
 const RUNS: &str = concat!(
     "farm store s||0|\n",
     "farm script --store s --config none.json|show 1~|3|bad contest: no config~\n",

@@ -1,4 +1,5 @@
 //! Tests of the crates of the core, and of those that it stands on, over what these offer to others.
+//! How rows of tests are written stands in `docs/PROVING.md`.
 #![tactic(auto)]
 
 #[cfg(test)]

@@ -42,8 +42,8 @@ const CONTEST: &str = concat!(
 const READ: &str =
     "10000000 echo/2 guess/2 alpha:echo beta:echo gamma:echo delta:echo! alpha:guess beta:guess gamma:guess";
 
-/// What to change in these files, and what is then read: `PATH=TEXT` for a file with this text, in which `~` is a line
-/// feed and `^` a carriage return, and `PATH` alone for one that is left out. `READ` is what is read of them unchanged.
+/// What to change in these files, and what is then read: `PATH=TEXT` for a file with this text, and `PATH` alone for one
+/// that is left out. `READ` is what is read of them unchanged.
 const ROWS: &str = concat!(
     " => READ\n",
     // farm.json

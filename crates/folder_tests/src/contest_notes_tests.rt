@@ -19,7 +19,7 @@ const CONTEST: &str = concat!(
 );
 
 /// What to change in its files, and what a person is then told: `PATH=CONTENT` for a file that holds this, and `PATH` alone for
-/// one that is left out. `~` is a line end.
+/// one that is left out.
 const ROWS: &str = concat!(
     " => \n",
     // what is skipped, or otherwise than one may think

@@ -1,4 +1,5 @@
 //! Tests of the crates that read folders and make contests, and what tests of contests are made with.
+//! How rows of tests are written stands in `docs/PROVING.md`.
 #![tactic(auto)]
 
 #[cfg(test)]

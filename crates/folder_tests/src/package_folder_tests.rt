@@ -5,7 +5,7 @@ use std::alloc::Global;
 use std::test::Fail;
 
 /// The files of a package with two tests and the default validator, a line each: the path, and behind `|` what the file
-/// holds, in which `~` is a line feed.
+/// holds.
 const ECHO: &str = concat!(
     "p/problem.yaml|name: Echo~\n",
     "p/domjudge-problem.ini|timelimit='0.01'~\n",

@@ -19,8 +19,7 @@ fn entries(tree: &mut MemoryTree, path: &str) -> Result<usize, TreeErr> {
 }
 
 /// The files of the contest of number 1 with three problems and twenty submissions, a line each: the path, and behind `|`
-/// what the file holds, in which `~` is a line feed, or behind `#` its bytes in hexadecimal digits. The draws were worked
-/// out apart from the program.
+/// what the file holds. The draws were worked out apart from the program.
 const FILES: &str = concat!(
     "contest/problems/p2/problem.yaml|name: p2~limits:~  memory: 1~\n",
     "contest/problems/p2/domjudge-problem.ini|timelimit=0.01~\n",

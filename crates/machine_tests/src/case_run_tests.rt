@@ -100,7 +100,6 @@ const ELF: [u32; 23] = [
 
 /// The program, its input, the answer, what checks the output (the default validator, behind `-` with no flag and
 /// behind `tolerant` with a tolerance, or a validator behind `@`), and the limits of instructions, pages and output.
-/// `~` is a line feed, and `_` stands for nothing.
 const ROWS: &str = concat!(
     "exit _ _ - 2 1 0 => correct\n",
     "exit _ x - 2 1 0 => no-output\n",

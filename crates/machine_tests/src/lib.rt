@@ -1,4 +1,5 @@
 //! Tests of the crates that run a program and compare its output, over what these offer to others.
+//! How rows of tests are written stands in `docs/PROVING.md`.
 #![tactic(auto)]
 
 #[cfg(test)]

@@ -23,7 +23,7 @@ pub(crate) fn number(words: &str, at: usize) -> u32 {
     word(words, at).parse::<u32>().unwrap_or(u32::MAX)
 }
 
-/// The bytes that a part of a row stands for: its own, but a line feed for `~`.
+/// The bytes that a part of a row writes.
 pub(crate) fn bytes_of(alloc: Global, part: &str) -> Result<Vec<u8>, AllocError> {
     let mut bytes = Vec::new(alloc);
     for byte in part.bytes() {

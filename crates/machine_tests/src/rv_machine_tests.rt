@@ -5,8 +5,8 @@ use std::alloc::Global;
 use std::test::Fail;
 
 /// Programs that are run, a row each: the program, how many instructions, pages and bytes of output it may use, and what
-/// it reads; and how it ends, what it cost, how many pages it touched, and what it wrote. `~` is a line feed, and `_`
-/// stands for nothing. Behind `/` stand what the descriptors 3, 4 and 5 have.
+/// it reads; and how it ends, what it cost, how many pages it touched, and what it wrote. Behind `/` stand what the
+/// descriptors 3, 4 and 5 have.
 const ROWS: &str = concat!(
     // what instructions cost
     "exit 2 100 100 _ => exit 0 2 1 _\n",

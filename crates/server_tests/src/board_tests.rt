@@ -8,8 +8,8 @@ use std::sync::Wait;
 use std::test::Fail;
 use std::thread::Threads;
 
-/// What comes on a connection to a contest of one test and one submission, what is written of it, in which `~` is a line
-/// feed, and the responses, a line each. Requests and responses stand there by words.
+/// What comes on a connection to a contest of one test and one submission, what is written of it, and the responses, a line
+/// each. Requests and responses stand there by words.
 const TALKS: &str = concat!(
     "host fetch correct correct => conn 1 requests 4 end~1 correct~board 1~ => is-up handed counted repeat\n",
     "host other-host fetch correct other-wrong other-fetch other-host => conn 1 requests 7 end~1 correct~board 1~ => is-up other-is-up handed counted differs no-other-host other-is-up\n",

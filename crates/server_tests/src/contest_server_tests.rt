@@ -16,7 +16,7 @@ use std::test::Fail;
 use std::thread::Threads;
 
 /// The files of a contest of one test and one submission, whose image has 4 bytes, a line each: the path, and behind `|`
-/// what the file holds, in which `~` is a line feed.
+/// what the file holds.
 const ONE: &str = concat!(
     "c/problems/echo/problem.yaml|\n",
     "c/problems/echo/data/secret/01.in|7~\n",
@@ -108,7 +108,7 @@ pub(crate) fn serve_two<R: Threads + Wait + Sync, K: Sink>(
 }
 
 /// Two connections to a contest, and what is written, a line each: how many lanes there are and how many connections are
-/// served, behind each `|` what a connection says, by words, and behind `=>` the text, in which `~` is a line feed.
+/// served, behind each `|` what a connection says, by words, and behind `=>` the text.
 const ROWS: &str = concat!(
     "2 2|host fetch correct correct| => conn 1 requests 4 end~conn 2 requests 0 end~1 correct~board 1~\n",
     "1 2|host fetch cut|host fetch correct correct => conn 1 requests 2 cut~conn 2 requests 4 end~1 correct~board 1~\n",

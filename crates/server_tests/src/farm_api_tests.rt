@@ -91,7 +91,7 @@ const ASKED: &str = concat!(
     "POST /rejudgings/4/cancel| => cancel 4\n",
 );
 
-/// Requests that ask nothing, and the responses, in which `^` is a carriage return and `~` a line feed.
+/// Requests that ask nothing, and the responses.
 const REFUSED: &str = concat!(
     "GET /index.html| => HTTP/1.1 404 Not Found^~content-length: 20^~content-type: application/json^~^~{\"reply\":\"no-route\"}\n",
     "GET /board/| => HTTP/1.1 404 Not Found^~content-length: 20^~content-type: application/json^~^~{\"reply\":\"no-route\"}\n",

@@ -47,7 +47,7 @@ fn check_lines<S: Source>(
     Ok(())
 }
 
-/// Texts, and their lines as `read_all` shows them, a line each, in which `^` is a carriage return and `~` a line feed.
+/// Texts, and their lines as `read_all` shows them, a line each.
 const TEXTS: &str = concat!(
     " => \n",
     "a => a|\n",

@@ -116,11 +116,11 @@ fn read_all<S: Source>(alloc: Global, source: &mut S) -> Result<Vec<u8>, NoMemor
     Ok(shown)
 }
 
-/// The text in which a piece between `<` and `>`, as `<ab*3>`, stands as often as the number says.
+/// The text in which a piece between `«` and `»` stands as often as the number behind it says.
 fn unrolled(alloc: Global, text: &str) -> Result<String, AllocError> {
-    let (prefix, rest) = text.split_once('<').unwrap_or((text, ""));
+    let (prefix, rest) = text.split_once('«').unwrap_or((text, ""));
     let (piece, rest) = rest.split_once('*').unwrap_or(("", rest));
-    let (count, back) = rest.split_once('>').unwrap_or(("", rest));
+    let (count, back) = rest.split_once('»').unwrap_or(("", rest));
     let mut long = String::from_str(alloc, prefix)?;
     for _ in 0..count.parse::<u32>().unwrap_or(0) {
         long.push_str(piece)?;
@@ -129,7 +129,7 @@ fn unrolled(alloc: Global, text: &str) -> Result<String, AllocError> {
     Ok(long)
 }
 
-/// The bytes that a text writes, in which `^` is a carriage return, `~` a line feed, and `<ab*3>` is `ababab`.
+/// The bytes that a part of a row writes.
 fn long_bytes_of(alloc: Global, text: &str) -> Result<Vec<u8>, AllocError> {
     bytes_of(alloc, unrolled(alloc, text)?.as_str())
 }
@@ -168,12 +168,12 @@ const TEXTS: &str = concat!(
 /// Lines as those of `TEXTS`: heads of 64 and 65 fields, heads of 16,384 and 16,385 bytes, and as many without a line
 /// feed.
 const LONG: &str = concat!(
-    "GET / HTTP/1.1^~<a: b^~*64>^~ => GET / keep |end end end \n",
-    "GET / HTTP/1.1^~<a: b^~*65>^~ => bad-head bad-head bad-head \n",
-    "GET / HTTP/1.1^~a: <x*16361>^~^~ => GET / keep |end end end \n",
-    "GET / HTTP/1.1^~a: <x*16362>^~^~ => head-too-long head-too-long head-too-long \n",
-    "GET /<x*16379> => head-too-long head-too-long head-too-long \n",
-    "GET /<x*16378> => cut cut cut \n",
+    "GET / HTTP/1.1^~«a: b^~*64»^~ => GET / keep |end end end \n",
+    "GET / HTTP/1.1^~«a: b^~*65»^~ => bad-head bad-head bad-head \n",
+    "GET / HTTP/1.1^~a: «x*16361»^~^~ => GET / keep |end end end \n",
+    "GET / HTTP/1.1^~a: «x*16362»^~^~ => head-too-long head-too-long head-too-long \n",
+    "GET /«x*16379» => head-too-long head-too-long head-too-long \n",
+    "GET /«x*16378» => cut cut cut \n",
 );
 
 /// Compares what is read of bytes that come in this way.
@@ -485,7 +485,7 @@ const REFUSED: &str = concat!(
     "GET^~^~ => HTTP/1.1 400 Bad Request^~content-length: 20^~content-type: application/json^~^~{\"reply\":\"bad-head\"}\n",
     "PUT / HTTP/1.1^~content-length: 33554433^~^~ => HTTP/1.1 413 Payload Too Large^~content-length: 25^~content-type: application/json^~^~{\"reply\":\"body-too-long\"}\n",
     "POST / HTTP/1.1^~^~ => HTTP/1.1 411 Length Required^~content-length: 21^~content-type: application/json^~^~{\"reply\":\"no-length\"}\n",
-    "<~*16384> => HTTP/1.1 431 Request Header Fields Too Large^~content-length: 25^~content-type: application/json^~^~{\"reply\":\"head-too-long\"}\n",
+    "«~*16384» => HTTP/1.1 431 Request Header Fields Too Large^~content-length: 25^~content-type: application/json^~^~{\"reply\":\"head-too-long\"}\n",
 );
 
 /// Why what comes is refused, if it is.

@@ -1,4 +1,5 @@
 //! Tests of streams, of doors and of the server: the crates that take and answer connections.
+//! How rows of tests are written stands in `docs/PROVING.md`.
 #![tactic(auto)]
 
 #[cfg(test)]

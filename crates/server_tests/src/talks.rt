@@ -9,8 +9,7 @@ use std::alloc::{AllocError, Global};
 use std::net::{IpAddr, Ipv4Addr};
 use std::process::Abort;
 
-/// Requests, parts of requests and responses, a line each: the word, and the text, in which `^` is a carriage return and
-/// `~` a line feed.
+/// Requests, parts of requests and responses, a line each: the word, and the text.
 const TEXTS: &str = concat!(
     "host => POST /judgehosts HTTP/1.1^~host: x^~content-length: 17^~^~{\"hostname\":\"h1\"}\n",
     "other-host => POST /judgehosts HTTP/1.1^~host: x^~content-length: 17^~^~{\"hostname\":\"h2\"}\n",
@@ -77,7 +76,7 @@ fn text_of(word: &str) -> &'static str {
     "?"
 }
 
-/// The bytes that a text writes, in which `^` is a carriage return and `~` a line feed.
+/// The bytes that a part of a row writes.
 pub(crate) fn bytes_of(alloc: Global, text: &str) -> Result<Vec<u8>, AllocError> {
     let text = text.replace(alloc, '~', "\n")?;
     Ok(text.replace(alloc, '^', "\r")?.into_bytes())

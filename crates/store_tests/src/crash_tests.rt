@@ -13,8 +13,7 @@ const CONFIG: [u8; 32] = [7; 32];
 /// How many calls of the disk the rows below take: 54 writes and syncs, and 46 others.
 const CALLS: u64 = 100;
 
-/// Lines of a rejudging, a row each, and behind `=>` the board once the line and those before it were answered. `~` is a
-/// line feed.
+/// Lines of a rejudging, a row each, and behind `=>` the board once the line and those before it were answered.
 const ROWS: &str = concat!(
     "problem A 1=>board 0~\n",
     "submit A=>1 pending~board 1~\n",

@@ -1,4 +1,5 @@
 //! Tests of stores, over disks in memory.
+//! How rows of tests are written stands in `docs/PROVING.md`.
 #![tactic(auto)]
 
 #[cfg(test)]

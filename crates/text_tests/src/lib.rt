@@ -1,4 +1,5 @@
 //! Tests of the crates that read and write texts: lines, the words of the command line, settings and JSON.
+//! How rows of tests are written stands in `docs/PROVING.md`.
 #![tactic(auto)]
 
 #[cfg(test)]

@@ -71,7 +71,7 @@ pub(crate) fn yaml_told(alloc: Global, text: &[u8]) -> Result<Vec<u8>, NoMemory>
 /// Texts of `problem.yaml` and what is told of them: lines.
 const LINES: &str = concat!(
     " => default 64 8 |||\n",
-    "\u{feff}---\r~name: a\r~ => default 64 8 |a||\n",
+    "\u{feff}---^~name: a^~ => default 64 8 |a||\n",
     "~---~ => 2 no-colon\n",
     "--- ~ => 1 no-colon\n",
     "  # c~   ~name: a => default 64 8 |a||\n",
@@ -103,7 +103,7 @@ const VALUES: &str = concat!(
     "name: a# b => default 64 8 |a# b||\n",
     "name: a: b => default 64 8 |a: b||\n",
     "name: # a => default 64 8 |||\n",
-    "name: ^\0 => default 64 8 |^\0||\n",
+    "name: $\0 => default 64 8 |$\0||\n",
     "name: 'It''s' # c => default 64 8 |It's||\n",
     "name: '' => default 64 8 |||\n",
     "name: ''''  => default 64 8 |'||\n",
@@ -239,7 +239,7 @@ const LIMITS: &str = concat!(
     "timelimit=1.2.3 => line 1\n",
     "timelimit=007.5 => 7500\n",
     "timelimit=0.05 => 50\n",
-    "  timelimit  =  1.5  \r~ => 1500\n",
+    "  timelimit  =  1.5  ^~ => 1500\n",
     "\u{feff}timelimit = \"1.5\" => 1500\n",
     "timelimit = '2' => 2000\n",
     "timelimit = '2\" => line 1\n",

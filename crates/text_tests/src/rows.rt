@@ -4,8 +4,7 @@ use farm_kinds::{NoMemory, Text};
 use std::alloc::{AllocError, Global};
 use std::process::Abort;
 
-/// The bytes that a part of a row stands for: its own, but a line feed for `~`, the byte 255 for `^`, and `ababab` for
-/// `«ab*3»`.
+/// The bytes that a part of a row writes.
 pub(crate) fn bytes_of(alloc: Global, part: &str) -> Result<Vec<u8>, AllocError> {
     let mut bytes = Vec::new(alloc);
     for piece in part.split('«') {
@@ -41,7 +40,8 @@ fn meant_of(alloc: Global, text: &str) -> Result<Vec<u8>, AllocError> {
 fn meant(byte: u8) -> u8 {
     match byte {
         b'~' => b'\n',
-        b'^' => 0xff,
+        b'^' => b'\r',
+        b'$' => 0xff,
         _ => byte,
     }
 }
