@@ -815,6 +815,37 @@ def comes_back(program, folder):
         yield "and is given more", got[0] == 200 and (got[1]["judging"], got[1]["test"]) == (1, 2), got
 
 
+def one_by_one(program, folder):
+    """Each request is answered before the next one is sent, over one connection."""
+    with Server(program, folder, lanes=1, connections=1) as server, server.connect() as conn:
+        answers = []
+        for text in (b"GET /judgements/1 HTTP/1.1\r\nhost: x\r\n\r\n", BOARD, BOARD):
+            conn.sendall(text)
+            answers.append(conn.recv(65536))
+        good = all(answer.startswith(b"HTTP/1.1 200 OK\r\n") for answer in answers)
+        yield "an answer to each request, before the next is sent", good, answers
+
+
+def time_goes_on(program, _):
+    """While a connection stays open, the clock goes on: a lease ends, and a later one ends later."""
+    with tempfile.TemporaryDirectory() as folder:
+        write(folder, ONE_TEST | {"farm.json": '{"lease": 1}'})
+        with Server(program, folder, lanes=1, connections=1) as server:
+            client = server.client()
+            for name in ("h1", "h2"):
+                ask(client, "POST", "/judgehosts", {"hostname": name})
+            first = ask(client, "POST", "/judgehosts/fetch-work", {"hostname": "h1"})[1]
+            held = ask(client, "POST", "/judgehosts/fetch-work", {"hostname": "h2"})[1]
+            time.sleep(2.1)
+            late = ask(client, "POST", "/judgehosts/renew", {"hostname": "h1", "judging": 1, "test": 1})
+            later = ask(client, "POST", "/judgehosts/fetch-work", {"hostname": "h2"})[1]
+            client.close()
+            yield "a lease that is held", (first["reply"], held["reply"]) == ("task", "nothing"), (first, held)
+            yield "a lease ends while a connection stays open", late == (409, {"reply": "no-lease"}), late
+            good = later["reply"] == "task" and later["until"] >= first["until"] + 2
+            yield "and its task is handed out until later", good, (first, later)
+
+
 def ends(program, folder):
     """The ends of the program."""
     with socket.socket() as taken:
@@ -847,8 +878,8 @@ def main():
     with tempfile.TemporaryDirectory() as folder:
         write(folder, FILES)
         looks = [look(program, folder) for look in (
-            talks, whole_connections, exact_bytes, batches, cut_anywhere, comes_back, hostile, killed, aborted, large, silent, lanes,
-            stuck, public, public_by_many, crowds, among_many, ends)]
+            talks, whole_connections, exact_bytes, batches, cut_anywhere, one_by_one, time_goes_on, comes_back, hostile, killed,
+            aborted, large, silent, lanes, stuck, public, public_by_many, crowds, among_many, ends)]
         for some in [*looks, page(program)]:
             for name, good, got in some:
                 print(f"{'ok  ' if good else 'NOT '} {name}{'' if good else f': {got!r}'}")
