@@ -1,5 +1,5 @@
 -- What one turn of a connection does.
-use Rattle.std.proofs.Common.{ℕ, ◌≡◌, ◌+◌, ◌≤◌, inl, inr, List, [], ◌∷◌, ◌++◌, false, Option, Some, None, refl, sym, ap, ◌∙◌, subst, arith, length, take, append_assoc, IsUtf8}
+use Rattle.std.proofs.Common.{ℕ, ◌≡◌, ◌+◌, ◌≤◌, inl, inr, List, [], ◌∷◌, ◌++◌, false, Option, Some, None, Ok, Err, refl, sym, ap, ◌∙◌, subst, arith, length, take, append_assoc, IsUtf8}
 use Rattle.std.specs.Io.KnownBytes.{Appends}
 use Rattle.std.proofs.lemmas.List.{append-nil, length-append, map-append}
 use Rattle.std.proofs.lemmas.List.Elements.{All-push, All-nil}
@@ -10,12 +10,10 @@ use Rattle.farm_io.specs.Beside.{Side, side}
 use Rattle.http_door.specs.declared.ending.Ending.{Ending}
 use Rattle.http_door.specs.declared.ending.Ending.TheVariants as ending
 use Rattle.http_door.specs.declared.reader.Head.{Head}
-use Rattle.http_door.specs.declared.reader.Next.{Next}
-use Rattle.http_door.specs.declared.reader.Next.TheVariants as next
 use Rattle.http_door.specs.Requests.{Request, IsRequest, AreRequests, EndsAs}
 use Rattle.http_door.specs.Finding.{IsEndOf}
 use Rattle.http_door.specs.ReaderValue.{ReaderValue}
-use Rattle.http_door.specs.Reading.{request_with, next_of, Reads, Gives, LeavesAll, EndsWith, IsEndFor, HasCauseNext}
+use Rattle.http_door.specs.Reading.{request_with, Reads, IsEndFor, HasCauseNext}
 use Rattle.http_door.proofs.Cutting.{requests_more, requests_then}
 use Rattle.farm_api.specs.declared.ends.ConnHow.{ConnHow}
 use Rattle.farm_api.specs.declared.ends.ConnHow.TheVariants as how
@@ -65,7 +63,7 @@ entered_none : {A : Type 0} (step : A → Entered → A → Type 0) (a b : A) (x
 entered_none step a b xs x = subst (λ (zs : List Entered). AreEntered step a zs b) (sym (append-nil xs)) x
 
 pub turned_request : {A : Type 0} (step : A → Entered → A → Type 0) (around : Around) (a a' : A) (left left' held held' : Option (List ℕ)) (old new : ReaderValue) (h : Head) (out : Option ConnHow)
-    → Reads left left' old new (next.Request h) → OneAnswered step around a a' (request_with h new.body) held held' out
+    → Reads left left' old new (Ok h) → OneAnswered step around a a' (request_with h new.body) held held' out
     → Turned step around (record { state = a; left = left; held = held; ahead = old.ahead; taken = old.taken }) (record { state = a'; left = left'; held = held'; ahead = new.ahead; taken = new.taken }) out
 turned_request step around a a' left left' held held' old new h None x y = λ b n u. record {
   answered = u.answered ++ y.0 ∷ [];
@@ -147,18 +145,6 @@ turned_request step around a a' left left' held held' old new h (Some how.BadReq
 turned_request step around a a' left left' held held' old new h (Some how.ReadFault) x y = absurd y
 turned_request step around a a' left left' held held' old new h (Some how.InputLimit) x y = absurd y
 
--- where no request is given, all is left
-pub gives_end : (bytes rest body : List ℕ) (e : Ending) → Gives bytes rest body (next_of e) → LeavesAll e bytes rest
-gives_end bytes rest body ending.End x = x
-gives_end bytes rest body ending.Cut x = x
-gives_end bytes rest body ending.BadHead x = x
-gives_end bytes rest body (ending.HeadTooLong n) x = x
-gives_end bytes rest body (ending.BodyTooLong n) x = x
-gives_end bytes rest body ending.NoLength x = x
-gives_end bytes rest body ending.ReadFault x = x
-gives_end bytes rest body ending.InputLimit x = x
-gives_end bytes rest body ending.NoMemory x = x
-
 at_end : (e f : Ending) (bytes : List ℕ) → e ≡ f → EndsAs e bytes → EndsAs f bytes
 at_end e f bytes is x = subst (λ (z : Ending). EndsAs z bytes) is x
 
@@ -214,7 +200,7 @@ bytes_at : (e : Ending) (start old new : ℕ) (all prefix : List ℕ) → old �
 bytes_at e start old new all prefix x y l is = sym (more_bytes start old new all prefix x y) ∙ l is
 
 pub turned_end : {A : Type 0} (step : A → Entered → A → Type 0) (around : Around) (a : A) (left left' held held' : Option (List ℕ)) (old new : ReaderValue) (e : Ending) (h : ConnHow)
-    → Reads left left' old new (next_of e) → IsEndOf e left' → (e ≡ ending.InputLimit → new.taken ≡ input_limit) → PutsEnd held held' e h
+    → Reads left left' old new (Err e) → IsEndOf e left' → (e ≡ ending.InputLimit → new.taken ≡ input_limit) → PutsEnd held held' e h
     → Turned step around (record { state = a; left = left; held = held; ahead = old.ahead; taken = old.taken }) (record { state = a; left = left'; held = held'; ahead = new.ahead; taken = new.taken }) (Some h)
 turned_end step around a left left' held held' old new e h x end limit z = λ b n u. record {
   answered = u.answered;
@@ -230,25 +216,13 @@ turned_end step around a left left' held held' old new e h x end limit z = λ b 
   wrote = wrote_end b.held held held' (all_text u.answered) e h z u.wrote;
   staying = λ _. u.staying;
   ends = ends_of around u.answered (old.ahead ++ x.prefix) (b.taken + length (u.all ++ x.prefix)) left' held held' e h z
-      (gives_end (old.ahead ++ x.prefix) new.ahead new.body e x.gives).0 end
+      x.gives.0 end
       (bytes_at e b.taken old.taken new.taken u.all x.prefix u.bytes x.count limit);
 }
 
 -- the target of a request is UTF-8
 pub target_text : (bytes : List ℕ) (h : Head) (body rest : List ℕ) → IsRequest bytes (request_with h body) rest → IsUtf8 h.target
 target_text bytes h body rest x = subst IsUtf8 (sym (ap (λ (r : Request). r.target) x.is)) x.is_head.reads.0.target_text
-
--- a reader that gave no request has ended so
-ended_as : (e : Ending) (now : Option Ending) → EndsWith (next_of e) now → now ≡ Some e
-ended_as ending.End now x = x
-ended_as ending.Cut now x = x
-ended_as ending.BadHead now x = x
-ended_as (ending.HeadTooLong n) now x = x
-ended_as (ending.BodyTooLong n) now x = x
-ended_as ending.NoLength now x = x
-ended_as ending.ReadFault now x = x
-ended_as ending.InputLimit now x = x
-ended_as ending.NoMemory now x = x
 
 end_from : (was now : Option Ending) (e : Ending) (left left' : Option (List ℕ)) → was ≡ None → now ≡ Some e → (IsEndFor was left → IsEndFor now left') → IsEndOf e left'
 end_from was now e left left' w n h =
@@ -264,25 +238,22 @@ pub faults_beside : {N : Type 0} (beside : N → Side) (bytes : N → Option (Li
     → ((n : N) → beside n ≡ side (bytes n) (faults n)) → beside new ≡ beside old → faults new ≡ faults old
 faults_beside beside bytes faults old new is kept = ap (λ (s : Side). s.faults) (sym (is new) ∙ kept ∙ is old)
 
-pub turned_request_on : {A : Type 0} (step : A → Entered → A → Type 0) (around : Around) (a a' : A) (left mid left' held held1 held' : Option (List ℕ)) (old new : ReaderValue) (n : Next) (h : Head) (body : List ℕ) (out : Option ConnHow)
-    → left' ≡ mid → held1 ≡ held → body ≡ new.body → n ≡ next.Request h → Reads left mid old new n → OneAnswered step around a a' (request_with h body) held1 held' out
+pub turned_request_on : {A : Type 0} (step : A → Entered → A → Type 0) (around : Around) (a a' : A) (left mid left' held held1 held' : Option (List ℕ)) (old new : ReaderValue) (h : Head) (body : List ℕ) (out : Option ConnHow)
+    → left' ≡ mid → held1 ≡ held → body ≡ new.body → Reads left mid old new (Ok h) → OneAnswered step around a a' (request_with h body) held1 held' out
     → Turned step around (record { state = a; left = left; held = held; ahead = old.ahead; taken = old.taken }) (record { state = a'; left = left'; held = held'; ahead = new.ahead; taken = new.taken }) out
-turned_request_on step around a a' left mid left' held held1 held' old new n h body out l k b is x y =
-    turned_request step around a a' left left' held held' old new h out
-    (subst (λ (z : Option (List ℕ)). Reads left z old new (next.Request h)) (sym l) (subst (λ (z : Next). Reads left mid old new z) is x))
+turned_request_on step around a a' left mid left' held held1 held' old new h body out l k b x y =
+    turned_request step around a a' left left' held held' old new h out (subst (λ (z : Option (List ℕ)). Reads left z old new (Ok h)) (sym l) x)
     (subst (λ (z : Option (List ℕ)). OneAnswered step around a a' (request_with h new.body) z held' out) k
     (subst (λ (z : List ℕ). OneAnswered step around a a' (request_with h z) held1 held' out) b y))
 
-pub turned_end_on : {A : Type 0} (step : A → Entered → A → Type 0) (around : Around) (a : A) (left mid left' held held1 held' : Option (List ℕ)) (old new : ReaderValue) (n : Next) (e : Ending) (h : ConnHow)
-    → left' ≡ mid → held1 ≡ held → n ≡ next_of e → old.ended ≡ None → Reads left mid old new n → EndsWith n new.ended
-    → (IsEndFor old.ended left → IsEndFor new.ended mid) → (n ≡ next.InputLimit → old.ended ≡ None → new.taken ≡ input_limit) → PutsEnd held1 held' e h
+pub turned_end_on : {A : Type 0} (step : A → Entered → A → Type 0) (around : Around) (a : A) (left mid left' held held1 held' : Option (List ℕ)) (old new : ReaderValue) (e : Ending) (h : ConnHow)
+    → left' ≡ mid → held1 ≡ held → old.ended ≡ None → Reads left mid old new (Err e) → new.ended ≡ Some e
+    → (IsEndFor old.ended left → IsEndFor new.ended mid) → (e ≡ ending.InputLimit → new.taken ≡ input_limit) → PutsEnd held1 held' e h
     → Turned step around (record { state = a; left = left; held = held; ahead = old.ahead; taken = old.taken }) (record { state = a; left = left'; held = held'; ahead = new.ahead; taken = new.taken }) (Some h)
-turned_end_on step around a left mid left' held held1 held' old new n e h l k is going x ends ended limit y =
-    turned_end step around a left left' held held' old new e h
-    (subst (λ (z : Option (List ℕ)). Reads left z old new (next_of e)) (sym l) (subst (λ (z : Next). Reads left mid old new z) is x))
-    (subst (λ (z : Option (List ℕ)). IsEndOf e z) (sym l)
-    (end_from old.ended new.ended e left mid going (ended_as e new.ended (subst (λ (z : Next). EndsWith z new.ended) is ends)) ended))
-    (λ f. limit (is ∙ ap next_of f) going)
+turned_end_on step around a left mid left' held held1 held' old new e h l k going x ends ended limit y =
+    turned_end step around a left left' held held' old new e h (subst (λ (z : Option (List ℕ)). Reads left z old new (Err e)) (sym l) x)
+    (subst (λ (z : Option (List ℕ)). IsEndOf e z) (sym l) (end_from old.ended new.ended e left mid going ends ended))
+    limit
     (subst (λ (z : Option (List ℕ)). PutsEnd z held' e h) k y)
 
 -- Causes
@@ -308,13 +279,13 @@ cause_request step around a b r held held' out read0 read1 read2 write0 write1 w
   write_failed = λ is. subst (λ (n : ℕ). Rose n write2) kept (rose is);
 }
 
-pub cause_end : (held held' : Option (List ℕ)) (n : Next) (e : Ending) (h : ConnHow) (was : Option Ending) (read0 read1 read2 write0 write1 write2 : ℕ)
-    → PutsEnd held held' e h → n ≡ next_of e → was ≡ None → HasCauseNext was read0 read1 n → read2 ≡ read1 → write1 ≡ write0 → write1 ≤ write2 → (h ≡ how.WriteFault → Rose write1 write2)
+pub cause_end : (held held' : Option (List ℕ)) (e : Ending) (h : ConnHow) (was : Option Ending) (read0 read1 read2 write0 write1 write2 : ℕ)
+    → PutsEnd held held' e h → was ≡ None → HasCauseNext was read0 read1 (Err e) → read2 ≡ read1 → write1 ≡ write0 → write1 ≤ write2 → (h ≡ how.WriteFault → Rose write1 write2)
     → HasCauseServed read0 read2 write0 write2 (Some h)
-cause_end held held' n e h was read0 read1 read2 write0 write1 write2 y is going cause same kept more rose = record {
+cause_end held held' e h was read0 read1 read2 write0 write1 write2 y going cause same kept more rose = record {
   read_later = omega (arith, cause.later, same);
   write_later = omega (arith, kept, more);
-  read_failed = λ q. subst (λ (z : ℕ). Rose read0 z) (sym same) (cause.failed going (is ∙ ap next_of (fault_of held held' e h y q)));
+  read_failed = λ q. subst (λ (z : ℕ). Rose read0 z) (sym same) (cause.failed going (ap Err (fault_of held held' e h y q)));
   write_failed = λ q. subst (λ (z : ℕ). Rose z write2) kept (rose (some_how h how.WriteFault q));
 }
 

@@ -7,14 +7,10 @@ use Rattle.farm_io.specs.Lines.{input_limit}
 use Rattle.farm_io.specs.Streams.{Rose}
 use Rattle.http_door.specs.declared.ending.Ending.{Ending}
 use Rattle.http_door.specs.declared.ending.Ending.TheVariants as ending
-use Rattle.http_door.specs.declared.reader.Head.{Head}
-use Rattle.http_door.specs.declared.reader.Next.{Next}
-use Rattle.http_door.specs.declared.reader.Next.TheVariants as next
 use Rattle.http_door.specs.declared.refusals.Refusal.{Refusal}
 use Rattle.http_door.specs.declared.responses.ResponseFault.{ResponseFault}
 use Rattle.http_door.specs.declared.responses.ResponseFault.TheVariants as fault
 use Rattle.http_door.specs.Requests.{Request, IsRequest, AreRequests, EndsAs, IsRefusal}
-use Rattle.http_door.specs.Reading.{next_of}
 use Rattle.http_door.specs.Refusals.{refusal_of, refusal_status, refusal_body}
 use Rattle.http_door.specs.Responses.{response_text}
 use Rattle.farm_api.specs.declared.asking.Asked.{Asked}
@@ -114,12 +110,7 @@ response_at (Some q) = refusal_response q
 
 -- the fixed response that belongs to an end, if one does
 abbrev pub end_response : Ending → List ℕ
-end_response e = response_at (refusal_of (next_of e))
-
--- a request, or why there is none
-abbrev pub given_as : Result Head Ending → Next
-given_as (Ok h) = next.Request h
-given_as (Err e) = next_of e
+end_response e = response_at (refusal_of e)
 
 -- a refusal was put, or a prefix of it, or nothing
 abbrev pub Refuses : Option (List ℕ) → Option (List ℕ) → List ℕ → ConnHow → Type 0

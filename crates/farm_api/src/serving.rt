@@ -6,7 +6,7 @@ ghost use Rattle.http_door.specs.Reading.{request_with};
 ghost use Rattle.http_door.specs.ReaderValue.{budget};
 ghost use Rattle.farm_api.specs.Entering.{AreEntered};
 ghost use Rattle.farm_api.specs.Exchanges.{around_of, giving};
-ghost use Rattle.farm_api.specs.Serving.{PutsAnswer, close_or, how_after, OneAnswered, refusal_response, given_as, Refuses, PutsEnd, untaken, Turned, IsServed, answered_count, HasCauseServed};
+ghost use Rattle.farm_api.specs.Serving.{PutsAnswer, close_or, how_after, OneAnswered, refusal_response, Refuses, PutsEnd, untaken, Turned, IsServed, answered_count, HasCauseServed};
 
 use crate::answering::{answer_fault, answer_reply};
 use crate::asking::{Asked, RequestFault, read_request};
@@ -16,7 +16,7 @@ use crate::paths::Paths;
 use crate::replier::{Replier, enter};
 use crate::showing::{answer_contest, answer_page};
 use farm_io::{Clock, Peer, Sink, Source};
-use http_door::{Ending, Head, HttpReader, Next, Refusal, ResponseFault, write_response};
+use http_door::{Ending, Head, HttpReader, Refusal, ResponseFault, write_response};
 use std::alloc::Global;
 use wire_json::BodyFault;
 
@@ -153,24 +153,6 @@ fn end_with<K: Sink>(alloc: Global, sink: &mut K, ending: Ending) -> ConnHow
     }
 }
 
-/// The head of the next request, or why there is none.
-fn head_of(next: Next) -> Result<Head, Ending>
-    ensures { next ≡ given_as result }
-{
-    match next {
-        Next::Request(head) => Ok(head),
-        Next::End => Err(Ending::End),
-        Next::Cut => Err(Ending::Cut),
-        Next::BadHead => Err(Ending::BadHead),
-        Next::HeadTooLong { len } => Err(Ending::HeadTooLong { len }),
-        Next::BodyTooLong { len } => Err(Ending::BodyTooLong { len }),
-        Next::NoLength => Err(Ending::NoLength),
-        Next::ReadFault => Err(Ending::ReadFault),
-        Next::InputLimit => Err(Ending::InputLimit),
-        Next::NoMemory => Err(Ending::NoMemory),
-    }
-}
-
 /// Reads one request and answers it, or says how the connection ends.
 fn serve_request<A: Replier, C: Clock, N: Source + Sink + Peer>(
     alloc: Global,
@@ -197,7 +179,7 @@ fn serve_request<A: Replier, C: Clock, N: Source + Sink + Peer>(
     ensures cause { HasCauseServed (N.Source.faults conn.old) (N.Source.faults conn.new)
         (N.Sink.faults conn.old) (N.Sink.faults conn.new) result }
 {
-    match head_of(reader.next_request(conn)) {
+    match reader.next_request(conn) {
         Ok(head) => {
             let closing = conn.is_asked_to_close();
             answer_one(

@@ -1,5 +1,5 @@
 -- A request that is given, as the first of those of the bytes.
-use Rattle.std.proofs.Common.{ℕ, ◌≡◌, ◌+◌, ◌-◌, ◌≤◌, ◌<◌, List, [], ◌++◌, Bool, Option, Some, IfSome, refl, sym, ap, ◌∙◌, subst, arith, length, take, drop}
+use Rattle.std.proofs.Common.{ℕ, ◌≡◌, ◌+◌, ◌-◌, ◌≤◌, ◌<◌, List, [], ◌++◌, Bool, Option, Some, IfSome, Err, refl, sym, ap, ◌∙◌, subst, arith, length, take, drop}
 use Rattle.std.proofs.lemmas.List.{append-nil, take-append-drop, length-take, length-drop, length-append}
 use Rattle.http_door.specs.declared.fields.Framing.TheVariants as framing
 use Rattle.http_door.specs.declared.finding.Whole.{Whole}
@@ -12,11 +12,8 @@ use Rattle.http_door.specs.WindowValue.{WindowValue, Fills}
 use Rattle.std.proofs.KnownBytes.{Consumes-nil}
 use Rattle.farm_io.specs.Lines.{input_limit}
 use Rattle.http_door.specs.declared.ending.Ending.{Ending}
-use Rattle.http_door.specs.declared.ending.Ending.TheVariants as ending
-use Rattle.http_door.specs.declared.reader.Next.{Next}
-use Rattle.http_door.specs.declared.reader.Next.TheVariants as next
-use Rattle.http_door.specs.ReaderValue.{ReaderValue, budget, IsReadable}
-use Rattle.http_door.specs.Reading.{next_of, request_with, LeavesAll, GivesIn, Gives, ReadsIn, Reads, IsRequestGiven}
+use Rattle.http_door.specs.ReaderValue.{ReaderValue, IsReadable}
+use Rattle.http_door.specs.Reading.{request_with, LeavesAll, GivesIn, ReadsIn, Reads}
 use Rattle.http_door.proofs.Cutting.{request_some}
 
 same_request : (m n t u : List ℕ) (c d : Bool) (body : List ℕ) → m ≡ n → t ≡ u → c ≡ d
@@ -52,62 +49,32 @@ reads_request l1 l2 old w new bytes whole h f x is e n =
       gives = subst (λ (z : List ℕ). GivesIn z (drop whole.seen.len w.ahead) (given.Request h whole.len)) f.whole (request_given w.ahead whole h x (rw is at e));
     })
 
-gives_some : (bytes rest body : List ℕ) (r : Next) → Gives bytes rest body r → IsRequestGiven r → length rest < length bytes
-gives_some bytes rest body (next.Request h) x k = request_some bytes (request_with h body) rest x
-gives_some bytes rest body next.End x k = absurd k
-gives_some bytes rest body next.Cut x k = absurd k
-gives_some bytes rest body next.BadHead x k = absurd k
-gives_some bytes rest body (next.HeadTooLong n) x k = absurd k
-gives_some bytes rest body (next.BodyTooLong n) x k = absurd k
-gives_some bytes rest body next.NoLength x k = absurd k
-gives_some bytes rest body next.ReadFault x k = absurd k
-gives_some bytes rest body next.InputLimit x k = absurd k
-gives_some bytes rest body next.NoMemory x k = absurd k
-
 -- each request brings the end nearer
-pub budget_falls : (l1 l2 : Option (List ℕ)) (old new : ReaderValue) (r : Next) → Reads l1 l2 old new r → new.taken ≤ input_limit → IsRequestGiven r → budget new < budget old
-budget_falls l1 l2 old new r x few k =
-    omega (arith, gives_some (old.ahead ++ x.prefix) new.ahead new.body r x.gives k, x.count, few, length-append old.ahead x.prefix)
-
--- the same over a window
 pub falls_in : (l1 l2 : Option (List ℕ)) (old new : WindowValue) (h : Head) (n : ℕ) → ReadsIn l1 l2 old new (given.Request h n) → new.taken ≤ input_limit
     → (input_limit - new.taken) + length (drop n new.ahead) < (input_limit - old.taken) + length old.ahead
 falls_in l1 l2 old new h n x few =
     omega (arith, request_some (old.ahead ++ x.prefix) (request_with h (take n new.ahead)) (drop n new.ahead) x.gives.1, x.count, few, length-append old.ahead x.prefix)
 
--- an end leaves all the bytes
-pub leaves_all : (e : Ending) (bytes rest body : List ℕ) → LeavesAll e bytes rest → Gives bytes rest body (next_of e)
-leaves_all ending.End bytes rest body h = h
-leaves_all ending.Cut bytes rest body h = h
-leaves_all ending.BadHead bytes rest body h = h
-leaves_all (ending.HeadTooLong n) bytes rest body h = h
-leaves_all (ending.BodyTooLong n) bytes rest body h = h
-leaves_all ending.NoLength bytes rest body h = h
-leaves_all ending.ReadFault bytes rest body h = h
-leaves_all ending.InputLimit bytes rest body h = h
-leaves_all ending.NoMemory bytes rest body h = h
-
 ended_at : (r : ReaderValue) (e : Ending) → r.ended ≡ Some e → IsReadable r → EndsAs e r.ahead
 ended_at r e is h = let P : Option Ending → Type 0 = λ o. IfSome o (λ x. EndsAs x r.ahead) in subst P is h.ends
 
 -- a reader that has ended reads nothing more
-pub reads_ended : (left : Option (List ℕ)) (r : ReaderValue) (e : Ending) → r.ended ≡ Some e → IsReadable r → Reads left left r r (next_of e)
+pub reads_ended : (left : Option (List ℕ)) (r : ReaderValue) (e : Ending) → r.ended ≡ Some e → IsReadable r → Reads left left r r (Err e)
 reads_ended left r e is h =
     let none : r.ahead ++ [] ≡ r.ahead = append-nil r.ahead in
     record {
       prefix = [];
       took = Consumes-nil left;
       count = omega arith;
-      gives = leaves_all e (r.ahead ++ []) r.ahead r.body (subst (EndsAs e) (sym none) (ended_at r e is h), sym none);
+      gives = (subst (EndsAs e) (sym none) (ended_at r e is h), sym none);
     }
 
 -- the end of a window is that of its reader
 pub reads_end : (l1 l2 : Option (List ℕ)) (old new : ReaderValue) (v w : WindowValue) (e : Ending) → ReadsIn l1 l2 v w (given.Ended e)
-    → v.ahead ≡ old.ahead → v.taken ≡ old.taken → w.ahead ≡ new.ahead → w.taken ≡ new.taken → Reads l1 l2 old new (next_of e)
+    → v.ahead ≡ old.ahead → v.taken ≡ old.taken → w.ahead ≡ new.ahead → w.taken ≡ new.taken → Reads l1 l2 old new (Err e)
 reads_end l1 l2 old new v w e x a t b u = record {
   prefix = x.prefix;
   took = x.took;
   count = sym u ∙ x.count ∙ ap (λ n. n + length x.prefix) t;
-  gives = leaves_all e (old.ahead ++ x.prefix) new.ahead new.body
-      (subst (λ (z : List ℕ). LeavesAll e (z ++ x.prefix) new.ahead) a (subst (λ (z : List ℕ). LeavesAll e (v.ahead ++ x.prefix) z) b x.gives));
+  gives = subst (λ (z : List ℕ). LeavesAll e (z ++ x.prefix) new.ahead) a (subst (λ (z : List ℕ). LeavesAll e (v.ahead ++ x.prefix) z) b x.gives);
 }

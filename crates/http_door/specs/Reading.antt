@@ -1,31 +1,17 @@
 -- What one call of a reader of requests reads.
-use Rattle.std.specs.Prelude.{◌≡◌, ℕ, ◌+◌, ◌≤◌, List, ◌++◌, length, take, drop, Option, Some, None, ⊤}
+use Rattle.std.specs.Prelude.{◌≡◌, ℕ, ◌+◌, ◌≤◌, List, ◌++◌, length, take, drop, Option, Some, None, Result, Ok, Err, ⊤}
 use Rattle.std.specs.Io.KnownBytes.{Consumes}
 use Rattle.farm_io.specs.Lines.{input_limit}
 use Rattle.farm_io.specs.Streams.{Rose}
 use Rattle.http_door.specs.declared.ending.Ending.{Ending}
 use Rattle.http_door.specs.declared.ending.Ending.TheVariants as ending
 use Rattle.http_door.specs.declared.reader.Head.{Head}
-use Rattle.http_door.specs.declared.reader.Next.{Next}
-use Rattle.http_door.specs.declared.reader.Next.TheVariants as next
 use Rattle.http_door.specs.declared.reader.Given.{Given}
 use Rattle.http_door.specs.declared.reader.Given.TheVariants as given
 use Rattle.http_door.specs.Requests.{Request, IsRequest, EndsAs}
 use Rattle.http_door.specs.Finding.{IsEndOf}
 use Rattle.http_door.specs.WindowValue.{WindowValue}
 use Rattle.http_door.specs.ReaderValue.{ReaderValue}
-
--- what a reader answers once it has ended
-abbrev pub next_of : Ending → Next
-next_of ending.End = next.End
-next_of ending.Cut = next.Cut
-next_of ending.BadHead = next.BadHead
-next_of (ending.HeadTooLong n) = next.HeadTooLong n
-next_of (ending.BodyTooLong n) = next.BodyTooLong n
-next_of ending.NoLength = next.NoLength
-next_of ending.ReadFault = next.ReadFault
-next_of ending.InputLimit = next.InputLimit
-next_of ending.NoMemory = next.NoMemory
 
 -- the request of a head that was given and its body
 abbrev pub request_with : Head → List ℕ → Request
@@ -36,20 +22,12 @@ abbrev pub LeavesAll : Ending → List ℕ → List ℕ → Type 0
 LeavesAll e bytes rest = EndsAs e bytes × (rest ≡ bytes)
 
 -- Of the bytes that were held and taken the first request is given, and the rest is left; or all are left.
-abbrev pub Gives : List ℕ → List ℕ → List ℕ → Next → Type 0
-Gives bytes rest body (next.Request h) = IsRequest bytes (request_with h body) rest
-Gives bytes rest body next.End = LeavesAll ending.End bytes rest
-Gives bytes rest body next.Cut = LeavesAll ending.Cut bytes rest
-Gives bytes rest body next.BadHead = LeavesAll ending.BadHead bytes rest
-Gives bytes rest body (next.HeadTooLong n) = LeavesAll (ending.HeadTooLong n) bytes rest
-Gives bytes rest body (next.BodyTooLong n) = LeavesAll (ending.BodyTooLong n) bytes rest
-Gives bytes rest body next.NoLength = LeavesAll ending.NoLength bytes rest
-Gives bytes rest body next.ReadFault = LeavesAll ending.ReadFault bytes rest
-Gives bytes rest body next.InputLimit = LeavesAll ending.InputLimit bytes rest
-Gives bytes rest body next.NoMemory = LeavesAll ending.NoMemory bytes rest
+abbrev pub Gives : List ℕ → List ℕ → List ℕ → Result Head Ending → Type 0
+Gives bytes rest body (Ok h) = IsRequest bytes (request_with h body) rest
+Gives bytes rest body (Err e) = LeavesAll e bytes rest
 
 -- a prefix of what the source had left was taken, behind what the reader held
-pub record Reads (left left' : Option (List ℕ)) (old new : ReaderValue) (result : Next) : Type 0 where
+pub record Reads (left left' : Option (List ℕ)) (old new : ReaderValue) (result : Result Head Ending) : Type 0 where
   pub prefix : List ℕ
   pub took : Consumes left left' prefix
   pub count : new.taken ≡ old.taken + length prefix
@@ -68,18 +46,10 @@ pub record ReadsIn (left left' : Option (List ℕ)) (old new : WindowValue) (res
   pub size : old.size ≤ new.size
   pub gives : GivesIn (old.ahead ++ prefix) new.ahead result
 
--- a request leaves the reader going, and every other answer ends it
-abbrev pub EndsWith : Next → Option Ending → Type 0
-EndsWith (next.Request h) ended = ended ≡ None
-EndsWith next.End ended = ended ≡ Some ending.End
-EndsWith next.Cut ended = ended ≡ Some ending.Cut
-EndsWith next.BadHead ended = ended ≡ Some ending.BadHead
-EndsWith (next.HeadTooLong n) ended = ended ≡ Some (ending.HeadTooLong n)
-EndsWith (next.BodyTooLong n) ended = ended ≡ Some (ending.BodyTooLong n)
-EndsWith next.NoLength ended = ended ≡ Some ending.NoLength
-EndsWith next.ReadFault ended = ended ≡ Some ending.ReadFault
-EndsWith next.InputLimit ended = ended ≡ Some ending.InputLimit
-EndsWith next.NoMemory ended = ended ≡ Some ending.NoMemory
+-- a request leaves the reader going, and an ending ends it
+abbrev pub EndsWith : Result Head Ending → Option Ending → Type 0
+EndsWith (Ok h) ended = ended ≡ None
+EndsWith (Err e) ended = ended ≡ Some e
 
 -- where the bytes have ended, the source has nothing left
 abbrev pub IsEndFor : Option Ending → Option (List ℕ) → Type 0
@@ -87,9 +57,9 @@ IsEndFor None left = ⊤
 IsEndFor (Some e) left = IsEndOf e left
 
 -- The count of the source's faults never falls, and rises in the call that first answers a fault.
-pub record HasCauseNext (was : Option Ending) (before now : ℕ) (result : Next) : Type 0 where
+pub record HasCauseNext (was : Option Ending) (before now : ℕ) (result : Result Head Ending) : Type 0 where
   pub later : before ≤ now
-  pub failed : was ≡ None → result ≡ next.ReadFault → Rose before now
+  pub failed : was ≡ None → result ≡ Err ending.ReadFault → Rose before now
 
 -- the same over a window
 pub record HasCauseGiven (left : Option (List ℕ)) (before now : ℕ) (w : WindowValue) (e : Ending) : Type 0 where
@@ -100,16 +70,3 @@ pub record HasCauseGiven (left : Option (List ℕ)) (before now : ℕ) (w : Wind
 abbrev pub IfEnded : Given → (Ending → Type 0) → Type 0
 IfEnded (given.Request h n) P = ⊤
 IfEnded (given.Ended e) P = P e
-
--- the answer is a request
-abbrev pub IsRequestGiven : Next → Type 0
-IsRequestGiven (next.Request h) = ⊤
-IsRequestGiven next.End = ⊥
-IsRequestGiven next.Cut = ⊥
-IsRequestGiven next.BadHead = ⊥
-IsRequestGiven (next.HeadTooLong n) = ⊥
-IsRequestGiven (next.BodyTooLong n) = ⊥
-IsRequestGiven next.NoLength = ⊥
-IsRequestGiven next.ReadFault = ⊥
-IsRequestGiven next.InputLimit = ⊥
-IsRequestGiven next.NoMemory = ⊥

@@ -1,22 +1,21 @@
 -- The four refusals, and their fixed responses.
 use Rattle.std.specs.Prelude.{ℕ, List, codes, Option, Some, None}
-use Rattle.http_door.specs.declared.reader.Next.{Next}
-use Rattle.http_door.specs.declared.reader.Next.TheVariants as next
+use Rattle.http_door.specs.declared.ending.Ending.{Ending}
+use Rattle.http_door.specs.declared.ending.Ending.TheVariants as ending
 use Rattle.http_door.specs.declared.refusals.Refusal.{Refusal}
 use Rattle.http_door.specs.declared.refusals.Refusal.TheVariants as refusal
 
--- the answers of a reader that are refusals
-abbrev pub refusal_of : Next → Option Refusal
-refusal_of (next.Request h) = None
-refusal_of next.End = None
-refusal_of next.Cut = None
-refusal_of next.BadHead = Some refusal.BadHead
-refusal_of (next.HeadTooLong n) = Some refusal.HeadTooLong
-refusal_of (next.BodyTooLong n) = Some refusal.BodyTooLong
-refusal_of next.NoLength = Some refusal.NoLength
-refusal_of next.ReadFault = None
-refusal_of next.InputLimit = None
-refusal_of next.NoMemory = None
+-- the endings that are refusals
+abbrev pub refusal_of : Ending → Option Refusal
+refusal_of ending.End = None
+refusal_of ending.Cut = None
+refusal_of ending.BadHead = Some refusal.BadHead
+refusal_of (ending.HeadTooLong n) = Some refusal.HeadTooLong
+refusal_of (ending.BodyTooLong n) = Some refusal.BodyTooLong
+refusal_of ending.NoLength = Some refusal.NoLength
+refusal_of ending.ReadFault = None
+refusal_of ending.InputLimit = None
+refusal_of ending.NoMemory = None
 
 -- Bad Request, Request Header Fields Too Large, Content Too Large, Length Required
 abbrev pub refusal_status : Refusal → ℕ

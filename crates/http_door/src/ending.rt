@@ -5,18 +5,19 @@ pub enum Ending {
     End,
     /// The bytes ended within a request.
     Cut,
-    /// No head can come of the bytes, or the head says a wrong length.
+    /// No head of at most 64 fields can come of the bytes, or the head has more than one `content-length`
+    /// or one that is not 1 to 18 digits.
     BadHead,
-    /// So many bytes hold no whole head.
+    /// `len` bytes, [`HEAD_LIMIT`](crate::HEAD_LIMIT), hold no whole head.
     HeadTooLong { len: u64 },
-    /// The head says a length over the limit.
+    /// The head says a body of `len` bytes, over [`BODY_LIMIT`](crate::BODY_LIMIT).
     BodyTooLong { len: u64 },
-    /// The head says no length where it has to, or has a transfer coding.
+    /// A `POST` says no length, or a request has a field `transfer-encoding`.
     NoLength,
-    /// The source failed.
+    /// The source failed. What it gave behind the last request is in no request.
     ReadFault,
-    /// As many bytes were taken as a reader takes at most, and more were wanted.
+    /// [`INPUT_LIMIT`](farm_io::INPUT_LIMIT) bytes were taken, and more were wanted.
     InputLimit,
-    /// No memory was left.
+    /// No memory was left for the request.
     NoMemory,
 }

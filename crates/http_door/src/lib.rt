@@ -38,7 +38,7 @@ pub use finding::HEAD_LIMIT;
 pub use laws::{
     cut_is_one, ends_are_apart, nothing_is_no_refusal, refusal_stays, request_is_one, request_stays,
 };
-pub use reader::{Head, HttpReader, Next};
+pub use reader::{Head, HttpReader};
 pub use refusals::Refusal;
 pub use responses::{
     Content, ResponseFault, put_response, response_bytes, write_content, write_response,

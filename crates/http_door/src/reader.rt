@@ -1,4 +1,4 @@
-ghost use Rattle.std.specs.Prelude.{◌≡◌, ◌+◌, ◌<◌, ◌≤◌, [], length, None, Some, IfSome, IfOk};
+ghost use Rattle.std.specs.Prelude.{◌≡◌, ◌+◌, ◌<◌, ◌≤◌, [], length, None, Some, Err, IfSome, IfOk, IsOk};
 ghost use Rattle.httparse.specs.Spans.{span_bytes, IsWithin};
 ghost use Rattle.farm_io.specs.Lines.{input_limit};
 ghost use Rattle.http_door.specs.declared.ending.Ending.{Ending as Cause};
@@ -6,7 +6,7 @@ ghost use Rattle.http_door.specs.Heads.{head_limit};
 ghost use Rattle.http_door.specs.Requests.{HoldsRequest};
 ghost use Rattle.http_door.specs.Finding.{HasWhole, HasParts};
 ghost use Rattle.http_door.specs.ReaderValue.{budget, room_limit, IsReadable};
-ghost use Rattle.http_door.specs.Reading.{next_of, Reads, ReadsIn, EndsWith, IsEndFor, HasCauseNext, HasCauseGiven, IfEnded, IsRequestGiven};
+ghost use Rattle.http_door.specs.Reading.{Reads, ReadsIn, EndsWith, IsEndFor, HasCauseNext, HasCauseGiven, IfEnded};
 
 use crate::ending::Ending;
 use crate::finding::{HEAD_LIMIT, Whole, take_request};
@@ -27,32 +27,6 @@ pub struct Head {
     /// Whether the connection ends behind the response: the request has a field `connection: close` or is
     /// of version 1.0 (RFC 9112, section 9.3).
     pub close: bool,
-}
-
-/// What a reader gives.
-#[derive(Debug, Drop)]
-pub enum Next {
-    /// A request, whose body [`HttpReader::body`] shows.
-    Request(Head),
-    /// The bytes ended between requests.
-    End,
-    /// The bytes ended within a request.
-    Cut,
-    /// No head of at most 64 fields can come of the bytes, or the head has more than one `content-length`
-    /// or one that is not 1 to 18 digits.
-    BadHead,
-    /// `len` bytes, [`HEAD_LIMIT`], hold no whole head.
-    HeadTooLong { len: u64 },
-    /// The head says a body of `len` bytes, over [`BODY_LIMIT`](crate::BODY_LIMIT).
-    BodyTooLong { len: u64 },
-    /// A `POST` says no length, or a request has a field `transfer-encoding`.
-    NoLength,
-    /// The source failed. What it gave behind the last request is in no request.
-    ReadFault,
-    /// [`INPUT_LIMIT`](farm_io::INPUT_LIMIT) bytes were taken, and more were wanted.
-    InputLimit,
-    /// No memory was left for the request.
-    NoMemory,
 }
 
 /// What stands at the front of a window: a request without its head, and the length of its body.
@@ -108,10 +82,10 @@ impl HttpReader {
         &self.window.ahead()[..self.body]
     }
 
-    /// Reads the next request.
+    /// Reads the next request, whose body [`HttpReader::body`] then shows.
     ///
-    /// After each answer but `Request` it answers the same again and asks the source no more.
-    pub fn next_request<S: Source>(&mut self, source: &mut S) -> Next
+    /// After an `Err` it answers the same again and asks the source no more.
+    pub fn next_request<S: Source>(&mut self, source: &mut S) -> Result<Head, Ending>
         ensures reads { Reads (S.left source.old) (S.left source.new) self.old self.new result }
         ensures readable { IsReadable self.new }
         ensures ends { EndsWith result self.new.ended }
@@ -119,50 +93,33 @@ impl HttpReader {
 
         // Once it has ended it stays so.
         ensures sticky { (e : Cause) → self.old.ended ≡ Some e
-            → (result ≡ next_of e) × (self.new ≡ self.old) × (source.new ≡ source.old) }
+            → (result ≡ Err e) × (self.new ≡ self.old) × (source.new ≡ source.old) }
 
         // A request that is held whole is given without asking the source; only want of memory keeps it back.
         ensures held { HoldsRequest self.old.ahead
             → (source.new ≡ source.old) × IfSome self.new.ended (λ e. e ≡ Ending.NoMemory) }
 
         // Each request brings the end nearer.
-        ensures falls { IsRequestGiven result → budget self.new < budget self.old }
-        ensures limit { result ≡ Next.InputLimit → self.old.ended ≡ None → self.new.taken ≡ input_limit }
+        ensures falls { IsOk result → budget self.new < budget self.old }
+        ensures limit { result ≡ Err Ending.InputLimit → self.old.ended ≡ None → self.new.taken ≡ input_limit }
         ensures cause { HasCauseNext self.old.ended (S.faults source.old) (S.faults source.new) result }
         ensures beside { S.beside source.new ≡ S.beside source.old }
     {
         if let Some(ending) = self.ended {
-            return next_of(ending);
+            return Err(ending);
         }
         self.window.drop_front(self.body);
         self.body = 0;
         match give_next(self.alloc, &mut self.window, source) {
             Given::Request(head, len) => {
                 self.body = len;
-                Next::Request(head)
+                Ok(head)
             }
             Given::Ended(ending) => {
                 self.ended = Some(ending);
-                next_of(ending)
+                Err(ending)
             }
         }
-    }
-}
-
-/// What a reader answers once it has ended.
-fn next_of(ending: Ending) -> Next
-    ensures { result ≡ next_of ending }
-{
-    match ending {
-        Ending::End => Next::End,
-        Ending::Cut => Next::Cut,
-        Ending::BadHead => Next::BadHead,
-        Ending::HeadTooLong { len } => Next::HeadTooLong { len },
-        Ending::BodyTooLong { len } => Next::BodyTooLong { len },
-        Ending::NoLength => Next::NoLength,
-        Ending::ReadFault => Next::ReadFault,
-        Ending::InputLimit => Next::InputLimit,
-        Ending::NoMemory => Next::NoMemory,
     }
 }
 

@@ -1,7 +1,7 @@
 ghost use Rattle.std.specs.Prelude.{◌≡◌};
 ghost use Rattle.http_door.specs.Refusals.{refusal_of, refusal_status, refusal_body};
 
-use crate::reader::Next;
+use crate::ending::Ending;
 use http::StatusCode;
 
 /// What a server refuses before it knows the request. Behind the response the connection ends.
@@ -14,15 +14,15 @@ pub enum Refusal {
 }
 
 impl Refusal {
-    /// The refusal that a reader gave, if it gave one.
-    pub fn of(next: &Next) -> Option<Refusal>
-        ensures { result ≡ refusal_of next.now }
+    /// The refusal that an ending is, if it is one.
+    pub fn of(ending: Ending) -> Option<Refusal>
+        ensures { result ≡ refusal_of ending }
     {
-        match next {
-            Next::BadHead => Some(Refusal::BadHead),
-            Next::HeadTooLong { len: _ } => Some(Refusal::HeadTooLong),
-            Next::BodyTooLong { len: _ } => Some(Refusal::BodyTooLong),
-            Next::NoLength => Some(Refusal::NoLength),
+        match ending {
+            Ending::BadHead => Some(Refusal::BadHead),
+            Ending::HeadTooLong { len: _ } => Some(Refusal::HeadTooLong),
+            Ending::BodyTooLong { len: _ } => Some(Refusal::BodyTooLong),
+            Ending::NoLength => Some(Refusal::NoLength),
             _ => None,
         }
     }

@@ -5,7 +5,7 @@ use crate::talks::{bytes_of, check_bytes};
 use farm_io::{MemorySink, MemorySource, ReliableSink, ReliableSource, Source, Taken};
 use farm_kinds::NoMemory;
 use http::StatusCode;
-use http_door::{Head, HttpReader, Next, Refusal, ResponseFault, write_response};
+use http_door::{Ending, Head, HttpReader, Refusal, ResponseFault, write_response};
 use std::alloc::{AllocError, Global};
 use std::process::Abort;
 use std::test::Fail;
@@ -39,21 +39,28 @@ impl Source for Slow {
     }
 }
 
-/// The name of an answer that is no request.
-fn name_of(next: &Next) -> &'static [u8] {
+/// The name of an ending.
+fn ending_name(ending: Ending) -> &'static [u8] {
+    match ending {
+        Ending::End => b"end",
+        Ending::Cut => b"cut",
+        Ending::BadHead => b"bad-head",
+        Ending::HeadTooLong { len: 16_384 } => b"head-too-long",
+        Ending::HeadTooLong { len: _ } => b"head-too-long of another length",
+        Ending::BodyTooLong { len: 33_554_433 } => b"body-too-long",
+        Ending::BodyTooLong { len: _ } => b"body-too-long of another length",
+        Ending::NoLength => b"no-length",
+        Ending::ReadFault => b"read-fault",
+        Ending::InputLimit => b"input-limit",
+        Ending::NoMemory => b"memory",
+    }
+}
+
+/// The name of an answer: that of its ending, or `request`.
+fn name_of(next: &Result<Head, Ending>) -> &'static [u8] {
     match next {
-        Next::Request(_) => b"request",
-        Next::End => b"end",
-        Next::Cut => b"cut",
-        Next::BadHead => b"bad-head",
-        Next::HeadTooLong { len: 16_384 } => b"head-too-long",
-        Next::HeadTooLong { len: _ } => b"head-too-long of another length",
-        Next::BodyTooLong { len: 33_554_433 } => b"body-too-long",
-        Next::BodyTooLong { len: _ } => b"body-too-long of another length",
-        Next::NoLength => b"no-length",
-        Next::ReadFault => b"read-fault",
-        Next::InputLimit => b"input-limit",
-        Next::NoMemory => b"memory",
+        Ok(_) => b"request",
+        Err(ending) => ending_name(*ending),
     }
 }
 
@@ -67,16 +74,24 @@ fn push_request(shown: &mut Vec<u8>, head: &Head, body: &[u8]) -> Result<(), All
     shown.extend_from_slice(b"|")
 }
 
-/// Appends a request, or the name of another answer, and says whether it was a request.
-fn push_answer(shown: &mut Vec<u8>, next: &Next, body: &[u8]) -> Result<bool, AllocError> {
-    if let Next::Request(head) = next {
-        push_request(shown, head, body)?;
-        return Ok(true);
-    }
-    shown.extend_from_slice(name_of(next))?;
+/// Appends the name of an ending, and the body that is shown then.
+fn push_ending(shown: &mut Vec<u8>, ending: Ending, body: &[u8]) -> Result<(), AllocError> {
+    shown.extend_from_slice(ending_name(ending))?;
     shown.extend_from_slice(body)?;
-    shown.extend_from_slice(b" ")?;
-    Ok(false)
+    shown.extend_from_slice(b" ")
+}
+
+/// Appends a request or the name of an ending, and says whether it was a request.
+fn push_answer(
+    shown: &mut Vec<u8>,
+    next: &Result<Head, Ending>,
+    body: &[u8],
+) -> Result<bool, AllocError> {
+    match next {
+        Ok(head) => push_request(shown, head, body)?,
+        Err(ending) => push_ending(shown, *ending, body)?,
+    }
+    Ok(next.is_ok())
 }
 
 /// Appends the next answer, and says whether it was a request.
@@ -492,7 +507,10 @@ const REFUSED: &str = concat!(
 fn refusal_of(alloc: Global, text: &str) -> Result<Option<Refusal>, NoMemory> {
     let mut source = ReliableSource::new(long_bytes_of(alloc, text)?);
     let mut reader = HttpReader::new(alloc)?;
-    Ok(Refusal::of(&reader.next_request(&mut source)))
+    match reader.next_request(&mut source) {
+        Ok(_) => Ok(None),
+        Err(ending) => Ok(Refusal::of(ending)),
+    }
 }
 
 #[test]

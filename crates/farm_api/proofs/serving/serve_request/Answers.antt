@@ -1,3 +1,4 @@
+use Rattle.std.proofs.Common.{Err, ap}
 use Rattle.farm_api.proofs.Turning.{turned_request_on, turned_end_on, bytes_beside, faults_beside, cause_request, cause_end}
 use Rattle.farm_api.proofs.serving.serve_request.Goals as goal
 
@@ -7,10 +8,10 @@ returns-in-Ok-clause-turned g c =
     let conn = c.args.conn.now in
     let mid = c.next_request.new.source in
     let new = c.answer_one.new.sink in
-    turned_request_on g.A.Replier.steps _ _ _ (g.N.Source.left conn) (g.N.Source.left mid) (g.N.Source.left new) (g.N.Sink.held conn) (g.N.Sink.held mid) (g.N.Sink.held new) _ _ c.next_request.result c.in-Ok.head c.body.result.now _
+    turned_request_on g.A.Replier.steps _ _ _ (g.N.Source.left conn) (g.N.Source.left mid) (g.N.Source.left new) (g.N.Sink.held conn) (g.N.Sink.held mid) (g.N.Sink.held new) _ _ c.in-Ok.head c.body.result.now _
     (bytes_beside g.N.Sink.beside g.N.Source.left g.N.Source.faults mid new c.requires.sink c.answer_one.ensures.beside)
     (bytes_beside g.N.Source.beside g.N.Sink.held g.N.Sink.faults conn mid c.requires.source e.beside)
-    c.body.ensures c.in-Ok.ensures e.reads (c.answer_one.ensures.puts g.N.Peer.asks c.is_asked_to_close-closing.ensures)
+    c.body.ensures c.in-Ok.ensures.reads (c.answer_one.ensures.puts g.N.Peer.asks c.is_asked_to_close-closing.ensures)
 
 pub returns-in-Ok-clause-cause : goal.returns-in-Ok-clause-cause
 returns-in-Ok-clause-cause g c =
@@ -30,10 +31,10 @@ returns-in-Err-clause-turned g c =
     let conn = c.args.conn.now in
     let mid = c.next_request.new.source in
     let new = c.end_with.new.sink in
-    turned_end_on g.A.Replier.steps _ _ (g.N.Source.left conn) (g.N.Source.left mid) (g.N.Source.left new) (g.N.Sink.held conn) (g.N.Sink.held mid) (g.N.Sink.held new) _ _ c.next_request.result c.in-Err.ending c.end_with.result
+    turned_end_on g.A.Replier.steps _ _ (g.N.Source.left conn) (g.N.Source.left mid) (g.N.Source.left new) (g.N.Sink.held conn) (g.N.Sink.held mid) (g.N.Sink.held new) _ _ c.in-Err.ending c.end_with.result
     (bytes_beside g.N.Sink.beside g.N.Source.left g.N.Source.faults mid new c.requires.sink c.end_with.ensures.beside)
     (bytes_beside g.N.Source.beside g.N.Sink.held g.N.Sink.faults conn mid c.requires.source e.beside)
-    c.in-Err.ensures c.requires.going e.reads e.ends e.ended e.limit c.end_with.ensures.puts
+    c.requires.going c.in-Err.ensures.reads c.in-Err.ensures.ends e.ended (λ f. c.in-Err.ensures.limit (ap Err f) c.requires.going) c.end_with.ensures.puts
 
 pub returns-in-Err-clause-cause : goal.returns-in-Err-clause-cause
 returns-in-Err-clause-cause g c =
@@ -41,8 +42,8 @@ returns-in-Err-clause-cause g c =
     let conn = c.args.conn.now in
     let mid = c.next_request.new.source in
     let new = c.end_with.new.sink in
-    cause_end _ _ c.next_request.result c.in-Err.ending c.end_with.result _ (g.N.Source.faults conn) (g.N.Source.faults mid) (g.N.Source.faults new) (g.N.Sink.faults conn) (g.N.Sink.faults mid) (g.N.Sink.faults new)
-    c.end_with.ensures.puts c.in-Err.ensures c.requires.going e.cause
+    cause_end _ _ c.in-Err.ending c.end_with.result _ (g.N.Source.faults conn) (g.N.Source.faults mid) (g.N.Source.faults new) (g.N.Sink.faults conn) (g.N.Sink.faults mid) (g.N.Sink.faults new)
+    c.end_with.ensures.puts c.requires.going c.in-Err.ensures.cause
     (faults_beside g.N.Sink.beside g.N.Source.left g.N.Source.faults mid new c.requires.sink c.end_with.ensures.beside)
     (faults_beside g.N.Source.beside g.N.Sink.held g.N.Sink.faults conn mid c.requires.source e.beside)
     c.end_with.ensures.later c.end_with.ensures.write

@@ -5,7 +5,7 @@ use Rattle.http_door.proofs.reader.HttpReader.next_request.Goals as goal
 
 pub returns-in-Some-clause-reads : goal.returns-in-Some-clause-reads
 returns-in-Some-clause-reads g c =
-    rw (c.next_of.ensures, ← c.self.view_is) (reads_ended _ _ _ c.in-Some.is c.self.invariant.readable)
+    rw (← c.self.view_is) (reads_ended _ _ _ c.in-Some.is c.self.invariant.readable)
 
 pub returns-in-Some-clause-held : goal.returns-in-Some-clause-held
 returns-in-Some-clause-held g c = rw (← c.self.view_is) (λ q. (refl, held_reader _ c.self.invariant.readable q))
@@ -13,7 +13,7 @@ returns-in-Some-clause-held g c = rw (← c.self.view_is) (λ q. (refl, held_rea
 pub returns-in-Ended-clause-reads : goal.returns-in-Ended-clause-reads
 returns-in-Ended-clause-reads g c =
     let r = rw c.drop_front.ensures at c.in-Ended.ensures.reads in
-    rw (c.next_of-in-Ended.ensures, ← c.self.view_is) (reads_end _ _ _ _ _ _ _ r refl refl refl refl)
+    rw (← c.self.view_is) (reads_end _ _ _ _ _ _ _ r refl refl refl refl)
 
 pub returns-in-Request-clause-falls : goal.returns-in-Request-clause-falls
 returns-in-Request-clause-falls g c =
