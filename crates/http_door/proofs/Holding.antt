@@ -20,7 +20,7 @@ use Rattle.http_door.specs.ReaderValue.{ReaderValue, IsReadable}
 use Rattle.http_door.proofs.Cutting.{head_unique, sized_same, request_apart}
 use Rattle.http_door.proofs.Findings.{sized_err_at, no_ok}
 
-line_end_feed : (e : LineEnd) → HasFeed (print_end e)
+pub line_end_feed : (e : LineEnd) → HasFeed (print_end e)
 line_end_feed crlf = (1, omega arith, refl)
 line_end_feed lf = (0, omega arith, refl)
 

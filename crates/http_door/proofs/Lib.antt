@@ -9,4 +9,5 @@ pub mod Giving
 pub mod Writing
 pub mod AnswerCutting
 pub mod AnswerFindings
+pub mod AnswerHolding
 pub mod AnswerGiving

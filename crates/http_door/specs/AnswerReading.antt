@@ -4,8 +4,7 @@ use Rattle.std.specs.Io.KnownBytes.{Consumes, IsAtEnd}
 use Rattle.farm_io.specs.Streams.{Rose}
 use Rattle.http_door.specs.declared.answers.ending.AnswerEnding.{AnswerEnding}
 use Rattle.http_door.specs.declared.answers.ending.AnswerEnding.TheVariants as ending
-use Rattle.http_door.specs.declared.answers.reader.Given.{Given}
-use Rattle.http_door.specs.declared.answers.reader.Given.TheVariants as given
+use Rattle.http_door.specs.declared.answers.finding.Whole.{Whole}
 use Rattle.http_door.specs.Answers.{Answer, IsAnswer, EndsAs}
 use Rattle.http_door.specs.WindowValue.{WindowValue}
 use Rattle.http_door.specs.AnswerReaderValue.{ReaderValue}
@@ -27,16 +26,16 @@ pub record Reads (left left' : Option (List ℕ)) (old new : ReaderValue) (resul
   pub end : result ≡ Err ending.Cut → IsAtEnd left'
 
 -- the same over a window, where the body is still part of what is left
-abbrev pub GivesIn : List ℕ → List ℕ → Given → Type 0
-GivesIn bytes ahead (given.Answer code n) =
-    (n ≤ length ahead) × IsAnswer bytes (answer_with code (take n ahead)) (drop n ahead)
-GivesIn bytes ahead (given.Ended e) = EndsAs e bytes × (ahead ≡ bytes)
+abbrev pub GivesIn : List ℕ → List ℕ → Result Whole AnswerEnding → Type 0
+GivesIn bytes ahead (Ok w) =
+    (w.len ≤ length ahead) × IsAnswer bytes (answer_with w.seen.code (take w.len ahead)) (drop w.len ahead)
+GivesIn bytes ahead (Err e) = EndsAs e bytes × (ahead ≡ bytes)
 
-pub record ReadsIn (left left' : Option (List ℕ)) (old new : WindowValue) (result : Given) : Type 0 where
+pub record ReadsIn (left left' : Option (List ℕ)) (old new : WindowValue) (result : Result Whole AnswerEnding) : Type 0 where
   pub prefix : List ℕ
   pub took : Consumes left left' prefix
   pub gives : GivesIn (old.ahead ++ prefix) new.ahead result
-  pub end : result ≡ given.Ended ending.Cut → IsAtEnd left'
+  pub end : result ≡ Err ending.Cut → IsAtEnd left'
 
 -- the count of the source's faults never falls, and rises where the source failed
 pub record HasCauseRead (before now : ℕ) (result : Result ℕ AnswerEnding) : Type 0 where

@@ -26,6 +26,10 @@ pub record IsAnswer (bytes : List ℕ) (a : Answer) (rest : List ℕ) : Type 0 w
   pub framing : framing_of head ≡ framing.Sized (length a.body)
   pub code : a.code ≡ status_code head
 
+-- a whole response stands at the front of the bytes
+abbrev pub HoldsAnswer : List ℕ → Type 0
+HoldsAnswer bytes = (a : Answer) × (rest : List ℕ) × IsAnswer bytes a rest
+
 -- the bytes are these responses, and then rest
 abbrev pub AreAnswers : List ℕ → List Answer → List ℕ → Type 0
 AreAnswers bytes [] rest = bytes ≡ rest

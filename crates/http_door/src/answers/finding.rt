@@ -1,10 +1,11 @@
-ghost use Rattle.std.specs.Prelude.{◌≡◌, ◌≢◌, ◌+◌, ◌<◌, ◌≤◌, ◌↔◌, ℕ, length, take, drop, Some, IfOk, IfErr, IfSome, IsNone, IsSome, IsTrue};
+ghost use Rattle.std.specs.Prelude.{◌≡◌, ◌≢◌, ◌+◌, ◌<◌, ◌≤◌, ◌↔◌, ℕ, length, take, drop, Some, IfOk, IfErr, IfSome, IsNone, IsSome, IsOk, IsTrue};
 ghost use Rattle.httparse.specs.Grammar.{ResponseHead};
 ghost use Rattle.farm_io.specs.Lines.{HasFeed, input_limit};
 ghost use Rattle.farm_io.specs.BlockValue.{IsEnded, HasCauseStop};
 ghost use Rattle.http_door.specs.AnswerFields.{answer_limit};
 ghost use Rattle.http_door.specs.Heads.{head_limit};
 ghost use Rattle.http_door.specs.AnswerHeads.{framing_of};
+ghost use Rattle.http_door.specs.Answers.{HoldsAnswer};
 ghost use Rattle.http_door.specs.WindowValue.{Fills};
 ghost use Rattle.http_door.specs.AnswerFinding.{room_limit, IsLooked, ShowsHead, HasShown, Stops, StopsOrShows, ended_by, IsSized, HasWhole};
 
@@ -47,6 +48,7 @@ fn glance(bytes: &[u8], seen: usize) -> Option<Result<Seen, AnswerEnding>>
     requires { seen ≤ length bytes.now }
     ensures some { IsSome result → IsLooked bytes.now result }
     ensures none { IsNone result → length bytes.now < head_limit }
+    ensures fed { HasFeed (drop seen bytes.now) → IsLooked bytes.now result }
 {
     if bytes.len() >= HEAD_LIMIT {
         return look(bytes);
@@ -118,6 +120,9 @@ fn find_head<S: Source>(window: &mut Window, source: &mut S) -> Result<Seen, Ans
     ensures few { window.new.taken ≤ length window.new.ahead }
     ensures later { S.faults source.old ≤ S.faults source.new }
     ensures beside { S.beside source.new ≡ S.beside source.old }
+
+    // The head of a response that is held whole is found without asking the source.
+    ensures held { HoldsAnswer window.old.ahead → (source.new ≡ source.old) × (window.new ≡ window.old) × IsOk result }
 {
     if let Some(found) = glance(window.ahead(), 0) {
         return found;
@@ -154,6 +159,7 @@ fn take_body<S: Source>(
     ensures small { window.new.size ≤ room_limit }
     ensures later { S.faults source.old ≤ S.faults source.new }
     ensures beside { S.beside source.new ≡ S.beside source.old }
+    ensures held { seen.len + len ≤ length window.old.ahead → (source.new ≡ source.old) × IsOk result }
 {
     let need = seen.len + len;
     if window.ahead().len() >= need {
@@ -179,6 +185,7 @@ pub fn take_answer<S: Source>(window: &mut Window, source: &mut S) -> Result<Who
     ensures small { window.new.size ≤ room_limit }
     ensures later { S.faults source.old ≤ S.faults source.new }
     ensures beside { S.beside source.new ≡ S.beside source.old }
+    ensures held { HoldsAnswer window.old.ahead → (source.new ≡ source.old) × IsOk result }
 {
     match find_head(window, source) {
         Err(ending) => Err(ending),

@@ -1,23 +1,17 @@
-ghost use Rattle.std.specs.Prelude.{◌≡◌, ◌≤◌, ◌<◌, [], length};
+ghost use Rattle.std.specs.Prelude.{◌≡◌, ◌≤◌, ◌<◌, [], length, Err, IfErr};
 ghost use Rattle.farm_io.specs.Streams.{Rose};
 ghost use Rattle.http_door.specs.Heads.{head_limit};
+ghost use Rattle.http_door.specs.Answers.{HoldsAnswer};
 ghost use Rattle.http_door.specs.AnswerFinding.{room_limit};
 ghost use Rattle.http_door.specs.AnswerReading.{Reads, ReadsIn, HasCauseRead};
 
 use super::ending::AnswerEnding;
-use super::finding::take_answer;
+use super::finding::{Whole, take_answer};
 use crate::finding::HEAD_LIMIT;
 use crate::window::Window;
 use farm_io::Source;
 use std::alloc::Global;
 use std::marker::Model;
-
-/// What stands at the front of a window: the code of a response, and the length of its body.
-#[derive(Clone, Copy)]
-enum Given {
-    Answer(u16, usize),
-    Ended(AnswerEnding),
-}
 
 /// Cuts the bytes that come back on a connection into responses.
 ///
@@ -65,38 +59,44 @@ impl AnswerReader {
         ensures reads { Reads (S.left source.old) (S.left source.new) self.old self.new result }
         ensures cause { HasCauseRead (S.faults source.old) (S.faults source.new) result }
         ensures beside { S.beside source.new ≡ S.beside source.old }
+
+        // A response that is held whole is given without asking the source; only want of memory keeps it back.
+        ensures held { HoldsAnswer self.old.ahead
+            → (source.new ≡ source.old) × IfErr result (λ e. e ≡ AnswerEnding.NoMemory) }
     {
         self.window.drop_front(self.body);
         self.window.count_anew();
         self.body = 0;
         match give_next(&mut self.window, source) {
-            Given::Answer(code, len) => {
-                self.body = len;
-                Ok(code)
+            Ok(whole) => {
+                self.body = whole.len;
+                Ok(whole.seen.code)
             }
-            Given::Ended(ending) => Err(ending),
+            Err(ending) => Err(ending),
         }
     }
 }
 
 /// Gives the response at the front of the window, with its body left there.
-fn give_next<S: Source>(window: &mut Window, source: &mut S) -> Given
+fn give_next<S: Source>(window: &mut Window, source: &mut S) -> Result<Whole, AnswerEnding>
     requires small { window.old.size ≤ room_limit }
     requires few { window.old.taken ≤ length window.old.ahead }
     ensures reads { ReadsIn (S.left source.old) (S.left source.new) window.old window.new result }
     ensures small { window.new.size ≤ room_limit }
     ensures later { S.faults source.old ≤ S.faults source.new }
     ensures beside { S.beside source.new ≡ S.beside source.old }
-    ensures fault { result ≡ Given.Ended AnswerEnding.ReadFault → Rose (S.faults source.old) (S.faults source.new) }
+    ensures fault { result ≡ Err AnswerEnding.ReadFault → Rose (S.faults source.old) (S.faults source.new) }
+    ensures held { HoldsAnswer window.old.ahead
+        → (source.new ≡ source.old) × IfErr result (λ e. e ≡ AnswerEnding.NoMemory) }
 {
     if let Err(_) = window.grow(2 * HEAD_LIMIT) {
-        return Given::Ended(AnswerEnding::NoMemory);
+        return Err(AnswerEnding::NoMemory);
     }
     match take_answer(window, source) {
-        Err(ending) => Given::Ended(ending),
+        Err(ending) => Err(ending),
         Ok(whole) => {
             window.drop_front(whole.seen.len);
-            Given::Answer(whole.seen.code, whole.len)
+            Ok(whole)
         }
     }
 }

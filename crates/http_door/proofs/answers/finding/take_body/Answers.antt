@@ -27,3 +27,12 @@ pub returns-clause-ok : goal.returns-clause-ok
 returns-clause-ok g c =
     let f = Fills-trans _ _ _ c.args.window.now _ c.wait_for.new.window (Fills-more (g.S.Source.left c.args.source.now) _ _ c.grow.ensures.ahead c.grow.ensures.taken c.grow.ensures.more) c.wait_for.ensures.fills in
     shown_more_whole _ f.prefix _ c.args.seen c.args.len f.whole c.requires.shows (c.in_default-wait_for.ensures.whole refl)
+
+pub returns-in-Err-clause-held : goal.returns-in-Err-clause-held
+returns-in-Err-clause-held g c = λ q. absurd (omega (arith, q, c.if-ahead-need.false, ap length c.ahead.ensures))
+
+pub returns-in-Some-clause-held : goal.returns-in-Some-clause-held
+returns-in-Some-clause-held g c = λ q. absurd (omega (arith, q, c.if-ahead-need.false, ap length c.ahead.ensures))
+
+pub returns-clause-held : goal.returns-clause-held
+returns-clause-held g c = λ q. absurd (omega (arith, q, c.if-ahead-need.false, ap length c.ahead.ensures))

@@ -1,0 +1,14 @@
+-- What is held was looked at, since a whole response has a line feed.
+use Rattle.std.proofs.Common.{List, ℕ, Some, None, refl, sym, subst}
+use Rattle.farm_io.specs.Lines.{HasFeed}
+use Rattle.http_door.specs.AnswerFinding.{IsLooked}
+use Rattle.http_door.proofs.AnswerHolding.{held_found, held_looked}
+use Rattle.http_door.proofs.answers.finding.find_head.Goals as goal
+
+pub returns-in-Some-clause-held : goal.returns-in-Some-clause-held
+returns-in-Some-clause-held g c =
+    λ q. (refl, refl, held_found c.args.window.now.ahead c.in-Some.found (subst (λ (z : List ℕ). IsLooked z (Some c.in-Some.found)) c.ahead.ensures (c.in-Some.ensures.some refl)) q)
+
+pub returns-clause-held : goal.returns-clause-held
+returns-clause-held g c =
+    λ q. absurd (held_looked c.args.window.now.ahead (λ f. subst (λ (z : List ℕ). IsLooked z None) c.ahead.ensures (c.in_default.ensures.fed (subst HasFeed (sym c.ahead.ensures) f))) q)
