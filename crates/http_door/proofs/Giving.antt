@@ -1,10 +1,9 @@
 -- A request that is given, as the first of those of the bytes.
-use Rattle.std.proofs.Common.{ℕ, ◌≡◌, ◌+◌, ◌-◌, ◌≤◌, ◌<◌, List, [], ◌++◌, Bool, Option, Some, IfSome, Err, refl, sym, ap, ◌∙◌, subst, arith, length, take, drop}
+use Rattle.std.proofs.Common.{ℕ, ◌≡◌, ◌+◌, ◌-◌, ◌≤◌, ◌<◌, List, [], ◌++◌, Bool, Option, Some, IfSome, Ok, Err, refl, sym, ap, ◌∙◌, subst, arith, length, take, drop}
 use Rattle.std.proofs.lemmas.List.{append-nil, take-append-drop, length-take, length-drop, length-append}
 use Rattle.http_door.specs.declared.fields.Framing.TheVariants as framing
 use Rattle.http_door.specs.declared.finding.Whole.{Whole}
 use Rattle.http_door.specs.declared.reader.Head.{Head}
-use Rattle.http_door.specs.declared.reader.Given.TheVariants as given
 use Rattle.http_door.specs.Heads.{closes}
 use Rattle.http_door.specs.Requests.{Request, IsHead, IsRequest, EndsAs}
 use Rattle.http_door.specs.Finding.{HasWhole, HasParts}
@@ -38,7 +37,7 @@ request_given bytes w h x e =
 
 pub reads_request : (l1 l2 : Option (List ℕ)) (old w new : WindowValue) (bytes : List ℕ) (whole : Whole) (h : Head) → Fills l1 l2 old w → HasWhole w.ahead whole → bytes ≡ w.ahead
     → HasParts bytes whole h
-    → new ≡ record w { ahead = drop whole.seen.len w.ahead } → ReadsIn l1 l2 old new (given.Request h whole.len)
+    → new ≡ record w { ahead = drop whole.seen.len w.ahead } → ReadsIn l1 l2 old new (Ok (h, whole.len))
 reads_request l1 l2 old w new bytes whole h f x is e n =
     rw n
     (record {
@@ -46,11 +45,11 @@ reads_request l1 l2 old w new bytes whole h f x is e n =
       took = f.took;
       count = f.count;
       size = f.size;
-      gives = subst (λ (z : List ℕ). GivesIn z (drop whole.seen.len w.ahead) (given.Request h whole.len)) f.whole (request_given w.ahead whole h x (rw is at e));
+      gives = subst (λ (z : List ℕ). GivesIn z (drop whole.seen.len w.ahead) (Ok (h, whole.len))) f.whole (request_given w.ahead whole h x (rw is at e));
     })
 
 -- each request brings the end nearer
-pub falls_in : (l1 l2 : Option (List ℕ)) (old new : WindowValue) (h : Head) (n : ℕ) → ReadsIn l1 l2 old new (given.Request h n) → new.taken ≤ input_limit
+pub falls_in : (l1 l2 : Option (List ℕ)) (old new : WindowValue) (h : Head) (n : ℕ) → ReadsIn l1 l2 old new (Ok (h, n)) → new.taken ≤ input_limit
     → (input_limit - new.taken) + length (drop n new.ahead) < (input_limit - old.taken) + length old.ahead
 falls_in l1 l2 old new h n x few =
     omega (arith, request_some (old.ahead ++ x.prefix) (request_with h (take n new.ahead)) (drop n new.ahead) x.gives.1, x.count, few, length-append old.ahead x.prefix)
@@ -70,7 +69,7 @@ reads_ended left r e is h =
     }
 
 -- the end of a window is that of its reader
-pub reads_end : (l1 l2 : Option (List ℕ)) (old new : ReaderValue) (v w : WindowValue) (e : Ending) → ReadsIn l1 l2 v w (given.Ended e)
+pub reads_end : (l1 l2 : Option (List ℕ)) (old new : ReaderValue) (v w : WindowValue) (e : Ending) → ReadsIn l1 l2 v w (Err e)
     → v.ahead ≡ old.ahead → v.taken ≡ old.taken → w.ahead ≡ new.ahead → w.taken ≡ new.taken → Reads l1 l2 old new (Err e)
 reads_end l1 l2 old new v w e x a t b u = record {
   prefix = x.prefix;

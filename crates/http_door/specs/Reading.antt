@@ -6,8 +6,6 @@ use Rattle.farm_io.specs.Streams.{Rose}
 use Rattle.http_door.specs.declared.ending.Ending.{Ending}
 use Rattle.http_door.specs.declared.ending.Ending.TheVariants as ending
 use Rattle.http_door.specs.declared.reader.Head.{Head}
-use Rattle.http_door.specs.declared.reader.Given.{Given}
-use Rattle.http_door.specs.declared.reader.Given.TheVariants as given
 use Rattle.http_door.specs.Requests.{Request, IsRequest, EndsAs}
 use Rattle.http_door.specs.Finding.{IsEndOf}
 use Rattle.http_door.specs.WindowValue.{WindowValue}
@@ -34,12 +32,12 @@ pub record Reads (left left' : Option (List ℕ)) (old new : ReaderValue) (resul
   pub gives : Gives (old.ahead ++ prefix) new.ahead new.body result
 
 -- the same over a window, where the body is still part of what is left
-abbrev pub GivesIn : List ℕ → List ℕ → Given → Type 0
-GivesIn bytes ahead (given.Request h n) =
+abbrev pub GivesIn : List ℕ → List ℕ → Result (Head × ℕ) Ending → Type 0
+GivesIn bytes ahead (Ok (h, n)) =
     (n ≤ length ahead) × IsRequest bytes (request_with h (take n ahead)) (drop n ahead)
-GivesIn bytes ahead (given.Ended e) = LeavesAll e bytes ahead
+GivesIn bytes ahead (Err e) = LeavesAll e bytes ahead
 
-pub record ReadsIn (left left' : Option (List ℕ)) (old new : WindowValue) (result : Given) : Type 0 where
+pub record ReadsIn (left left' : Option (List ℕ)) (old new : WindowValue) (result : Result (Head × ℕ) Ending) : Type 0 where
   pub prefix : List ℕ
   pub took : Consumes left left' prefix
   pub count : new.taken ≡ old.taken + length prefix
@@ -66,7 +64,3 @@ pub record HasCauseGiven (left : Option (List ℕ)) (before now : ℕ) (w : Wind
   pub end : IsEndOf e left
   pub fault : e ≡ ending.ReadFault → Rose before now
   pub limit : e ≡ ending.InputLimit → w.taken ≡ input_limit
-
-abbrev pub IfEnded : Given → (Ending → Type 0) → Type 0
-IfEnded (given.Request h n) P = ⊤
-IfEnded (given.Ended e) P = P e

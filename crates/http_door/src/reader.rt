@@ -1,4 +1,4 @@
-ghost use Rattle.std.specs.Prelude.{◌≡◌, ◌+◌, ◌<◌, ◌≤◌, [], length, None, Some, Err, IfSome, IfOk, IsOk};
+ghost use Rattle.std.specs.Prelude.{◌≡◌, ◌+◌, ◌<◌, ◌≤◌, [], length, None, Some, Err, IfSome, IfOk, IfErr, IsOk};
 ghost use Rattle.httparse.specs.Spans.{span_bytes, IsWithin};
 ghost use Rattle.farm_io.specs.Lines.{input_limit};
 ghost use Rattle.http_door.specs.declared.ending.Ending.{Ending as Cause};
@@ -6,7 +6,7 @@ ghost use Rattle.http_door.specs.Heads.{head_limit};
 ghost use Rattle.http_door.specs.Requests.{HoldsRequest};
 ghost use Rattle.http_door.specs.Finding.{HasWhole, HasParts};
 ghost use Rattle.http_door.specs.ReaderValue.{budget, room_limit, IsReadable};
-ghost use Rattle.http_door.specs.Reading.{Reads, ReadsIn, EndsWith, IsEndFor, HasCauseNext, HasCauseGiven, IfEnded};
+ghost use Rattle.http_door.specs.Reading.{Reads, ReadsIn, EndsWith, IsEndFor, HasCauseNext, HasCauseGiven};
 
 use crate::ending::Ending;
 use crate::finding::{HEAD_LIMIT, Whole, take_request};
@@ -27,13 +27,6 @@ pub struct Head {
     /// Whether the connection ends behind the response: the request has a field `connection: close` or is
     /// of version 1.0 (RFC 9112, section 9.3).
     pub close: bool,
-}
-
-/// What stands at the front of a window: a request without its head, and the length of its body.
-#[derive(Drop)]
-enum Given {
-    Request(Head, usize),
-    Ended(Ending),
 }
 
 /// Cuts the bytes of a connection into requests.
@@ -111,11 +104,11 @@ impl HttpReader {
         self.window.drop_front(self.body);
         self.body = 0;
         match give_next(self.alloc, &mut self.window, source) {
-            Given::Request(head, len) => {
+            Ok((head, len)) => {
                 self.body = len;
                 Ok(head)
             }
-            Given::Ended(ending) => {
+            Err(ending) => {
                 self.ended = Some(ending);
                 Err(ending)
             }
@@ -146,8 +139,12 @@ fn head_of(alloc: Global, bytes: &[u8], whole: Whole) -> Result<Head, NoMemory>
     })
 }
 
-/// Gives the request at the front of the window, with its body left there.
-fn give_next<S: Source>(alloc: Global, window: &mut Window, source: &mut S) -> Given
+/// Gives the head of the request at the front of the window and the length of its body, which is left there.
+fn give_next<S: Source>(
+    alloc: Global,
+    window: &mut Window,
+    source: &mut S,
+) -> Result<(Head, usize), Ending>
     requires room { head_limit < window.old.size }
     requires few { window.old.taken ≤ input_limit }
     ensures reads { ReadsIn (S.left source.old) (S.left source.new) window.old window.new result }
@@ -155,18 +152,18 @@ fn give_next<S: Source>(alloc: Global, window: &mut Window, source: &mut S) -> G
     ensures small { window.old.size ≤ room_limit → window.new.size ≤ room_limit }
     ensures later { S.faults source.old ≤ S.faults source.new }
     ensures beside { S.beside source.new ≡ S.beside source.old }
-    ensures cause { IfEnded result
+    ensures cause { IfErr result
         (HasCauseGiven (S.left source.new) (S.faults source.old) (S.faults source.new) window.new) }
     ensures held { HoldsRequest window.old.ahead
-        → (source.new ≡ source.old) × IfEnded result (λ e. e ≡ Ending.NoMemory) }
+        → (source.new ≡ source.old) × IfErr result (λ e. e ≡ Ending.NoMemory) }
 {
     match take_request(window, source) {
-        Err(ending) => Given::Ended(ending),
+        Err(ending) => Err(ending),
         Ok(whole) => match head_of(alloc, window.ahead(), whole) {
-            Err(_) => Given::Ended(Ending::NoMemory),
+            Err(_) => Err(Ending::NoMemory),
             Ok(head) => {
                 window.drop_front(whole.seen.len);
-                Given::Request(head, whole.len)
+                Ok((head, whole.len))
             }
         },
     }

@@ -10,15 +10,15 @@ returns-in-Some-clause-reads g c =
 pub returns-in-Some-clause-held : goal.returns-in-Some-clause-held
 returns-in-Some-clause-held g c = rw (← c.self.view_is) (λ q. (refl, held_reader _ c.self.invariant.readable q))
 
-pub returns-in-Ended-clause-reads : goal.returns-in-Ended-clause-reads
-returns-in-Ended-clause-reads g c =
-    let r = rw c.drop_front.ensures at c.in-Ended.ensures.reads in
+pub returns-in-Err-clause-reads : goal.returns-in-Err-clause-reads
+returns-in-Err-clause-reads g c =
+    let r = rw c.drop_front.ensures at c.in-Err.ensures.reads in
     rw (← c.self.view_is) (reads_end _ _ _ _ _ _ _ r refl refl refl refl)
 
-pub returns-in-Request-clause-falls : goal.returns-in-Request-clause-falls
-returns-in-Request-clause-falls g c =
-    let r = rw c.drop_front.ensures at c.in-Request.ensures.reads in
-    λ _. rw (← c.self.view_is) (falls_in _ _ _ _ _ _ r c.in-Request.ensures.few)
+pub returns-in-Ok-clause-falls : goal.returns-in-Ok-clause-falls
+returns-in-Ok-clause-falls g c =
+    let r = rw c.drop_front.ensures at c.in-Ok.ensures.reads in
+    λ _. rw (← c.self.view_is) (falls_in _ _ _ _ _ _ r c.in-Ok.ensures.few)
 
-pub returns-in-Ended-clause-ends : goal.returns-in-Ended-clause-ends
-returns-in-Ended-clause-ends c = search rules
+pub returns-in-Err-clause-ends : goal.returns-in-Err-clause-ends
+returns-in-Err-clause-ends c = search rules
