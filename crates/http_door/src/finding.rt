@@ -1,4 +1,4 @@
-ghost use Rattle.std.specs.Prelude.{◌≡◌, ◌≢◌, ◌+◌, ◌<◌, ◌≤◌, ◌↔◌, ℕ, length, take, drop, Some, IfOk, IfErr, IfSome, IsNone, IsSome, IsOk, IsTrue};
+ghost use Rattle.std.specs.Prelude.{◌≡◌, ◌≢◌, ◌+◌, ◌<◌, ◌≤◌, ◌↔◌, ℕ, length, take, drop, Some, IfOk, IfErr, IfSome, IsNone, IsSome, IsOk, IsTrue, IsFalse};
 ghost use Rattle.httparse.specs.Grammar.{RequestHead};
 ghost use Rattle.farm_io.specs.Lines.{HasFeed, input_limit};
 ghost use Rattle.farm_io.specs.BlockValue.{IsEnded, HasCauseStop};
@@ -53,26 +53,32 @@ fn look(bytes: &[u8]) -> Option<Result<Seen, Ending>>
 }
 
 /// Whether a line ends in the bytes.
-pub fn has_feed(bytes: &[u8]) -> bool
+fn has_feed(bytes: &[u8]) -> bool
     ensures { IsTrue result ↔ HasFeed bytes.now }
 {
     memchr(b'\n', bytes).is_some()
 }
 
-/// What stands at the front of bytes, of which the first `seen` were looked at before.
+/// Whether bytes are to be parsed of which the first `seen` were parsed before.
 ///
 /// A head ends in a line feed. So where none has come since, the bytes are not parsed again, unless they
 /// are as many as a head has at most.
+pub fn is_to_parse(bytes: &[u8], seen: usize) -> bool
+    requires { seen ≤ length bytes.now }
+    ensures short { IsFalse result → length bytes.now < head_limit }
+    ensures fed { HasFeed (drop seen bytes.now) → IsTrue result }
+{
+    bytes.len() >= HEAD_LIMIT || has_feed(&bytes[seen..])
+}
+
+/// What stands at the front of bytes, of which the first `seen` were looked at before.
 fn glance(bytes: &[u8], seen: usize) -> Option<Result<Seen, Ending>>
     requires { seen ≤ length bytes.now }
     ensures some { IsSome result → IsLooked bytes.now result }
     ensures none { IsNone result → length bytes.now < head_limit }
     ensures fed { HasFeed (drop seen bytes.now) → IsLooked bytes.now result }
 {
-    if bytes.len() >= HEAD_LIMIT {
-        return look(bytes);
-    }
-    if has_feed(&bytes[seen..]) {
+    if is_to_parse(bytes, seen) {
         return look(bytes);
     }
     None

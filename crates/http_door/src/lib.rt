@@ -13,7 +13,7 @@
 //! connection) and `window.rt` (the bytes that were taken); `responses.rt` is `write_content`, and what makes the bytes
 //! of a response and puts them, `refusals.rt` the fixed responses, `ending.rt` why a reader gives no more. `specs/Requests.antt` is the cut of bytes into
 //! requests, `laws.rt` its laws, `worked.rt` the definitions at examples. The folder `answers` has the same for
-//! responses: its `AnswerReader` shares the window, the fields and how a body is waited for.
+//! responses: its `AnswerReader` shares the window, the fields, when bytes are parsed and how a body is waited for.
 #![tactic(auto)]
 
 mod answers;

@@ -1,4 +1,4 @@
-ghost use Rattle.std.specs.Prelude.{◌≡◌, ◌≢◌, ◌+◌, ◌<◌, ◌≤◌, ◌↔◌, ℕ, length, take, drop, Some, IfOk, IfErr, IfSome, IsNone, IsSome, IsOk, IsTrue};
+ghost use Rattle.std.specs.Prelude.{◌≡◌, ◌≢◌, ◌+◌, ◌<◌, ◌≤◌, ◌↔◌, ℕ, length, take, drop, Some, IfOk, IfErr, IfSome, IsNone, IsSome, IsOk};
 ghost use Rattle.httparse.specs.Grammar.{ResponseHead};
 ghost use Rattle.farm_io.specs.Lines.{HasFeed, input_limit};
 ghost use Rattle.farm_io.specs.BlockValue.{IsEnded, HasCauseStop};
@@ -12,7 +12,7 @@ ghost use Rattle.http_door.specs.AnswerFinding.{room_limit, IsLooked, ShowsHead,
 use super::ending::AnswerEnding;
 use super::fields::AnswerFraming;
 use super::heads::{Front, Seen, look_at};
-use crate::finding::{HEAD_LIMIT, front_of, has_feed, wait_for};
+use crate::finding::{HEAD_LIMIT, front_of, is_to_parse, wait_for};
 use crate::window::Window;
 use farm_io::{Source, Stop};
 
@@ -41,19 +41,13 @@ fn look(bytes: &[u8]) -> Option<Result<Seen, AnswerEnding>>
 }
 
 /// What stands at the front of bytes, of which the first `seen` were looked at before.
-///
-/// A head ends in a line feed. So where none has come since, the bytes are not parsed again, unless they
-/// are as many as a head has at most.
 fn glance(bytes: &[u8], seen: usize) -> Option<Result<Seen, AnswerEnding>>
     requires { seen ≤ length bytes.now }
     ensures some { IsSome result → IsLooked bytes.now result }
     ensures none { IsNone result → length bytes.now < head_limit }
     ensures fed { HasFeed (drop seen bytes.now) → IsLooked bytes.now result }
 {
-    if bytes.len() >= HEAD_LIMIT {
-        return look(bytes);
-    }
-    if has_feed(&bytes[seen..]) {
+    if is_to_parse(bytes, seen) {
         return look(bytes);
     }
     None
