@@ -1,7 +1,6 @@
 -- Laws of the cut into responses.
-use Rattle.std.proofs.Common.{ℕ, ◌≡◌, ◌≤◌, ◌<◌, ◌-◌, ◌+◌, ◌⊎◌, inl, inr, List, [], ◌∷◌, ◌++◌, refl, sym, ap, ap₂, ◌∙◌, subst, arith, length, take, drop, append_assoc}
-use Rattle.std.proofs.lemmas.Bool.{cases_lt}
-use Rattle.std.proofs.lemmas.List.{append-nil, take_all, length-append, take-append-drop, take-append-le}
+use Rattle.std.proofs.Common.{ℕ, ◌≡◌, ◌≤◌, ◌-◌, ◌+◌, inl, inr, List, [], ◌∷◌, ◌++◌, refl, sym, ap, ap₂, ◌∙◌, subst, arith, length, take, drop, append_assoc}
+use Rattle.std.proofs.lemmas.List.{length-append, take-append-drop, take-append-le}
 use Rattle.std.proofs.Math.Seq.{take-append-add}
 use Rattle.httparse.specs.Grammar.{ResponseHead, ReadsResponse, HasNoResponse, MayBecomeResponse, print_response, status_code}
 use Rattle.httparse.specs.Spans.{ResponseOverflows}
@@ -13,6 +12,7 @@ use Rattle.http_door.specs.declared.answers.ending.AnswerEnding.TheVariants as e
 use Rattle.http_door.specs.Heads.{head_limit, field_limit}
 use Rattle.http_door.specs.AnswerHeads.{framing_of}
 use Rattle.http_door.specs.Answers.{Answer, IsHead, IsAnswer, AreAnswers, HasFraming, IsUnfinished, IsBadHead, EndsAs, Cuts, IsFault, IsOfBytes}
+use Rattle.http_door.proofs.Cutting.{same_parts, front_more}
 
 pub head_more : (bytes : List ℕ) (h : ResponseHead) (rest more : List ℕ) → IsHead bytes h rest → IsHead (bytes ++ more) h (rest ++ more)
 head_more bytes h rest more x = record { reads = ReadsResponse-append bytes h rest more x.reads; short = x.short; few = x.few }
@@ -45,14 +45,6 @@ head_unique bytes h k r q x y = response_unique bytes h k r q x.reads y.reads
 pub sized_same : (m n : ℕ) → framing.Sized m ≡ framing.Sized n → m ≡ n
 sized_same m n e = cc
 
-same_parts : (a b c d : List ℕ) → length a ≡ length b → a ++ c ≡ b ++ d → (a ≡ b) × (c ≡ d)
-same_parts [] [] c d e w = (refl, w)
-same_parts [] (y ∷ b) c d e w = absurd (omega (arith, e))
-same_parts (x ∷ a) [] c d e w = absurd (omega (arith, e))
-same_parts (x ∷ a) (y ∷ b) c d e w =
-    let both = same_parts a b c d (omega (arith, e)) (cc) in
-    (let h : x ≡ y = cc in ap₂ (λ z zs. z ∷ zs) h both.0, both.1)
-
 same_answer : (a b : Answer) → a.code ≡ b.code → a.body ≡ b.body → a ≡ b
 same_answer a b c d = rw (← c, ← d) refl
 
@@ -69,17 +61,6 @@ framing_more bytes more f y = (y.0, y.1 ++ more, head_more bytes y.0 y.1 more y.
 
 overflow_more : (room : ℕ) (bytes more : List ℕ) → ResponseOverflows room bytes → ResponseOverflows room (bytes ++ more)
 overflow_more room bytes more y = λ after h rest x. y (more ++ after) h rest (subst (λ (z : List ℕ). ReadsResponse z h rest) (append_assoc bytes more after) x)
-
--- a prefix of more bytes goes on from that of fewer
-front_more_at : (n : ℕ) (xs ys : List ℕ) → (length xs < n) ⊎ (n ≤ length xs) → (zs : List ℕ) × (take n (xs ++ ys) ≡ take n xs ++ zs)
-front_more_at n xs ys (inl h) =
-    let d = n - length xs in
-    let e : length xs + d ≡ n = omega arith in
-    (take d ys, subst (λ (z : ℕ). take z (xs ++ ys) ≡ take z xs ++ take d ys) e (take-append-add xs ys d ∙ ap (λ z. z ++ take d ys) (sym (take_all (length xs + d) xs (omega arith)))))
-front_more_at n xs ys (inr h) = ([], take-append-le n xs ys h ∙ sym (append-nil (take n xs)))
-
-front_more : (n : ℕ) (xs ys : List ℕ) → (zs : List ℕ) × (take n (xs ++ ys) ≡ take n xs ++ zs)
-front_more n xs ys = front_more_at n xs ys (cases_lt (length xs) n)
 
 unfinished_apart : (bytes : List ℕ) (a : Answer) (rest : List ℕ) → IsAnswer bytes a rest → IsUnfinished bytes → ⊥
 unfinished_apart bytes a rest x (inl y) = y.none x.head (a.body ++ rest) x.is_head.reads

@@ -1,11 +1,9 @@
 -- What is found at the front of a window.
-use Rattle.std.proofs.Common.{ℕ, min, ◌≡◌, ◌≢◌, ◌+◌, ◌≤◌, ◌<◌, ◌⊎◌, inl, inr, List, ◌++◌, Option, Some, Result, Ok, Err, IfErr, IfOk, refl, sym, ap, ◌∙◌, subst, arith, length, take, drop}
-use Rattle.std.proofs.lemmas.Bool.{cases_lt}
+use Rattle.std.proofs.Common.{ℕ, ◌≡◌, ◌≢◌, ◌+◌, ◌≤◌, ◌<◌, inl, inr, List, ◌++◌, Option, Some, Result, Ok, Err, IfErr, IfOk, refl, sym, ap, ◌∙◌, subst, arith, length, take, drop}
 use Rattle.std.proofs.lemmas.List.{take_all, take-append-drop, drop-append-le, length-append, length-take, length-drop}
 use Rattle.httparse.specs.Grammar.{ResponseHead, HasNoResponse, MayBecomeResponse}
 use Rattle.farm_io.specs.declared.block.Stop.{Stop}
 use Rattle.farm_io.specs.declared.block.Stop.TheVariants as stop
-use Rattle.farm_io.specs.Streams.{Rose}
 use Rattle.farm_io.specs.BlockValue.{IsEnded, HasCauseStop}
 use Rattle.http_door.specs.declared.answers.heads.Seen.{Seen}
 use Rattle.http_door.specs.declared.answers.ending.AnswerEnding.{AnswerEnding}
@@ -16,15 +14,8 @@ use Rattle.http_door.specs.Heads.{head_limit}
 use Rattle.http_door.specs.AnswerHeads.{framing_of, Shows}
 use Rattle.http_door.specs.Answers.{IsHead, IsWithinHead, IsWithinBody, IsLongHead, EndsAs, IsFault}
 use Rattle.http_door.specs.AnswerFinding.{ShowsHead, HasShown, IsLooked, Stops, StopsOrShows, ended_by, IsSized, HasWhole}
+use Rattle.http_door.proofs.Findings.{rose_from}
 use Rattle.http_door.proofs.AnswerCutting.{head_more}
-
-take_min_at : (lim : ℕ) (bytes : List ℕ) → (length bytes < lim) ⊎ (lim ≤ length bytes) → take (min (length bytes) lim) bytes ≡ take lim bytes
-take_min_at lim bytes (inl h) =
-    take_all (min (length bytes) lim) bytes (omega arith) ∙ sym (take_all lim bytes (omega arith))
-take_min_at lim bytes (inr h) = let e : min (length bytes) lim ≡ lim = omega arith in rw e refl
-
-pub take_min : (lim : ℕ) (bytes : List ℕ) → take (min (length bytes) lim) bytes ≡ take lim bytes
-take_min lim bytes = take_min_at lim bytes (cases_lt (length bytes) lim)
 
 pub looked_more : (bytes prefix : List ℕ) → prefix ≡ take head_limit bytes → length bytes < head_limit → HasNoResponse prefix × MayBecomeResponse prefix → IsWithinHead bytes
 looked_more bytes prefix is short h =
@@ -82,10 +73,6 @@ looked_err left before now ahead bytes (Err end) e h = refused left before now a
 pub looked_ok : (ahead bytes : List ℕ) (r : Result Seen AnswerEnding) → bytes ≡ ahead → IsLooked bytes (Some r) → IfOk r (HasShown ahead)
 looked_ok ahead bytes (Ok s) e h = subst (λ (z : List ℕ). HasShown z s) e h
 looked_ok ahead bytes (Err end) e h = tt
-
--- a count that rose since has risen
-pub rose_from : (before was now : ℕ) → before ≤ was → Rose was now → Rose before now
-rose_from before was now le h = omega (arith, le, h)
 
 -- the bytes stop within a head
 pub stopped_head : (left : Option (List ℕ)) (before was now : ℕ) (ahead : List ℕ) (s : Stop) → IsWithinHead ahead → before ≤ was

@@ -40,7 +40,7 @@ head_unique bytes h k r q x y = request_unique bytes h k r q x.reads y.reads
 pub sized_same : (m n : ℕ) → framing.Sized m ≡ framing.Sized n → m ≡ n
 sized_same m n e = cc
 
-same_parts : (a b c d : List ℕ) → length a ≡ length b → a ++ c ≡ b ++ d → (a ≡ b) × (c ≡ d)
+pub same_parts : (a b c d : List ℕ) → length a ≡ length b → a ++ c ≡ b ++ d → (a ≡ b) × (c ≡ d)
 same_parts [] [] c d e w = (refl, w)
 same_parts [] (y ∷ b) c d e w = absurd (omega (arith, e))
 same_parts (x ∷ a) [] c d e w = absurd (omega (arith, e))
@@ -70,7 +70,7 @@ front_more_at n xs ys (inl h) =
     (take d ys, subst (λ (z : ℕ). take z (xs ++ ys) ≡ take z xs ++ take d ys) e (take-append-add xs ys d ∙ ap (λ z. z ++ take d ys) (sym (take_all (length xs + d) xs (omega arith)))))
 front_more_at n xs ys (inr h) = ([], take-append-le n xs ys h ∙ sym (append-nil (take n xs)))
 
-front_more : (n : ℕ) (xs ys : List ℕ) → (zs : List ℕ) × (take n (xs ++ ys) ≡ take n xs ++ zs)
+pub front_more : (n : ℕ) (xs ys : List ℕ) → (zs : List ℕ) × (take n (xs ++ ys) ≡ take n xs ++ zs)
 front_more n xs ys = front_more_at n xs ys (cases_lt (length xs) n)
 
 unfinished_apart : (bytes : List ℕ) (r : Request) (rest : List ℕ) → IsRequest bytes r rest → IsUnfinished bytes → ⊥
