@@ -5,11 +5,11 @@ ghost use Rattle.judgehost.specs.declared.bench.BenchFault.{BenchFault as FaultV
 ghost use Rattle.judgehost.specs.declared.gate.Point.{Point as PointValue};
 ghost use Rattle.judgehost.specs.Gates.{MayPass, MayPost};
 ghost use Rattle.judgehost.specs.Benches.{Nothing, Refused};
-ghost use Rattle.judgehost.specs.Hosts.{Handed, left_over, IsCause, IsUnhanded, IsUnposted};
+ghost use Rattle.judgehost.specs.Hosts.{Handed, left_over, IsCause, IsUnhanded, IsUnposted, IsUnrun};
 
 use crate::bench::{Bench, BenchFault, Claimed};
 use crate::gate::{Gate, Go, Point};
-use crate::runner::{Done, Runner};
+use crate::runner::{Done, Run, Runner};
 use farm_kinds::Task;
 
 /// Why a host stopped.
@@ -23,7 +23,7 @@ pub enum HostEnd {
     Fuel,
     /// The bench refused a call.
     Bench(BenchFault),
-    /// No memory was left to run a case, whose result is not posted.
+    /// No memory was left to run the case of the pending task, whose result is not posted.
     NoMemory,
 }
 
@@ -49,6 +49,7 @@ pub fn host_loop<B: Bench, G: Gate>(
     ensures spent { result ≡ HostEnd.Fuel → B.claims bench.new ≡ fuel }
     ensures unheard { result ≡ HostEnd.Fuel → B.heard bench.new ≡ None }
     ensures refused { (fault : FaultValue) → result ≡ HostEnd.Bench fault → B.heard bench.new ≡ Some (Refused fault) }
+    ensures no_memory { result ≡ HostEnd.NoMemory → IsUnrun (Run.post runner.now.run) (B.pending bench.new) }
     ensures claims { B.claims bench.new ≤ fuel }
     ensures tasks { Handed result (B.claims bench.new + B.tasks bench.old) (B.tasks bench.new) }
     ensures posts { B.posts bench.new + B.tasks bench.old + left_over result ≡ B.posts bench.old + B.tasks bench.new }
@@ -80,7 +81,7 @@ fn take_turn<B: Bench, G: Gate>(
     ensures claims { B.claims bench.new ≡ turn }
     ensures goes_on { IfOk result (λ _. (B.heard bench.new ≡ None) × (B.tasks bench.new ≡ B.tasks bench.old + 1)
         × (B.posts bench.new ≡ B.posts bench.old + 1) × MayPass (G.may_answer gate.now) host turn) }
-    ensures stops { IfErr result (λ end. IsCause (G.may_answer gate.now) host turn (B.heard bench.new) end
+    ensures stops { IfErr result (λ end. IsCause (Run.post runner.now.run) (G.may_answer gate.now) host turn (B.heard bench.new) (B.pending bench.new) end
         × Handed end (B.tasks bench.old + 1) (B.tasks bench.new)
         × (B.posts bench.new + B.tasks bench.old + left_over end ≡ B.posts bench.old + B.tasks bench.new)) }
     ensures sound { B.pending bench.old ≡ None → B.sound bench.old → B.sound bench.new }
