@@ -1,6 +1,7 @@
 pub mod BoardState
 pub mod Histories
 pub mod Passes
+pub mod Marks
 pub mod Trusts
 pub mod Benches
 pub mod Views

@@ -1,8 +1,9 @@
 ghost use Rattle.std.specs.Prelude.{◌≡◌, ◌+◌, ◌<◌, ◌≤◌, true, false, []};
-ghost use Rattle.farm_board.specs.Histories.{board_after, IsNext};
+ghost use Rattle.farm_board.specs.Histories.{board_after, pass_number, IsNext};
+ghost use Rattle.farm_board.specs.Marks.{entry_of};
 ghost use Rattle.farm_board.specs.Views.{with_coming, split_left, split_right, Suits, IsBetween, IsFree, IsKeeping};
 ghost use Rattle.farm_board.specs.Steps.{EndsTurn};
-ghost use Rattle.farm_board.specs.Passes.{pass_of, call_of, IsSeated, IsGiving, IsSoundView, Calls, SplitsOff, TakesIn};
+ghost use Rattle.farm_board.specs.Passes.{pass_of, IsSeated, IsGiving, IsSoundView, Calls, SplitsOff, TakesIn};
 ghost use Rattle.farm_board.specs.Trusts.{IsAdmitted, AdmitsOne, NeverDiffers};
 ghost use Rattle.farm_board.specs.declared.entries.HistoryEntry.TheVariants as entry;
 
@@ -13,60 +14,41 @@ use farm_kinds::{Event, Reply};
 use std::marker::Brand;
 use std::sync::Wait;
 
-/// Marks a call as the entry to come.
-fn mark_call<A: Admission, G: PicksEntry>(
-    shared: &SharedBoard<A>,
-    seat: &mut BoardSeat<A>,
-    number: u64,
-    event: &Event,
-    reply: &Reply,
-)
-    requires table { IsSeated seat.old.table_id shared.now.table_id }
-    requires entry { G.entry ≡ entry.Call (call_of number event.now reply.now) }
-    requires turn { (seat.old.me.0.turn ≡ true) × (seat.old.me.0.ended ≡ false) }
-    requires own { number ≡ seat.old.me.0.number }
-    requires next { IsNext (board_after seat.old.me.0.start.value seat.old.me.0.seen) (entry.Call (call_of number event.now reply.now)) }
-    requires suits { Suits (entry.Call (call_of number event.now reply.now)) seat.old.me.0 }
-    ensures table { (seat.new.table_id ≡ seat.old.table_id) × (seat.new.id ≡ seat.old.id) }
-    ensures view { seat.new.me ≡ (with_coming seat.old.me.0 (entry.Call (call_of number event.now reply.now)), seat.old.me.1) }
-{
-    shared.load::<MarkEntry<G>>(seat, 1);
+/// What a turn enters into the history.
+#[derive(Clone, Copy)]
+enum Mark<'a> {
+    /// The pass of this number made a call.
+    Call {
+        number: u64,
+        event: &'a Event,
+        reply: &'a Reply,
+    },
+    /// It split off a pass with the number `new`.
+    Split {
+        number: u64,
+        new: u64,
+    },
+    /// It took in the pass with the number `old`.
+    Join {
+        number: u64,
+        old: u64,
+    },
 }
 
-/// Marks a split as the entry to come.
-fn mark_split<A: Admission, G: PicksEntry>(
+/// Marks what the turn enters as the entry to come.
+fn mark_entry<A: Admission, G: PicksEntry>(
     shared: &SharedBoard<A>,
     seat: &mut BoardSeat<A>,
-    number: u64,
-    new: u64,
+    what: Mark<'_>,
 )
     requires table { IsSeated seat.old.table_id shared.now.table_id }
-    requires entry { G.entry ≡ entry.Split number new }
+    requires entry { G.entry ≡ entry_of what }
     requires turn { (seat.old.me.0.turn ≡ true) × (seat.old.me.0.ended ≡ false) }
-    requires own { number ≡ seat.old.me.0.number }
-    requires next { IsNext (board_after seat.old.me.0.start.value seat.old.me.0.seen) (entry.Split number new) }
-    requires suits { Suits (entry.Split number new) seat.old.me.0 }
+    requires own { pass_number (entry_of what) ≡ seat.old.me.0.number }
+    requires next { IsNext (board_after seat.old.me.0.start.value seat.old.me.0.seen) (entry_of what) }
+    requires suits { Suits (entry_of what) seat.old.me.0 }
     ensures table { (seat.new.table_id ≡ seat.old.table_id) × (seat.new.id ≡ seat.old.id) }
-    ensures view { seat.new.me ≡ (with_coming seat.old.me.0 (entry.Split number new), seat.old.me.1) }
-{
-    shared.load::<MarkEntry<G>>(seat, 1);
-}
-
-/// Marks a join as the entry to come.
-fn mark_join<A: Admission, G: PicksEntry>(
-    shared: &SharedBoard<A>,
-    seat: &mut BoardSeat<A>,
-    number: u64,
-    old: u64,
-)
-    requires table { IsSeated seat.old.table_id shared.now.table_id }
-    requires entry { G.entry ≡ entry.Join number old }
-    requires turn { (seat.old.me.0.turn ≡ true) × (seat.old.me.0.ended ≡ false) }
-    requires own { number ≡ seat.old.me.0.number }
-    requires next { IsNext (board_after seat.old.me.0.start.value seat.old.me.0.seen) (entry.Join number old) }
-    requires suits { Suits (entry.Join number old) seat.old.me.0 }
-    ensures table { (seat.new.table_id ≡ seat.old.table_id) × (seat.new.id ≡ seat.old.id) }
-    ensures view { seat.new.me ≡ (with_coming seat.old.me.0 (entry.Join number old), seat.old.me.1) }
+    ensures view { seat.new.me ≡ (with_coming seat.old.me.0 (entry_of what.entry), seat.old.me.1) }
 {
     shared.load::<MarkEntry<G>>(seat, 1);
 }
@@ -111,7 +93,12 @@ pub(crate) fn call<W: Wait, A: Admission>(
 {
     let mut held = have_turn(rt, shared, seat, kept);
     let reply = held.call(number, event);
-    mark_call::<A, Brand>(shared, seat, number, event, &reply);
+    let entered = Mark::Call {
+        number,
+        event,
+        reply: &reply,
+    };
+    mark_entry::<A, Brand>(shared, seat, entered);
     end_turn(shared, seat, held);
     reply
 }
@@ -138,7 +125,12 @@ pub(crate) fn call_and_keep<W: Wait, A: Admission>(
 {
     let mut held = have_turn(rt, shared, seat, kept);
     let reply = held.call(number, event);
-    mark_call::<A, Brand>(shared, seat, number, event, &reply);
+    let entered = Mark::Call {
+        number,
+        event,
+        reply: &reply,
+    };
+    mark_entry::<A, Brand>(shared, seat, entered);
     keep_ticket(shared, seat, held);
     reply
 }
@@ -160,7 +152,7 @@ fn split_turn<W: Wait, A: Admission>(
 {
     let mut held = take_turn(rt, shared, seat);
     let new = held.split();
-    mark_split::<A, Brand>(shared, seat, number, new);
+    mark_entry::<A, Brand>(shared, seat, Mark::Split { number, new });
     end_turn(shared, seat, held);
     new
 }
@@ -211,6 +203,6 @@ pub(crate) fn join<W: Wait, A: Admission>(
     shared.join_seat::<JoinSeat>(seat, from);
     let mut held = take_turn(rt, shared, seat);
     held.join(old);
-    mark_join::<A, Brand>(shared, seat, number, old);
+    mark_entry::<A, Brand>(shared, seat, Mark::Join { number, old });
     end_turn(shared, seat, held);
 }

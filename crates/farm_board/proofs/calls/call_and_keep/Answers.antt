@@ -16,19 +16,19 @@ pub keep_ticket-requires-clause-entry : goal.keep_ticket-requires-clause-entry
 keep_ticket-requires-clause-entry g c =
     let w = c.have_turn-held.new.seat.me.0 in
     let e : HistoryEntry = entry.Call (call_of c.args.number c.args.event.now c.call-reply.result) in
-    let x_is : c.mark_call.new.seat.me.0 ≡ with_coming w e = ap (λ (m : Me _ View). m.0) c.mark_call.ensures.view in
-    (call_of c.args.number c.args.event.now c.call-reply.result, ap (λ (z : View). z.coming) x_is, then_is c.args.seat.now.me.0 w c.mark_call.new.seat.me.0 _ _ e c.have_turn-held.ensures.turn c.call-reply.ensures.next x_is)
+    let x_is : c.mark_entry.new.seat.me.0 ≡ with_coming w e = ap (λ (m : Me _ View). m.0) c.mark_entry.ensures.view in
+    (call_of c.args.number c.args.event.now c.call-reply.result, ap (λ (z : View). z.coming) x_is, then_is c.args.seat.now.me.0 w c.mark_entry.new.seat.me.0 _ _ e c.have_turn-held.ensures.turn c.call-reply.ensures.next x_is)
 
 kept : (g : _) (c : goal.After-keep_ticket g) → KeepsTurn c.args.seat.now.me.0 c.keep_ticket.new.seat.me.0 (its_entry g c)
 kept g c =
     let t = c.have_turn-held.ensures.turn in
-    keeps_turn c.args.seat.now.me.0 c.have_turn-held.new.seat.me.0 _ (its_entry g c) c.mark_call.new.seat.me c.keep_ticket.new.seat.me t (ap (λ (m : Me _ View). m.0) c.mark_call.ensures.view) c.keep_ticket.ensures.view
+    keeps_turn c.args.seat.now.me.0 c.have_turn-held.new.seat.me.0 _ (its_entry g c) c.mark_entry.new.seat.me c.keep_ticket.new.seat.me t (ap (λ (m : Me _ View). m.0) c.mark_entry.ensures.view) c.keep_ticket.ensures.view
     (next_call _ _ _ _ _ _ t c.requires.number c.call-reply.ensures.reply)
 
 pub returns-clause-keeping : goal.returns-clause-keeping
 returns-clause-keeping g c = (
   keeping_after_call (kept g c) (live_between _ _ c.requires.between.0),
-  empty_after_kept c.have_turn-held.new.seat.me.0 (its_entry g c) c.mark_call.new.seat.me c.keep_ticket.new.seat.me (ap (λ (m : Me _ View). m.0) c.mark_call.ensures.view) c.keep_ticket.ensures.view,
+  empty_after_kept c.have_turn-held.new.seat.me.0 (its_entry g c) c.mark_entry.new.seat.me c.keep_ticket.new.seat.me (ap (λ (m : Me _ View). m.0) c.mark_entry.ensures.view) c.keep_ticket.ensures.view,
 )
 
 pub returns-clause-calls : goal.returns-clause-calls

@@ -20,8 +20,8 @@ pub end_turn-requires-clause-entry : goal.end_turn-requires-clause-entry
 end_turn-requires-clause-entry g c =
     let w = c.take_turn-held.new.seat.me.0 in
     let e : HistoryEntry = entry.Join c.args.number c.args.old in
-    let x_is : c.mark_join.new.seat.me.0 ≡ with_coming w e = ap (λ (m : Me _ View). m.0) c.mark_join.ensures.view in
-    (e, ap (λ (z : View). z.coming) x_is, then_is _ w c.mark_join.new.seat.me.0 _ _ e c.take_turn-held.ensures.turn c.join.ensures x_is)
+    let x_is : c.mark_entry.new.seat.me.0 ≡ with_coming w e = ap (λ (m : Me _ View). m.0) c.mark_entry.ensures.view in
+    (e, ap (λ (z : View). z.coming) x_is, then_is _ w c.mark_entry.new.seat.me.0 _ _ e c.take_turn-held.ensures.turn c.join.ensures x_is)
 
 in_turn : (g : _) (c : goal.After-end_turn g) → InTurn (joined_view c.args.seat.now.me.0 c.args.from.me.0) c.take_turn-held.new.seat.me.0 c.take_turn-held.result.contents
 in_turn g c = subst (λ (m : Me _ View). InTurn m.0 c.take_turn-held.new.seat.me.0 c.take_turn-held.result.contents) c.join_seat.ensures.2 c.take_turn-held.ensures.turn
@@ -29,13 +29,13 @@ in_turn g c = subst (λ (m : Me _ View). InTurn m.0 c.take_turn-held.new.seat.me
 ended : (g : _) (c : goal.After-end_turn g) → EndsTurn (joined_view c.args.seat.now.me.0 c.args.from.me.0) c.end_turn.new.seat.me.0 (its_entry g c)
 ended g c =
     let t = in_turn g c in
-    ends_turn (joined_view c.args.seat.now.me.0 c.args.from.me.0) c.take_turn-held.new.seat.me.0 _ (its_entry g c) c.mark_join.new.seat.me c.end_turn.new.seat.me t (ap (λ (m : Me _ View). m.0) c.mark_join.ensures.view) c.end_turn.ensures.view
+    ends_turn (joined_view c.args.seat.now.me.0 c.args.from.me.0) c.take_turn-held.new.seat.me.0 _ (its_entry g c) c.mark_entry.new.seat.me c.end_turn.new.seat.me t (ap (λ (m : Me _ View). m.0) c.mark_entry.ensures.view) c.end_turn.ensures.view
     (next_join c.args.seat.now.me.0 c.args.from.me.0 c.take_turn-held.new.seat.me.0 _ _ _ t c.requires.number.0 c.requires.number.1)
 
 pub returns-clause-free : goal.returns-clause-free
 returns-clause-free g c = (
   free_after_turn (ended g c) c.requires.free.0.resting.live refl,
-  empty_after_turn c.take_turn-held.new.seat.me.0 (its_entry g c) c.mark_join.new.seat.me c.end_turn.new.seat.me (ap (λ (m : Me _ View). m.0) c.mark_join.ensures.view) c.end_turn.ensures.view,
+  empty_after_turn c.take_turn-held.new.seat.me.0 (its_entry g c) c.mark_entry.new.seat.me c.end_turn.new.seat.me (ap (λ (m : Me _ View). m.0) c.mark_entry.ensures.view) c.end_turn.ensures.view,
 )
 
 pub returns-clause-joins : goal.returns-clause-joins

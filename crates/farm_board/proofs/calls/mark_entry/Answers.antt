@@ -3,7 +3,7 @@ use Rattle.farm_board.specs.Histories.{board_after, pass_number, IsNext}
 use Rattle.farm_board.specs.Views.{Suits}
 use Rattle.farm_board.specs.declared.entries.HistoryEntry.{HistoryEntry}
 use Rattle.farm_board.proofs.Turns.{marks}
-use Rattle.farm_board.proofs.calls.mark_join.Goals as goal
+use Rattle.farm_board.proofs.calls.mark_entry.Goals as goal
 
 pub load-requires : goal.load-requires
 load-requires g c =
