@@ -38,10 +38,11 @@ IsReadAnswer file (Err (TooLarge len)) = Err (TooLarge len) ≡ read_answer file
 IsReadAnswer file (Err Failed) = ⊤
 IsReadAnswer file (Err NoMemory) = ⊤
 
--- the count of faults never falls, and rises at each fault
+-- the count of faults never falls, and rises at each fault and at nothing else
 pub record HasCause {A : Type 0} (before now : ℕ) (result : Result A TreeErr) : Type 0 where
   pub later : before ≤ now
   pub failed : result ≡ Err Failed → Rose before now
+  pub kept : result ≢ Err Failed → now ≡ before
 
 -- the count of faults rises by one at a fault, and at nothing else
 pub record CountsFault {A : Type 0} (before now : ℕ) (result : Result A TreeErr) : Type 0 where
