@@ -75,6 +75,10 @@ impl<R: Files + Alloc<A = Global> + Clone + Drop> Tree for DiskTree<R> {
         count_fault(&mut self.faults, &answer);
         answer
     }
+
+    fn fault_count(&self) -> u64 {
+        self.faults
+    }
 }
 
 /// Raises the count where the call has failed.

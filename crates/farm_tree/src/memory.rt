@@ -75,6 +75,10 @@ impl Tree for ReliableTree {
     fn list(&mut self, path: &str) -> Result<Entries, TreeErr> {
         list_files(self.alloc, &self.files, path)
     }
+
+    fn fault_count(&self) -> u64 {
+        0
+    }
 }
 
 /// Puts the file, whose path is this one, in the place of the one at its path, or behind the others.
@@ -232,5 +236,9 @@ impl Tree for MemoryTree {
             return Err(TreeErr::Failed);
         }
         self.tree.list(path)
+    }
+
+    fn fault_count(&self) -> u64 {
+        self.faults
     }
 }

@@ -79,4 +79,8 @@ pub trait Tree {
         ensures not_large { (len : ℕ) → result ≢ Err (TreeErr.TooLarge len) }
         ensures within { IfOk result (λ _. length path.now ≤ path_limit) }
         ensures text { IfOk result (λ entries. All (λ (entry : Entry). IsUtf8 entry.name) entries) };
+
+    /// How often the tree has failed: a caller that is given no answer of a call can find out by it that the call failed.
+    fn fault_count(&self) -> u64
+        ensures { result ≡ faults self.now };
 }

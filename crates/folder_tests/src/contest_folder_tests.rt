@@ -443,6 +443,10 @@ impl Tree for Heavy {
     fn list(&mut self, path: &str) -> Result<Entries, TreeErr> {
         self.tree.list(path)
     }
+
+    fn fault_count(&self) -> u64 {
+        0
+    }
 }
 
 /// Appends `count` submissions of one file to a list.

@@ -57,4 +57,8 @@ impl<R: Files + Alloc<A = Global> + Clone + Drop> Tree for Watched<R> {
         self.keep(path, &answer);
         answer
     }
+
+    fn fault_count(&self) -> u64 {
+        self.tree.fault_count()
+    }
 }
