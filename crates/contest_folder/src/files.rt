@@ -1,4 +1,4 @@
-ghost use Rattle.std.specs.Prelude.{◌≡◌, ◌≤◌, IfOk, IfSome, length};
+ghost use Rattle.std.specs.Prelude.{◌≡◌, ◌≢◌, ◌≤◌, IfOk, IfSome, length};
 ghost use Rattle.farm_io.specs.Streams.{Rose};
 ghost use Rattle.farm_tree.specs.Reading.{file_at, file_limit};
 ghost use Rattle.package_folder.specs.Told.{WhereTold};
@@ -22,6 +22,7 @@ pub(crate) fn read_file<T: Tree>(
     ensures same { T.files tree.new ≡ T.files tree.old }
     ensures later { T.faults tree.old ≤ T.faults tree.new }
     ensures cause { result ≡ Err ContestFault.Tree → Rose (T.faults tree.old) (T.faults tree.new) }
+    ensures first { result ≢ Err ContestFault.Tree → T.faults tree.new ≡ T.faults tree.old }
 {
     let file = in_folder(alloc, path, name)?;
     read_path(alloc, tree, file.as_str(), name)
@@ -39,6 +40,7 @@ fn read_path<T: Tree>(
     ensures same { T.files tree.new ≡ T.files tree.old }
     ensures later { T.faults tree.old ≤ T.faults tree.new }
     ensures cause { result ≡ Err ContestFault.Tree → Rose (T.faults tree.old) (T.faults tree.new) }
+    ensures first { result ≢ Err ContestFault.Tree → T.faults tree.new ≡ T.faults tree.old }
 {
     match tree.read(path) {
         Ok(bytes) => Ok(Some(bytes)),

@@ -1,4 +1,4 @@
-ghost use Rattle.std.specs.Prelude.{◌≡◌, ◌≤◌, ◌<◌, ◌++◌, ◌∷◌, [], ◌+◌, ℕ, List, length, map, find, All, IfOk, OnOk, None, true};
+ghost use Rattle.std.specs.Prelude.{◌≡◌, ◌≢◌, ◌≤◌, ◌<◌, ◌++◌, ◌∷◌, [], ◌+◌, ℕ, List, length, map, find, All, IfOk, OnOk, None, true};
 ghost use Rattle.std.specs.Str.{IsUtf8};
 ghost use Rattle.farm_io.specs.Streams.{Rose};
 ghost use Rattle.package_folder.specs.Told.{WhereTold};
@@ -43,6 +43,7 @@ pub(crate) fn read_submissions<T: Tree>(
     ensures same { T.files tree.new ≡ T.files tree.old }
     ensures later { T.faults tree.old ≤ T.faults tree.new }
     ensures cause { result ≡ Err ContestFault.Tree → Rose (T.faults tree.old) (T.faults tree.new) }
+    ensures first { result ≢ Err ContestFault.Tree → T.faults tree.new ≡ T.faults tree.old }
 {
     let folder = in_folder(alloc, path, "submissions")?;
     let mut held = Held {
@@ -112,6 +113,7 @@ fn read_image<T: Tree>(
     ensures same { T.files tree.new ≡ T.files tree.old }
     ensures later { T.faults tree.old ≤ T.faults tree.new }
     ensures cause { result ≡ Err ContestFault.Tree → Rose (T.faults tree.old) (T.faults tree.new) }
+    ensures first { result ≢ Err ContestFault.Tree → T.faults tree.new ≡ T.faults tree.old }
 {
     let name = str::from_utf8(entry.file.as_slice()).unwrap();
     let file = in_folder(alloc, folder, name)?;

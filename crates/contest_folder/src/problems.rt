@@ -37,6 +37,7 @@ pub(crate) fn read_problems<T: Tree>(
     ensures same { T.files tree.new ≡ T.files tree.old }
     ensures later { T.faults tree.old ≤ T.faults tree.new }
     ensures cause { result ≡ Err ContestFault.Tree → Rose (T.faults tree.old) (T.faults tree.new) }
+    ensures first { result ≢ Err ContestFault.Tree → T.faults tree.new ≡ T.faults tree.old }
 {
     let folder = in_folder(alloc, path, "problems")?;
     let shorts = checked(alloc, read_shorts(alloc, tree, folder.as_str())?)?;
@@ -55,6 +56,7 @@ pub fn read_shorts<T: Tree>(
     ensures same { T.files tree.new ≡ T.files tree.old }
     ensures later { T.faults tree.old ≤ T.faults tree.new }
     ensures cause { result ≡ Err ContestFault.Tree → Rose (T.faults tree.old) (T.faults tree.new) }
+    ensures first { result ≢ Err ContestFault.Tree → T.faults tree.new ≡ T.faults tree.old }
 {
     let mut shorts = list_folders(alloc, tree, folder)?;
     shorts.put_in_order();
@@ -68,6 +70,7 @@ fn list_folders<T: Tree>(alloc: Global, tree: &mut T, folder: &str) -> Result<Pa
     ensures same { T.files tree.new ≡ T.files tree.old }
     ensures later { T.faults tree.old ≤ T.faults tree.new }
     ensures cause { result ≡ Err ContestFault.Tree → Rose (T.faults tree.old) (T.faults tree.new) }
+    ensures first { result ≢ Err ContestFault.Tree → T.faults tree.new ≡ T.faults tree.old }
 {
     match tree.list(folder) {
         Ok(entries) => Ok(names_of_folders(alloc, entries.as_slice())?),
@@ -170,6 +173,7 @@ fn read_packages<T: Tree>(
     ensures same { T.files tree.new ≡ T.files tree.old }
     ensures later { T.faults tree.old ≤ T.faults tree.new }
     ensures cause { result ≡ Err ContestFault.Tree → Rose (T.faults tree.old) (T.faults tree.new) }
+    ensures first { result ≢ Err ContestFault.Tree → T.faults tree.new ≡ T.faults tree.old }
 {
     let mut problems = Vec::new(alloc);
     for short in shorts {
@@ -194,6 +198,7 @@ fn read_problem<T: Tree>(
     ensures same { T.files tree.new ≡ T.files tree.old }
     ensures later { T.faults tree.old ≤ T.faults tree.new }
     ensures cause { result ≡ Err ContestFault.Tree → Rose (T.faults tree.old) (T.faults tree.new) }
+    ensures first { result ≢ Err ContestFault.Tree → T.faults tree.new ≡ T.faults tree.old }
 {
     let Some(name) = Name::read(short.as_bytes()) else {
         // the names were looked at before

@@ -1,4 +1,4 @@
-ghost use Rattle.std.specs.Prelude.{◌≡◌, ◌≤◌};
+ghost use Rattle.std.specs.Prelude.{◌≡◌, ◌≢◌, ◌≤◌};
 ghost use Rattle.farm_io.specs.Streams.{Rose};
 ghost use Rattle.package_folder.specs.Told.{WhereTold};
 ghost use Rattle.contest_folder.specs.Telling.{Answers};
@@ -15,7 +15,8 @@ use farm_tree::Tree;
 use std::alloc::Global;
 
 /// Reads the contest in the folder at the path: `farm.json`, a package for each folder of `problems`, and
-/// `submissions.txt` with the images in `submissions` that it names. Nothing else is looked at.
+/// `submissions.txt` with the images in `submissions` that it names. Nothing else is looked at. Where the tree fails, that
+/// is the answer, at once.
 pub fn read_contest<T: Tree>(
     alloc: Global,
     tree: &mut T,
@@ -25,6 +26,7 @@ pub fn read_contest<T: Tree>(
     ensures same { T.files tree.new ≡ T.files tree.old }
     ensures later { T.faults tree.old ≤ T.faults tree.new }
     ensures cause { result ≡ Err ContestFault.Tree → Rose (T.faults tree.old) (T.faults tree.new) }
+    ensures first { result ≢ Err ContestFault.Tree → T.faults tree.new ≡ T.faults tree.old }
 {
     let settings = read_contest_settings(alloc, tree, path)?;
     let problems = read_problems(alloc, tree, path, settings.ips())?;
@@ -46,6 +48,7 @@ pub fn read_contest_settings<T: Tree>(
     ensures same { T.files tree.new ≡ T.files tree.old }
     ensures later { T.faults tree.old ≤ T.faults tree.new }
     ensures cause { result ≡ Err ContestFault.Tree → Rose (T.faults tree.old) (T.faults tree.new) }
+    ensures first { result ≢ Err ContestFault.Tree → T.faults tree.new ≡ T.faults tree.old }
 {
     let Some(text) = read_file(alloc, tree, path, "farm.json")? else {
         return Ok(Settings::standard(alloc));

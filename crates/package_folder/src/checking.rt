@@ -27,6 +27,7 @@ pub(crate) fn check_by<T: Tree>(
     ensures same { T.files tree.new ≡ T.files tree.old }
     ensures later { T.faults tree.old ≤ T.faults tree.new }
     ensures cause { result ≡ Err PackageFault.Tree → Rose (T.faults tree.old) (T.faults tree.new) }
+    ensures first { result ≢ Err PackageFault.Tree → T.faults tree.new ≡ T.faults tree.old }
 {
     match flags {
         Some(flags) => default_check(alloc, flags, tests),
@@ -63,6 +64,7 @@ fn custom_check<T: Tree>(
     ensures same { T.files tree.new ≡ T.files tree.old }
     ensures later { T.faults tree.old ≤ T.faults tree.new }
     ensures cause { result ≡ Err PackageFault.Tree → Rose (T.faults tree.old) (T.faults tree.new) }
+    ensures first { result ≢ Err PackageFault.Tree → T.faults tree.new ≡ T.faults tree.old }
 {
     let folder = in_folder(alloc, path, "output_validators")?;
     let entries = match tree.list(folder.as_str()) {
@@ -96,6 +98,7 @@ fn validator_at<T: Tree>(
     ensures same { T.files tree.new ≡ T.files tree.old }
     ensures later { T.faults tree.old ≤ T.faults tree.new }
     ensures cause { result ≡ Err PackageFault.Tree → Rose (T.faults tree.old) (T.faults tree.new) }
+    ensures first { result ≢ Err PackageFault.Tree → T.faults tree.new ≡ T.faults tree.old }
 {
     if entry.folder || !entry.name.as_slice().ends_with(b".rv32") {
         return Err(PackageFault::SourceValidator {
@@ -119,6 +122,7 @@ fn read_validator<T: Tree>(
     ensures same { T.files tree.new ≡ T.files tree.old }
     ensures later { T.faults tree.old ≤ T.faults tree.new }
     ensures cause { result ≡ Err PackageFault.Tree → Rose (T.faults tree.old) (T.faults tree.new) }
+    ensures first { result ≢ Err PackageFault.Tree → T.faults tree.new ≡ T.faults tree.old }
 {
     let text = str::from_utf8(entry.name.as_slice()).unwrap();
     let below = in_folder(alloc, "output_validators", text)?;

@@ -23,7 +23,7 @@ const TOTAL_LIMIT: u64 = 268_435_456;
 /// Reads the package in the folder at the path, where a second of time limit stands for `ips` instructions.
 ///
 /// It reads `problem.yaml`, `domjudge-problem.ini`, the test files below `data` and, with custom validation, the one
-/// file of `output_validators`. Nothing else is looked at.
+/// file of `output_validators`. Nothing else is looked at. Where the tree fails, that is the answer, at once.
 pub fn read_package<T: Tree>(
     alloc: Global,
     tree: &mut T,
@@ -35,6 +35,7 @@ pub fn read_package<T: Tree>(
     ensures same { T.files tree.new ≡ T.files tree.old }
     ensures later { T.faults tree.old ≤ T.faults tree.new }
     ensures cause { result ≡ Err PackageFault.Tree → Rose (T.faults tree.old) (T.faults tree.new) }
+    ensures first { result ≢ Err PackageFault.Tree → T.faults tree.new ≡ T.faults tree.old }
 {
     let yaml = read_settings(alloc, tree, path)?;
     let ms = read_limit(alloc, tree, path)?;
@@ -63,6 +64,7 @@ fn read_settings<T: Tree>(alloc: Global, tree: &mut T, path: &str) -> Result<Yam
     ensures same { T.files tree.new ≡ T.files tree.old }
     ensures later { T.faults tree.old ≤ T.faults tree.new }
     ensures cause { result ≡ Err PackageFault.Tree → Rose (T.faults tree.old) (T.faults tree.new) }
+    ensures first { result ≢ Err PackageFault.Tree → T.faults tree.new ≡ T.faults tree.old }
 {
     let file = in_folder(alloc, path, "problem.yaml")?;
     let Some(bytes) = read_file(alloc, tree, file.as_str(), b"problem.yaml")? else {
@@ -81,6 +83,7 @@ fn read_limit<T: Tree>(alloc: Global, tree: &mut T, path: &str) -> Result<u32, P
     ensures same { T.files tree.new ≡ T.files tree.old }
     ensures later { T.faults tree.old ≤ T.faults tree.new }
     ensures cause { result ≡ Err PackageFault.Tree → Rose (T.faults tree.old) (T.faults tree.new) }
+    ensures first { result ≢ Err PackageFault.Tree → T.faults tree.new ≡ T.faults tree.old }
 {
     let file = in_folder(alloc, path, "domjudge-problem.ini")?;
     let Some(bytes) = read_file(alloc, tree, file.as_str(), b"domjudge-problem.ini")? else {
@@ -114,6 +117,7 @@ fn read_data<T: Tree>(alloc: Global, tree: &mut T, path: &str) -> Result<Tests, 
     ensures same { T.files tree.new ≡ T.files tree.old }
     ensures later { T.faults tree.old ≤ T.faults tree.new }
     ensures cause { result ≡ Err PackageFault.Tree → Rose (T.faults tree.old) (T.faults tree.new) }
+    ensures first { result ≢ Err PackageFault.Tree → T.faults tree.new ≡ T.faults tree.old }
 {
     let folder = in_folder(alloc, path, "data")?;
     let paths = paths_below(alloc, tree, folder.as_str())?;
@@ -135,6 +139,7 @@ fn read_tests<T: Tree>(
     ensures same { T.files tree.new ≡ T.files tree.old }
     ensures later { T.faults tree.old ≤ T.faults tree.new }
     ensures cause { result ≡ Err PackageFault.Tree → Rose (T.faults tree.old) (T.faults tree.new) }
+    ensures first { result ≢ Err PackageFault.Tree → T.faults tree.new ≡ T.faults tree.old }
 {
     let mut tests = Tests::new(alloc);
     let mut total = 0;
@@ -162,6 +167,7 @@ fn read_test<T: Tree>(
     ensures same { T.files tree.new ≡ T.files tree.old }
     ensures later { T.faults tree.old ≤ T.faults tree.new }
     ensures cause { result ≡ Err PackageFault.Tree → Rose (T.faults tree.old) (T.faults tree.new) }
+    ensures first { result ≢ Err PackageFault.Tree → T.faults tree.new ≡ T.faults tree.old }
 {
     let name = name_below(alloc, folder, stem)?;
     let input = with_ending(alloc, stem, ".in")?;
@@ -191,6 +197,7 @@ fn read_test_file<T: Tree>(
     ensures same { T.files tree.new ≡ T.files tree.old }
     ensures later { T.faults tree.old ≤ T.faults tree.new }
     ensures cause { result ≡ Err PackageFault.Tree → Rose (T.faults tree.old) (T.faults tree.new) }
+    ensures first { result ≢ Err PackageFault.Tree → T.faults tree.new ≡ T.faults tree.old }
 {
     let name = name_below(alloc, path, file)?;
     let Some(bytes) = read_file(alloc, tree, file, name.as_slice())? else {

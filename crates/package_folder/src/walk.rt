@@ -1,4 +1,4 @@
-ghost use Rattle.std.specs.Prelude.{◌≡◌, ◌≤◌, ◌++◌, [], ◌∷◌, ℕ, List, IfOk, IfErr, OnOk, All, string_bytes};
+ghost use Rattle.std.specs.Prelude.{◌≡◌, ◌≢◌, ◌≤◌, ◌++◌, [], ◌∷◌, ℕ, List, IfOk, IfErr, OnOk, All, string_bytes};
 ghost use Rattle.std.specs.Str.{IsUtf8};
 ghost use Rattle.farm_io.specs.Streams.{Rose};
 ghost use Rattle.farm_tree.specs.declared.entries.Entry.{Entry};
@@ -31,6 +31,7 @@ pub fn paths_below<T: Tree>(
     ensures later { T.faults tree.old ≤ T.faults tree.new }
     ensures stopped { IfErr result IsStop }
     ensures cause { result ≡ Err PackageFault.Tree → Rose (T.faults tree.old) (T.faults tree.new) }
+    ensures first { result ≢ Err PackageFault.Tree → T.faults tree.new ≡ T.faults tree.old }
 {
     let mut found = Paths::new(alloc);
     let mut folders = Paths::new(alloc);
@@ -55,6 +56,7 @@ fn list_level<T: Tree>(
     ensures later { T.faults tree.old ≤ T.faults tree.new }
     ensures stopped { IfErr result IsStop }
     ensures cause { result ≡ Err PackageFault.Tree → Rose (T.faults tree.old) (T.faults tree.new) }
+    ensures first { result ≢ Err PackageFault.Tree → T.faults tree.new ≡ T.faults tree.old }
 {
     let mut inner = Paths::new(alloc);
     for folder in folders.as_slice() {
@@ -77,6 +79,7 @@ fn list_folder<T: Tree>(
     ensures later { T.faults tree.old ≤ T.faults tree.new }
     ensures stopped { IfErr result IsStop }
     ensures cause { result ≡ Err PackageFault.Tree → Rose (T.faults tree.old) (T.faults tree.new) }
+    ensures first { result ≢ Err PackageFault.Tree → T.faults tree.new ≡ T.faults tree.old }
 {
     match tree.list(folder) {
         Ok(entries) => Ok(add_entries(alloc, folder, entries.as_slice(), found, folders)?),

@@ -1,8 +1,10 @@
-use Rattle.std.proofs.Common.{ℕ, ◌≡◌, ◌≤◌, ◌++◌, ◌∷◌, [], List, length, map, find, take, true, false, Option, Some, None, is_none, Err, All, sym, ap, subst, ◌∙◌, arith, rules, IsUtf8, length-append, ⊎_elim}
+use Rattle.std.proofs.Common.{ℕ, ◌≡◌, ◌≤◌, ◌++◌, ◌∷◌, [], List, length, map, find, take, true, false, Option, Some, None, is_none, Result, Err, All, refl, sym, ap, subst, ◌∙◌, arith, rules, IsUtf8, length-append, ⊎_elim}
 use Rattle.std.proofs.lemmas.List.{take_all, drop_all, length-map}
 use Rattle.std.proofs.lemmas.Bool.{cases_lt}
 use Rattle.std.proofs.lemmas.List.Elements.{All-push}
 use Rattle.farm_tree.specs.declared.reads.TreeFile.{TreeFile}
+use Rattle.contest_folder.specs.declared.faults.ContestFault.{ContestFault}
+use Rattle.contest_folder.specs.declared.faults.ContestFault.TheVariants as fault
 use Rattle.contest_folder.specs.declared.lines.Entry.{Entry}
 use Rattle.contest_folder.specs.declared.roster.Submission.{Submission}
 use Rattle.contest_folder.specs.RosterShape.{IsPlaced, problem_named}
@@ -67,7 +69,7 @@ loop-entry-preserved g c =
           (All-push (IsPlaced problems) before.submissions.items one c.loop-entry.invariant.placed placed))
           (cases_lt total_limit after.total);
       same = c.in_ok-image.ensures.same ∙ c.loop-entry.invariant.same;
-      later = let a = c.loop-entry.invariant.later in let b = c.in_ok-image.ensures.later in omega (arith, a, b);
+      first = c.in_ok-image.ensures.first (λ e. cc) ∙ c.loop-entry.invariant.first;
     }
 
 pub returns-clause-submissions : goal.returns-clause-submissions
@@ -92,3 +94,12 @@ read_image-requires g c =
 
 pub returns-clause-placed : goal.returns-clause-placed
 returns-clause-placed g c = all_kept (IsPlaced c.args.problems.now) c.loop-entry.held.submissions.items c.within.result c.within.ensures.kept c.loop-entry.invariant.placed
+
+one_fault : {A : Type 0} (r : Result A ContestFault) (e f : ContestFault) → r ≡ Err e → r ≡ Err f → e ≡ f
+one_fault r e f is at = cc
+
+pub returns-in_err-image-clause-first : goal.returns-in_err-image-clause-first
+returns-in_err-image-clause-first g c = λ other.
+    let e = c.in_err-image.field-0.0 in
+    let is : c.from_residual-in_err-image.result ≡ Err e = search rules in
+    c.in_err-image.ensures.first (λ tree. other (is ∙ ap Err (one_fault (Err e) e fault.Tree refl tree))) ∙ c.loop-entry.invariant.first

@@ -15,5 +15,5 @@ invariant-loop-entry g l = record {
   count : length l.held.submissions.items ≤ l.entry-index;
   placed : All (IsPlaced l.problems) l.held.submissions.items;
   same : g.T.Tree.files l.tree ≡ g.T.Tree.files l.fn.tree;
-  later : g.T.Tree.faults l.fn.tree ≤ g.T.Tree.faults l.tree;
+  first : g.T.Tree.faults l.tree ≡ g.T.Tree.faults l.fn.tree;
 }

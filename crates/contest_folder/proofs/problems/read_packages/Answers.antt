@@ -1,4 +1,4 @@
-use Rattle.std.proofs.Common.{◌≡◌, ◌+◌, ◌∷◌, ◌++◌, [], List, ℕ, Result, Ok, Err, All, Contains, drop, take, string_bytes, sym, ap, subst, ◌∙◌, arith, rules, add-one}
+use Rattle.std.proofs.Common.{◌≡◌, ◌+◌, ◌∷◌, ◌++◌, [], List, ℕ, Result, Ok, Err, All, Contains, drop, take, string_bytes, sym, ap, subst, ◌∙◌, rules, add-one}
 use Rattle.std.proofs.lemmas.List.{map-append}
 use Rattle.std.proofs.lemmas.List.Elements.{All-push}
 use Rattle.package_folder.specs.Package.{IsPackage}
@@ -64,5 +64,5 @@ loop-short-preserved g c =
       packages = subst (λ (ps : List Problem). All (λ (p : Problem). IsPackage p.contents) ps) (sym pushed)
           (All-push (λ (p : Problem). IsPackage p.contents) es problem c.loop-short.invariant.packages c.in_ok-problem.ensures.sound);
       same = c.in_ok-problem.ensures.same ∙ c.loop-short.invariant.same;
-      later = let a = c.loop-short.invariant.later in let b = c.in_ok-problem.ensures.later in omega (arith, a, b);
+      first = c.in_ok-problem.ensures.first (λ e. cc) ∙ c.loop-short.invariant.first;
     }

@@ -1,4 +1,4 @@
-use Rattle.std.proofs.Common.{◌≡◌, ◌≤◌, All, take, drop}
+use Rattle.std.proofs.Common.{◌≡◌, All, take, drop}
 use Rattle.package_folder.specs.Package.{IsPackage}
 use Rattle.package_folder.specs.Paths.{texts}
 use Rattle.package_folder.specs.Told.{WhereTold}
@@ -15,5 +15,5 @@ invariant-loop-short g l = record {
   named : names_of l.problems.items ≡ take l.short-index (texts l.shorts);
   packages : All (λ (problem : Problem). IsPackage problem.contents) l.problems.items;
   same : g.T.Tree.files l.tree ≡ g.T.Tree.files l.fn.tree;
-  later : g.T.Tree.faults l.fn.tree ≤ g.T.Tree.faults l.tree;
+  first : g.T.Tree.faults l.tree ≡ g.T.Tree.faults l.fn.tree;
 }

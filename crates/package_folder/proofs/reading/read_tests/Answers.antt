@@ -50,5 +50,5 @@ loop-stem-preserved g c =
       bound = c.in_ok-test.ensures.bound;
       count = let h = ap (λ (ts : List Test). length ts) pushed in omega (arith, h, length-append {A = Test}, c.loop-stem.invariant.count);
       same = c.in_ok-test.ensures.same ∙ c.loop-stem.invariant.same;
-      later = let a = c.loop-stem.invariant.later in let b = c.in_ok-test.ensures.later in omega (arith, a, b);
+      first = c.in_ok-test.ensures.first (λ e. cc) ∙ c.loop-stem.invariant.first;
     }

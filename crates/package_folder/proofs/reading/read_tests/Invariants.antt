@@ -12,5 +12,5 @@ invariant-loop-stem g l = record {
   bound : l.total ≤ total_limit;
   count : length l.tests ≡ l.stem-index;
   same : g.T.Tree.files l.tree ≡ g.T.Tree.files l.fn.tree;
-  later : g.T.Tree.faults l.fn.tree ≤ g.T.Tree.faults l.tree;
+  first : g.T.Tree.faults l.tree ≡ g.T.Tree.faults l.fn.tree;
 }

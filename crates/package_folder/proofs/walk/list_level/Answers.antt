@@ -1,4 +1,4 @@
-use Rattle.std.proofs.Common.{◌≡◌, ◌+◌, ◌++◌, ◌∷◌, List, ℕ, [], drop, string_bytes, Contains, sym, subst, ◌∙◌, arith, rules, add-one, suc}
+use Rattle.std.proofs.Common.{◌≡◌, ◌+◌, ◌++◌, ◌∷◌, List, ℕ, [], drop, string_bytes, Contains, sym, subst, ◌∙◌, add-one, suc}
 use Rattle.package_folder.specs.Paths.{texts}
 use Rattle.package_folder.specs.Walk.{Reaches}
 use Rattle.package_folder.proofs.Strings.{drop_text, text_among}
@@ -26,5 +26,5 @@ loop-folder-preserved g c =
           (c.in_ok-list_folder.ensures.visits files (c.loop-folder.invariant.same ∙ told));
       deepens = deepens_step folders c.as_str.result.now inner c.list_folder.new.folders among c.loop-folder.invariant.deepens c.in_ok-list_folder.ensures.deepens;
       same = c.in_ok-list_folder.ensures.same ∙ c.loop-folder.invariant.same;
-      later = let a = c.loop-folder.invariant.later in let b = c.in_ok-list_folder.ensures.later in omega (arith, a, b);
+      first = c.in_ok-list_folder.ensures.first (λ e. cc) ∙ c.loop-folder.invariant.first;
     }

@@ -1,4 +1,4 @@
-use Rattle.std.proofs.Common.{◌≡◌, ◌≤◌, ◌++◌, List, ℕ, drop}
+use Rattle.std.proofs.Common.{◌≡◌, ◌++◌, List, ℕ, drop}
 use Rattle.package_folder.specs.Told.{WhereTold}
 use Rattle.package_folder.specs.Paths.{texts}
 use Rattle.package_folder.specs.Walk.{Reaches, Deepens}
@@ -10,5 +10,5 @@ invariant-loop-folder g l = record {
       → Reaches files root l.found (drop l.folder-index l.folders ++ l.inner));
   deepens : Deepens l.folders l.inner;
   same : g.T.Tree.files l.tree ≡ g.T.Tree.files l.fn.tree;
-  later : g.T.Tree.faults l.fn.tree ≤ g.T.Tree.faults l.tree;
+  first : g.T.Tree.faults l.tree ≡ g.T.Tree.faults l.fn.tree;
 }
