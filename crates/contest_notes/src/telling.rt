@@ -1,5 +1,5 @@
 //! A contest is read, and a person is told of it.
-ghost use Rattle.std.specs.Prelude.{◌≡◌, ◌≤◌};
+ghost use Rattle.std.specs.Prelude.{◌≡◌, ◌≤◌, false};
 ghost use Rattle.farm_io.specs.Streams.{Rose};
 ghost use Rattle.package_folder.specs.Told.{WhereTold};
 ghost use Rattle.contest_folder.specs.Telling.{Answers};
@@ -31,6 +31,7 @@ pub fn read_told_contest<T: Tree, P: Person>(
     ensures same { T.files tree.new ≡ T.files tree.old }
     ensures later { T.faults tree.old ≤ T.faults tree.new }
     ensures cause { result ≡ Err ContestFault.Tree → Rose (T.faults tree.old) (T.faults tree.new) }
+    ensures first { result ≡ Err ContestFault.NoMemory → T.faults tree.new ≡ T.faults tree.old }
 {
     // The contest is read first, so that a tree that fails then is not asked in vain for notes.
     let answer = read_contest(alloc, tree, path);
@@ -42,7 +43,9 @@ pub fn read_told_contest<T: Tree, P: Person>(
 }
 
 /// Whether the folder could be read.
-fn is_told(answer: &Result<Roster, ContestFault>) -> bool {
+fn is_told(answer: &Result<Roster, ContestFault>) -> bool
+    ensures { answer.now ≡ Err ContestFault.NoMemory → result ≡ false }
+{
     !matches!(
         answer,
         Err(ContestFault::Tree) | Err(ContestFault::NoMemory)
