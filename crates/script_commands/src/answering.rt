@@ -36,6 +36,7 @@ pub fn script<T: Tree, S: Source, K: Sink, P: Person>(
     ensures read_fault { result ≡ Exit.ReadFault → Rose (S.faults input.old) (S.faults input.new) }
     ensures write_fault { result ≡ Exit.WriteFault → Rose (K.faults out.old) (K.faults out.new) }
     ensures tree_fault { result ≡ Exit.TreeFault → Rose (T.faults tree.old) (T.faults tree.new) }
+    ensures first { result ≢ Exit.TreeFault → T.faults tree.new ≡ T.faults tree.old }
     ensures complete { ScriptIsDone (T.files tree.old) (option_map (λ path. path.now) config.entry) (S.left input.old)
         (¬ Rose (T.faults tree.old) (T.faults tree.new) × ¬ Rose (S.faults input.old) (S.faults input.new) × ¬ Rose (K.faults out.old) (K.faults out.new))
         result }

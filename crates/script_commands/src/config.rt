@@ -55,6 +55,7 @@ pub fn read_config<T: Tree>(
     ensures digest { IfOk result (λ read. DigestIs (T.files tree.old) path.now read.digest) }
     ensures bad { (fault : BadConfig) → result ≡ Err (ConfigEnd.Bad fault) → ConfigIs (T.files tree.old) path.now (Err fault) }
     ensures cause { result ≡ Err ConfigEnd.TreeFault → Rose (T.faults tree.old) (T.faults tree.new) }
+    ensures first { result ≢ Err ConfigEnd.TreeFault → T.faults tree.new ≡ T.faults tree.old }
     ensures later { T.faults tree.old ≤ T.faults tree.new }
     ensures files { T.files tree.new ≡ T.files tree.old }
 {

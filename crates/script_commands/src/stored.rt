@@ -48,6 +48,7 @@ pub fn script_stored<T: Tree, S: Source, K: Sink, Y: Disk, P: Person>(
     ensures read_fault { result ≡ Exit.ReadFault → Rose (S.faults input.old) (S.faults input.new) }
     ensures write_fault { result ≡ Exit.WriteFault → Rose (K.faults out.old) (K.faults out.new) }
     ensures tree_fault { result ≡ Exit.TreeFault → Rose (T.faults tree.old) (T.faults tree.new) }
+    ensures first { result ≢ Exit.TreeFault → T.faults tree.new ≡ T.faults tree.old }
     ensures store_fault { result ≡ Exit.StoreFault → Rose (Y.faults disk.old) (Y.faults disk.new) }
     ensures complete { StoredIsDone (T.files tree.old) (option_map (λ file. file.now) config.entry)
         (record { tells = Y.tells disk.old; old = record { time = Y.time disk.old; opened = Y.opened disk.old; faults = Y.faults disk.old }; new = record { time = Y.time disk.new; opened = Y.opened disk.new; faults = Y.faults disk.new } })
