@@ -23,6 +23,9 @@ use std::thread::Threads;
 /// `farm judge`: judges the contest in the folder by so many host threads, and writes its table, and behind it the
 /// journal where one is asked for. The person is told what of the folder is skipped, why it is no contest, and how far it
 /// is.
+///
+/// Where the tree fails while notes on the contest are looked for, they are left out; if memory runs out behind that, the
+/// failure is the end, since it came first.
 pub fn judge<R: Threads + Wait + Sync, T: Tree, K: Sink, G: Gate + Sync, P: Person>(
     rt: &R,
     alloc: Global,
@@ -40,6 +43,40 @@ pub fn judge<R: Threads + Wait + Sync, T: Tree, K: Sink, G: Gate + Sync, P: Pers
     ensures read_fault { result ≢ Exit.ReadFault }
     ensures ends { JudgeEnds (T.files tree.old) folder.now hosts journal (K.held out.old) (K.held out.new) (out.new ≡ out.old) result }
     ensures files { T.files tree.new ≡ T.files tree.old }
+    ensures write_fault { result ≡ Exit.WriteFault → Rose (K.faults out.old) (K.faults out.new) }
+    ensures tree_fault { result ≡ Exit.TreeFault → Rose (T.faults tree.old) (T.faults tree.new) }
+    ensures first { result ≡ Exit.Memory → T.faults tree.new ≡ T.faults tree.old }
+    ensures complete { HasContest (T.files tree.old) folder.now
+        → ¬ Rose (T.faults tree.old) (T.faults tree.new) → ¬ Rose (K.faults out.old) (K.faults out.new)
+        → (result ≡ Exit.Done) ⊎ (result ≡ Exit.Memory) }
+{
+    let faults = tree.fault_count();
+    let exit = judge_told(rt, alloc, folder, hosts, journal, tree, out, gate, person);
+    if exit == Exit::Memory && tree.fault_count() > faults {
+        return Exit::TreeFault;
+    }
+    exit
+}
+
+/// Judges the contest in the folder, whatever comes of the notes on it.
+fn judge_told<R: Threads + Wait + Sync, T: Tree, K: Sink, G: Gate + Sync, P: Person>(
+    rt: &R,
+    alloc: Global,
+    folder: &str,
+    hosts: u16,
+    journal: bool,
+    tree: &mut T,
+    out: &mut K,
+    gate: &G,
+    person: &mut P,
+) -> Exit
+    requires hosts { hosts ≤ 16 }
+    ensures command { result ≢ Exit.Usage }
+    ensures door_fault { result ≢ Exit.DoorFault }
+    ensures read_fault { result ≢ Exit.ReadFault }
+    ensures ends { JudgeEnds (T.files tree.old) folder.now hosts journal (K.held out.old) (K.held out.new) (out.new ≡ out.old) result }
+    ensures files { T.files tree.new ≡ T.files tree.old }
+    ensures later { T.faults tree.old ≤ T.faults tree.new }
     ensures write_fault { result ≡ Exit.WriteFault → Rose (K.faults out.old) (K.faults out.new) }
     ensures tree_fault { result ≡ Exit.TreeFault → Rose (T.faults tree.old) (T.faults tree.new) }
     ensures complete { HasContest (T.files tree.old) folder.now
@@ -114,6 +151,7 @@ pub fn refuse_contest<K: Sink>(alloc: Global, fault: &ContestFault, out: &mut K)
     ensures door_fault { result ≢ Exit.DoorFault }
     ensures read_fault { result ≢ Exit.ReadFault }
     ensures tree { result ≡ Exit.TreeFault → fault.now ≡ ContestFault.Tree }
+    ensures first { fault.now ≡ ContestFault.Tree → result ≡ Exit.TreeFault }
     ensures memory { fault.now ≡ ContestFault.NoMemory → result ≡ Exit.Memory }
     ensures write_fault { result ≡ Exit.WriteFault → Rose (K.faults out.old) (K.faults out.new) }
     ensures ends { (files : Option (List TreeFile)) (folder : List ℕ) → (¬ IsStop fault.now → ContestIs files folder (Err fault.now))

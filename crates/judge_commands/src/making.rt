@@ -25,7 +25,8 @@ use work_maker::{FOLDER, make_files};
 const HOSTS: u16 = 2;
 
 /// `farm make`: makes a contest, judges it by two host threads, and writes how many submissions have each verdict, and
-/// the digest of its table.
+/// the digest of its table. Nothing is written before all of this is made: where memory runs out the output was not asked
+/// for anything, and where the output fails the summary had been made.
 pub fn make<R: Threads + Wait + Sync, K: Sink, G: Gate + Sync, P: Person>(
     rt: &R,
     alloc: Global,

@@ -1,6 +1,6 @@
 use Rattle.std.proofs.Common.{Err, ap}
 use Rattle.judge_commands.proofs.NoContests.{fault_told, no_contest, refused_complete}
-use Rattle.judge_commands.proofs.judging.judge.Goals as goal
+use Rattle.judge_commands.proofs.judging.judge_told.Goals as goal
 
 pub returns-in-Err-clause-ends : goal.returns-in-Err-clause-ends
 returns-in-Err-clause-ends g c =
