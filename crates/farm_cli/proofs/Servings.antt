@@ -1,19 +1,21 @@
 -- A contest's serving among the commands.
 use Rattle.std.proofs.Common.{◌≡◌, ◌≤◌, ℕ, List, Option, Some, None, Ok, Err, inl, inr, refl, sym, ◌∙◌, subst, arith}
-use Rattle.std.specs.Prelude.{◌⊎◌, Bool, false, IfSome}
+use Rattle.std.specs.Prelude.{◌⊎◌, Bool, false, IfSome, IsSome}
 use Rattle.std.specs.declared.net.ip_addr.IpAddr.{IpAddr}
 use Rattle.farm_tree.specs.declared.reads.TreeFile.{TreeFile}
 use Rattle.farm_io.specs.declared.door.Listening.{Listening}
 use Rattle.farm_io.specs.Doors.{DoorState, DoesListen, listening_at}
 use Rattle.farm_io.specs.Streams.{Rose}
 use Rattle.farm_model.specs.State.{start}
+use Rattle.farm_kinds.specs.declared.events.Event.{Event}
+use Rattle.farm_board.specs.BoardState.{BoardState}
 use Rattle.farm_board.specs.Histories.{opening_board}
 use Rattle.contest_folder.specs.RosterValue.{RosterValue}
 use Rattle.contest_folder.specs.JudgingCases.{case_at}
 use Rattle.contest_server.specs.declared.ends.ServeEnd.{ServeEnd}
 use Rattle.contest_server.specs.declared.ends.ServeEnd.TheVariants as end
 use Rattle.contest_server.specs.Contest.{entering_events, seats, view_of}
-use Rattle.contest_server.specs.Visits.{on_board}
+use Rattle.contest_server.specs.Visits.{Watch, on_board}
 use Rattle.contest_server.specs.Serving.{HasCauseEnd}
 use Rattle.contest_server.specs.Served.{Serves}
 use Rattle.exit_status.specs.declared.exit.Exit.{Exit}
@@ -100,6 +102,19 @@ by_end files folder at lanes connections door held held' unwritten end.NoMemory 
 -- a door that was told to listen does
 pub does_listen : {N : Type 0} (old new : DoorState N) (at : Listening) → new ≡ listening_at old at → DoesListen new
 does_listen old new at same = subst (λ d. DoesListen d) (sym same) refl
+
+-- a door goes on to listen where the serving ends for want of memory
+still_listens : {N : Type 0} (w : Watch N) (begun : BoardState) (events : List Event) (door door' : DoorState N) (held held' : Option (List ℕ)) (most : ℕ) → DoesListen door
+    → Serves w begun events door door' held held' most end.NoMemory → DoesListen door'
+still_listens w begun events door door' held held' most listens (inl same) = subst DoesListen (sym same.0) listens
+still_listens w begun events door door' held held' most listens (inr served) = subst IsSome (sym served.back.listens) listens
+
+pub listens_first : {N : Type 0} (w : Watch N) (begun : BoardState) (events : List Event) (door door' : DoorState N) (held held' : Option (List ℕ)) (most : ℕ) (ended : ServeEnd) (e : Exit)
+    → e ≡ exit_of ended → DoesListen door → Serves w begun events door door' held held' most ended → e ≡ exit.Memory → DoesListen door'
+listens_first w begun events door door' held held' most end.Done e is listens serves memory = let both : exit.Done ≡ exit.Memory = sym is ∙ memory in cc
+listens_first w begun events door door' held held' most end.DoorFault e is listens serves memory = let both : exit.DoorFault ≡ exit.Memory = sym is ∙ memory in cc
+listens_first w begun events door door' held held' most end.WriteFault e is listens serves memory = let both : exit.WriteFault ≡ exit.Memory = sym is ∙ memory in cc
+listens_first w begun events door door' held held' most end.NoMemory e is listens serves memory = still_listens w begun events door door' held held' most listens serves
 
 -- a contest that was served where the door was to listen
 pub served : {N : Type 0} (files : Option (List TreeFile)) (folder : List ℕ) (at : Listening) (lanes connections : ℕ) (door : DoorUse N) (listening : DoorState N) (held held' : Option (List ℕ)) (unwritten : Type 0) (roster : RosterValue) (ended : ServeEnd) (e : Exit)

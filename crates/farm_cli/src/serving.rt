@@ -1,4 +1,5 @@
 ghost use Rattle.std.specs.Prelude.{◌≡◌, ◌≢◌, ◌⊎◌, ◌≤◌, ℕ, Option, List, Ok};
+ghost use Rattle.farm_io.specs.Doors.{DoesListen};
 ghost use Rattle.farm_io.specs.Streams.{Rose};
 ghost use Rattle.farm_tree.specs.declared.reads.TreeFile.{TreeFile};
 ghost use Rattle.farm_api.specs.Exchanges.{around_of};
@@ -47,6 +48,8 @@ where
     ensures write_fault { result ≡ Exit.WriteFault → Rose (K.faults out.old) (K.faults out.new) }
     ensures tree_fault { result ≡ Exit.TreeFault → Rose (T.faults tree.old) (T.faults tree.new) }
     ensures door_fault { result ≡ Exit.DoorFault → Rose (D.faults door.old) (D.faults door.new) }
+    // A door that cannot listen is not told as want of memory.
+    ensures first { result ≡ Exit.Memory → (D.faults door.new ≡ D.faults door.old) ⊎ DoesListen (D.state door.new) }
     ensures complete { HasContest (T.files tree.old) folder.now
         → ¬ Rose (T.faults tree.old) (T.faults tree.new) → ¬ Rose (D.faults door.old) (D.faults door.new) → ¬ Rose (K.faults out.old) (K.faults out.new)
         → (result ≡ Exit.Done) ⊎ (result ≡ Exit.Memory) }
@@ -79,6 +82,7 @@ where
         (K.held out.old) (K.held out.new) (out.new ≡ out.old) result }
     ensures write_fault { result ≡ Exit.WriteFault → Rose (K.faults out.old) (K.faults out.new) }
     ensures door_fault { result ≡ Exit.DoorFault → Rose (D.faults door.old) (D.faults door.new) }
+    ensures first { result ≡ Exit.Memory → DoesListen (D.state door.new) }
     ensures all { (result ≡ Exit.Done) ⊎ (result ≡ Exit.DoorFault) ⊎ (result ≡ Exit.WriteFault) ⊎ (result ≡ Exit.Memory) }
 {
     let Ok(()) = door.listen(at) else {

@@ -2,7 +2,7 @@ use Rattle.std.proofs.Common.{◌∙◌, sym, subst}
 use Rattle.std.specs.Prelude.{◌≡◌, ◌⊎◌}
 use Rattle.exit_status.specs.declared.exit.Exit.{Exit}
 use Rattle.exit_status.specs.declared.exit.Exit.TheVariants as exit
-use Rattle.farm_cli.proofs.Servings.{does_listen, served, write_failed, door_failed, ends_of_serving}
+use Rattle.farm_cli.proofs.Servings.{does_listen, listens_first, served, write_failed, door_failed, ends_of_serving}
 use Rattle.farm_cli.proofs.serving.serve_roster.Goals as goal
 
 pub serve_contest-requires-clause-listens : goal.serve_contest-requires-clause-listens
@@ -22,3 +22,8 @@ returns-clause-door_fault g c = λ q. door_failed _ _ _ _ _ c.serve_contest.resu
 pub returns-clause-all : goal.returns-clause-all
 returns-clause-all g c =
     subst (λ (z : Exit). (z ≡ exit.Done) ⊎ (z ≡ exit.DoorFault) ⊎ (z ≡ exit.WriteFault) ⊎ (z ≡ exit.Memory)) (sym c.exit_of.ensures) (ends_of_serving c.serve_contest.result)
+
+pub returns-clause-first : goal.returns-clause-first
+returns-clause-first g c =
+    listens_first _ _ _ _ _ _ _ _ c.serve_contest.result c.exit_of.result c.exit_of.ensures
+    (does_listen (g.D.Door.state c.args.door.now) (g.D.Door.state c.listen.new.self) c.args.at c.in-Ok.ensures.listens) c.serve_contest.ensures.serves
