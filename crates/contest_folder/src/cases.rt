@@ -9,7 +9,7 @@ ghost use Rattle.contest_folder.specs.RosterShape.{names_of};
 ghost use Rattle.contest_folder.specs.JudgingCases.{case_at, case_for, case_in, case_with, checking_by, numbered};
 
 use crate::roster::{Problem, Roster, Submission, problem_named};
-use case_run::{Case, Cases, Check, image_ok};
+use case_run::{Case, Cases, Check};
 use farm_kinds::Task;
 use package_folder::{Checker, Package};
 
@@ -32,12 +32,11 @@ fn case_for<'a>(problems: &'a [Problem], submission: &'a Submission, test: u16) 
     ensures none { IfNone result (case_for problems.now test submission.now ≡ None) }
     ensures can_run { IfSome result (λ c. CanRun (test_case c)) }
 {
-    let image = submission.image.as_slice();
-    if !image_ok(image) {
+    if !submission.image.is_image() {
         return None;
     }
     let problem = problem_named(problems, submission.problem.as_bytes())?;
-    case_in(image, &problem.contents, test)
+    case_in(submission.image.as_slice(), &problem.contents, test)
 }
 
 /// The case of an image and the test of this number, from 1.

@@ -12,6 +12,7 @@ ghost use Rattle.contest_folder.specs.HeldImages.{held_within};
 use crate::faults::ContestFault;
 use crate::lines::Entry;
 use crate::roster::{Problem, Submission};
+use crate::submitted::SubmittedFile;
 use farm_kinds::{NoMemory, Text};
 use farm_tree::{Tree, TreeErr};
 use package_folder::{Test, in_folder};
@@ -95,7 +96,7 @@ impl Held {
         let submission = Submission {
             team: entry.team,
             problem: entry.problem,
-            image,
+            image: SubmittedFile::new(image),
         };
         self.submissions.push(submission).map_err(|_| NoMemory)
     }

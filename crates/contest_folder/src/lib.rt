@@ -2,8 +2,8 @@
 //! among them; and the case of each judging and test.
 //!
 //! Where things stand: `reading.rt` has `read_contest`; `problems.rt` the packages, `lines.rt` the lines of
-//! `submissions.txt`, `images.rt` the images, `files.rt` a file of the folder, `roster.rt` what was read,
-//! `cases.rt` the case of each task, `texts.rt` the text of each fault.
+//! `submissions.txt`, `images.rt` the images, `submitted.rt` a submission's file, `files.rt` a file of the folder,
+//! `roster.rt` what was read, `cases.rt` the case of each task, `texts.rt` the text of each fault.
 //!
 //! To add a fault, write it in `faults.rt`, in the file of `specs/` that has its subject, and in
 //! the file above that looks for it.
@@ -17,6 +17,7 @@ mod lines;
 mod problems;
 mod reading;
 mod roster;
+mod submitted;
 mod texts;
 mod worked;
 

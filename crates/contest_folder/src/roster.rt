@@ -8,8 +8,8 @@ ghost use Rattle.case_run.specs.Images.{is_image};
 ghost use Rattle.contest_folder.specs.RosterShape.{names_of, problem_limit, submission_limit, problem_named, IsPlaced, IsContest};
 ghost use Rattle.contest_folder.specs.JudgingCases.{numbered};
 
-use case_run::image_ok;
-use farm_kinds::{Name, Text};
+use crate::submitted::SubmittedFile;
+use farm_kinds::Name;
 use farm_settings::Settings;
 use package_folder::Package;
 use std::cmp::Ordering;
@@ -27,8 +27,8 @@ pub(crate) struct Problem {
 pub(crate) struct Submission {
     pub team: Name,
     pub problem: Name,
-    /// The bytes of its file, or none where these are too many.
-    pub image: Text,
+    /// Its file, or an empty one where that has too many bytes.
+    pub image: SubmittedFile,
 }
 
 /// What a table says of a problem.
@@ -154,7 +154,7 @@ impl Roster {
         RosterSubmission {
             team: submission.team,
             problem: submission.problem,
-            broken: !image_ok(submission.image.as_slice()),
+            broken: !submission.image.is_image(),
         }
     }
 }
