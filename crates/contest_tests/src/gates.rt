@@ -49,15 +49,18 @@ impl<'a, R: Wait> Gate for RecordingGate<'a, R> {
 /// How often a gate looks whether another host has come.
 pub const LOOKS: u64 = 10_000_000;
 
-/// What is known of two hosts that wait for each other.
+/// In how many turns hosts wait for each other.
+pub const MEETINGS: u64 = 2;
+
+/// What is known of two hosts that wait for each other: how many tasks each has claimed, as far as they wait.
 #[derive(Drop)]
 pub struct Meeting {
-    pub one_came: bool,
-    pub two_came: bool,
+    pub one: u64,
+    pub two: u64,
     pub gave_up: bool,
 }
 
-/// Holds hosts 1 and 2, each before its first post, until the other has claimed a task.
+/// Holds hosts 1 and 2, each before its first posts, until the other has claimed as many tasks.
 #[derive(Drop)]
 pub struct MeetingGate<'a, R: Wait> {
     pub rt: &'a R,
@@ -65,24 +68,37 @@ pub struct MeetingGate<'a, R: Wait> {
 }
 
 impl<'a, R: Wait> MeetingGate<'a, R> {
-    fn come(&self, host: u32) {
-        let mut meeting = self.meeting.lock(self.rt);
-        meeting.one_came |= host == 1;
-        meeting.two_came |= host == 2;
+    /// No host has come yet.
+    pub fn new(rt: &'a R) -> MeetingGate<'a, R> {
+        let meeting = Mutex::new(Meeting {
+            one: 0,
+            two: 0,
+            gave_up: false,
+        });
+        MeetingGate { rt, meeting }
     }
 
-    fn has_met(&self, host: u32) -> bool {
-        let meeting = self.meeting.lock(self.rt);
+    fn come(&self, host: u32, turn: u64) {
+        let mut meeting = self.meeting.lock(self.rt);
         if host == 1 {
-            meeting.two_came
+            meeting.one = turn;
         } else {
-            meeting.one_came
+            meeting.two = turn;
         }
     }
 
-    fn wait_for_other(&self, host: u32) {
+    fn has_met(&self, host: u32, turn: u64) -> bool {
+        let meeting = self.meeting.lock(self.rt);
+        if host == 1 {
+            meeting.two >= turn
+        } else {
+            meeting.one >= turn
+        }
+    }
+
+    fn wait_for_other(&self, host: u32, turn: u64) {
         for _ in 0..LOOKS {
-            if self.has_met(host) {
+            if self.has_met(host, turn) {
                 return;
             }
             thread::yield_now();
@@ -97,14 +113,33 @@ impl<'a, R: Wait> Gate for MeetingGate<'a, R> {
     ghost may_answer = { λ gate host point turn go. is_on go };
 
     fn pass(&self, host: u32, point: Point, turn: u64) -> Go {
-        if turn == 1 {
+        if turn <= MEETINGS {
             match point {
-                Point::AfterClaim => self.come(host),
-                Point::BeforePost => self.wait_for_other(host),
+                Point::AfterClaim => self.come(host, turn),
+                Point::BeforePost => self.wait_for_other(host, turn),
                 Point::AfterPost => (),
             }
         }
         Go::On
+    }
+}
+
+/// The same, but one host dies at this moment, and keeps the other waiting no more.
+#[derive(Drop)]
+pub struct LossGate<'a, R: Wait> {
+    pub meeting: MeetingGate<'a, R>,
+    pub death: Moment,
+}
+
+impl<'a, R: Wait> Gate for LossGate<'a, R> {
+    ghost may_answer = { λ gate host point turn go. true };
+
+    fn pass(&self, host: u32, point: Point, turn: u64) -> Go {
+        if self.death == (host, point, turn) {
+            self.meeting.come(host, MEETINGS);
+            return Go::Die;
+        }
+        self.meeting.pass(host, point, turn)
     }
 }
 

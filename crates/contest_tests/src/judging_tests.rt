@@ -1,5 +1,7 @@
 use crate::farm_cli_tests::{check_ended, end_of};
-use crate::gates::{DeathGate, Meeting, MeetingGate, RecordingGate, SeededGate};
+use crate::gates::{
+    DeathGate, LossGate, MEETINGS, Meeting, MeetingGate, RecordingGate, SeededGate,
+};
 use exit_status::Exit;
 use farm_io::{MemorySink, ReliableSink, ReliableSource};
 use farm_tree::{MemoryTree, ReliableTree};
@@ -324,33 +326,49 @@ fn a_host_runs_one_of_three_tests(rt: HostRuntime) -> Result<(), Fail> {
     Ok(())
 }
 
-/// Two hosts work at the same time: neither posts its first result before the other has claimed a task. In the journal
-/// the pass of each has made its own claims and posts.
+/// Checks that two hosts waited for each other as often as they were to.
+fn check_met(rt: &impl Abort, meeting: Meeting) {
+    assert_eq!(rt;
+        (meeting.one, meeting.two, meeting.gave_up),
+        (MEETINGS, MEETINGS, false)
+    );
+}
+
+/// Two hosts work at the same time: neither posts one of its first results before the other has claimed as many tasks. In
+/// the journal the pass of each has made its own claims and posts, and each has posted several results.
 #[test]
 fn two_hosts_at_once(rt: HostRuntime) -> Result<(), Fail> {
-    let gate = MeetingGate {
-        rt: &rt,
-        meeting: Mutex::new(Meeting {
-            one_came: false,
-            two_came: false,
-            gave_up: false,
-        }),
-    };
+    let gate = MeetingGate::new(&rt);
     let line = "farm judge c --journal --hosts 2";
     let (_, out) = judged(&rt, rt.alloc(), line, CONTEST, "", &gate)?;
-    let meeting = gate.meeting.into_inner();
-    assert_eq!(rt;
-        (meeting.one_came, meeting.two_came, meeting.gave_up),
-        (true, true, false)
-    );
+    check_met(&rt, gate.meeting.into_inner());
     let journal = str::from_utf8(out.bytes()).unwrap_or("no text");
     assert!(rt; journal.starts_with(TABLE));
     for call in ["1 claim h1", "2 claim h2", "1 result h1", "2 result h2"] {
-        assert!(rt; journal.contains(call), "{call}");
+        assert!(rt; journal.matches(call).count() as u64 >= MEETINGS, "{call}");
     }
     for call in ["1 claim h2", "2 claim h1", "1 result h2", "2 result h1"] {
         assert!(rt; !journal.contains(call), "{call}");
     }
+    Ok(())
+}
+
+/// Of two hosts the first dies with its first task, which is left to the caller, and the other goes on.
+#[test]
+fn one_of_two_hosts_dies(rt: HostRuntime) -> Result<(), Fail> {
+    let gate = LossGate {
+        meeting: MeetingGate::new(&rt),
+        death: (1, Point::BeforePost, 1),
+    };
+    let line = "farm judge c --journal --hosts 2";
+    let (_, out) = judged(&rt, rt.alloc(), line, CONTEST, "", &gate)?;
+    check_met(&rt, gate.meeting.meeting.into_inner());
+    let journal = str::from_utf8(out.bytes()).unwrap_or("no text");
+    assert!(rt; journal.starts_with(TABLE));
+    for (call, count) in [("claim h1", 1), ("result h1", 0), ("result h0", 1)] {
+        assert_eq!(rt; journal.matches(call).count(), count, "{call}");
+    }
+    assert!(rt; journal.matches("2 result h2").count() as u64 >= MEETINGS);
     Ok(())
 }
 
