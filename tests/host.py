@@ -79,6 +79,40 @@ def requests_with(fields):
 REQUESTS = requests_with(b"")
 
 
+def rest(**fields):
+    """A job without its image."""
+    return job(image=..., **fields)
+
+
+def task(judging, test):
+    return {"judging": judging, "reply": "task", "test": test, "until": 60}
+
+
+def result(judging, test, kind="correct"):
+    return post(b"/judgehosts/add-judging-run", b'{"hostname":"h1","judging":%d,"result":"%b","test":%d}' % (judging, kind.encode(), test))
+
+
+FETCH = post(b"/judgehosts/fetch-work", NAME)
+# Two tests of a judging, one of another whose program fails, a further one of that, and one of the first judging again.
+IMAGES = [
+    (task(1, 1), "", job(), "correct"),
+    (task(1, 2), "/rest", rest(test=2), "correct"),
+    (task(2, 1), "", job(judging=2, image=base64.b64encode(FAIL).decode()), "run-error"),
+    (task(2, 2), "/rest", rest(judging=2, test=2), "run-error"),
+    (task(1, 3), "", job(test=3), "correct"),
+]
+IMAGES_TALK = answers(ENTERED, *[body for handed, _, given, _ in IMAGES for body in (handed, given, COUNTED)], NOTHING)
+IMAGES_REQUESTS = [
+    post(b"/judgehosts", NAME),
+    *[request for handed, path, _, kind in IMAGES for request in (
+        FETCH,
+        b"GET /judgehosts/job/%d/%d%b HTTP/1.1\r\nhost: farm\r\n\r\n" % (handed["judging"], handed["test"], path.encode()),
+        result(handed["judging"], handed["test"], kind),
+    )],
+    FETCH,
+]
+
+
 def is_whole(request):
     head, found, body = request.partition(b"\r\n\r\n")
     length = re.search(rb"content-length: (\d+)", head)
@@ -173,6 +207,13 @@ def talks(program):
     got, requests = met(program, answers(ENTERED, TASK, failing, COUNTED, NOTHING))
     posted = b'{"hostname":"h1","judging":1,"result":"run-error","test":1}'
     yield "another result", got[0] == 0 and requests[3].endswith(posted), (got, requests)
+    got, requests = met(program, IMAGES_TALK)
+    yield "the image of a judging is asked for once", is_done(got, b"host h1 claims 6 posted 5 idle") and requests == IMAGES_REQUESTS, (got, requests)
+    got, requests = met(program, IMAGES_TALK, step=7)
+    yield "the same, some bytes at a time", is_done(got, b"host h1 claims 6 posted 5 idle") and requests == IMAGES_REQUESTS, got
+    body = rest(test=2) | {"image": base64.b64encode(FAIL).decode()}
+    got, requests = met(program, [*IMAGES_TALK[:5], *answers(body), *IMAGES_TALK[6:]])
+    yield "an image that was not asked for", is_done(got, b"host h1 claims 6 posted 5 idle") and requests == IMAGES_REQUESTS, (got, requests)
     for refusal in [{"kept": "correct", "reply": "repeat"}, {"given": "correct", "kept": "no-output", "reply": "differs"}, {"reply": "dropped"}]:
         got, _ = met(program, answers(ENTERED, TASK, job(), refusal, NOTHING))
         yield f"a result that is answered {refusal['reply']}", is_done(got, b"host h1 claims 2 posted 1 idle"), got
@@ -275,7 +316,7 @@ CODED = [({}, "image"), ({}, "input"), ({}, "answer"), (CUSTOM, "flags"), (CUSTO
 
 # How a person is told of a wrong answer to each request of the talk.
 ASKED = ["POST /judgehosts", "POST /judgehosts/fetch-work", "GET /judgehosts/job/1/1", "POST /judgehosts/add-judging-run of test 1 of judging 1",
-         "POST /judgehosts/fetch-work"]
+         "POST /judgehosts/fetch-work", "GET /judgehosts/job/1/2/rest"]
 
 
 def is_refused(got, status, at=None):
@@ -314,6 +355,24 @@ def lies(program):
         if not is_refused(got, 11) or len(requests) != 3:
             wrong.append((name, text, got, len(requests)))
     yield f"{len(BASE64)} texts that are no Base64, in {len(CODED)} fields", not wrong, wrong[:3]
+    wrong = []
+    for name, bytes_, status in [*HEADS, *[(body, response(200, "OK", body), 11) for body in BODIES]]:
+        got, requests = met(program, [*IMAGES_TALK[:5], bytes_])
+        if not is_refused(got, status, 5) or requests != IMAGES_REQUESTS[:6]:
+            wrong.append((name, got, len(requests)))
+    # a server without the route says so, and none of these names a program
+    for body in [{"reply": "no-route"}, {"reply": "no-job"}]:
+        got, requests = met(program, [*IMAGES_TALK[:5], response(404, "Not Found", compact(body)), *IMAGES_TALK[6:]])
+        if not is_refused(got, 11, 5) or requests != IMAGES_REQUESTS[:6]:
+            wrong.append((body, got, len(requests)))
+    for fields in [it for it in JOBS if "image" not in it and it != {"test": 2}]:
+        got, requests = met(program, [*IMAGES_TALK[:5], *answers(rest(**{"test": 2} | fields)), *IMAGES_TALK[6:]])
+        if not is_refused(got, 11, 5) or requests != IMAGES_REQUESTS[:6]:
+            wrong.append((fields, got, len(requests)))
+    got, requests = met(program, [*IMAGES_TALK[:5], *answers(rest()), *IMAGES_TALK[6:]])
+    if not is_refused(got, 11, 5) or requests != IMAGES_REQUESTS[:6]:
+        wrong.append(("another test", got, len(requests)))
+    yield "wrong answers where it asks for a job without its image", not wrong, wrong[:3]
     wrong = []
     for at, answer in enumerate(TALK):
         head, _, body = answer.partition(b"\r\n\r\n")

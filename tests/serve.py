@@ -108,7 +108,7 @@ def response(status, phrase, body):
 
 
 H1 = {"hostname": "h1"}
-# Each request behind those before it, with its status and some of its reply.
+# Each request behind those before it, with its status and some of its reply; a field that is None is not there.
 TALK = [
     ("POST", "/judgehosts", H1, 200, {"reply": "host", "host": "h1"}),
     ("POST", "/judgehosts", H1, 409, {"reply": "known"}),
@@ -116,12 +116,19 @@ TALK = [
     ("POST", "/judgehosts/fetch-work", H1, 200, {"reply": "task", "judging": 1, "test": 1}),
     ("GET", "/judgehosts/job/1/1", None, 200, {"reply": "job", "judging": 1, "test": 1, "image": "EwAAAA==", "input": "Nwo=", "answer": "Nwo=", "check": "default"}),
     ("GET", "/judgehosts/job/2/2", None, 200, {"reply": "job", "judging": 2, "test": 2, "input": "OAo="}),
+    ("GET", "/judgehosts/job/1/1/rest", None, 200, {"reply": "job", "judging": 1, "test": 1, "image": None, "input": "Nwo=", "answer": "Nwo=", "check": "default"}),
+    ("GET", "/judgehosts/job/2/2/rest", None, 200, {"reply": "job", "judging": 2, "test": 2, "image": None, "input": "OAo="}),
     ("GET", "/judgehosts/job/1/3", None, 404, {"reply": "no-job"}),
+    ("GET", "/judgehosts/job/1/3/rest", None, 404, {"reply": "no-job"}),
     ("GET", "/judgehosts/job/1/65537", None, 404, {"reply": "no-job"}),
     ("GET", "/judgehosts/job/3/1", None, 404, {"reply": "no-judging", "judging": 3}),
+    ("GET", "/judgehosts/job/3/1/rest", None, 404, {"reply": "no-judging", "judging": 3}),
     ("GET", "/judgehosts/job/1", None, 404, {"reply": "no-route"}),
     ("GET", "/judgehosts/job/1/x", None, 404, {"reply": "no-route"}),
+    ("GET", "/judgehosts/job/1/1/image", None, 404, {"reply": "no-route"}),
+    ("GET", "/judgehosts/job/1/rest", None, 404, {"reply": "no-route"}),
     ("POST", "/judgehosts/job/1/1", {}, 405, {"reply": "no-method"}),
+    ("POST", "/judgehosts/job/1/1/rest", {}, 405, {"reply": "no-method"}),
     ("POST", "/judgehosts/renew", H1 | {"judging": 1, "test": 1}, 200, {"reply": "until"}),
     ("POST", "/judgehosts/renew", H1 | {"judging": 1, "test": 2}, 409, {"reply": "no-lease"}),
     ("POST", "/judgehosts/fetch-work", H1 | {"max": 16}, 200, {"reply": "batch", "judging": 1, "tests": [2]}),
@@ -210,7 +217,7 @@ def talks(program, folder):
         client = server.client()
         for method, path, body, status, reply in TALK:
             got = ask(client, method, path, body)
-            good = got[0] == status and all(got[1].get(key) == value for key, value in reply.items())
+            good = got[0] == status and all(got[1].get(key) == value and (value is not None or key not in got[1]) for key, value in reply.items())
             yield f"{method} {path} {json.dumps(body) if body else ''}: {status} {reply.get('reply', reply.get('why'))}", good, got
         client.close()
         got = server.ended()

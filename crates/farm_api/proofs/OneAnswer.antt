@@ -12,6 +12,7 @@ use Rattle.http_door.specs.declared.responses.ResponseFault.TheVariants as fault
 use Rattle.http_door.specs.Requests.{Request}
 use Rattle.http_door.specs.Responses.{response_with, Writes}
 use Rattle.case_run.specs.Cases.{TestCase}
+use Rattle.wire_job.specs.declared.parts.JobPart.{JobPart}
 use Rattle.contest_page.specs.ViewValue.{ViewValue}
 use Rattle.farm_api.specs.declared.asking.Asked.{Asked}
 use Rattle.farm_api.specs.declared.asking.Asked.TheVariants as asked
@@ -59,25 +60,25 @@ put_reply step gives closing ticks moment e a b r held held' (Err fault.NoMemory
     (nothing_given, record { replies = z.replies; made = z.made; prefix = z.prefix; entered = z.entered }, x)
 
 -- it was asked whose submission the judging is, and the response gives the job, or is that to the reply
-pub put_job : {A : Type 0} (step : A → Entered → A → Type 0) (gives : Gives) (closing : Bool) (moment judging test : ℕ) (a b : A) (r : Reply) (held held' : Option (List ℕ)) (result : Result (Unit {0}) ResponseFault)
-    → IsEntered step (entered_for false moment (event.Owner judging)) a b r → PutsJob gives closing judging test r held held' result → PutsAnswer step gives closing moment (asked.Job judging test) a b held held' result
-put_job step gives closing moment judging test a b r held held' (Ok u) y x = (
+pub put_job : {A : Type 0} (step : A → Entered → A → Type 0) (gives : Gives) (closing : Bool) (moment : ℕ) (p : JobPart) (judging test : ℕ) (a b : A) (r : Reply) (held held' : Option (List ℕ)) (result : Result (Unit {0}) ResponseFault)
+    → IsEntered step (entered_for false moment (event.Owner judging)) a b r → PutsJob gives closing p judging test r held held' result → PutsAnswer step gives closing moment (asked.Job p judging test) a b held held' result
+put_job step gives closing moment p judging test a b r held held' (Ok u) y x = (
   y.replies,
   x.0,
   y.known,
   subst (λ (z : Reply). IsCaseOf gives test (owner_in z) x.0) y.is x.1,
   y.entered,
-  subst (λ (z : Reply). Appends held held' (job_or_reply closing judging test (owner_in z) z x.0.case)) y.is x.2,
+  subst (λ (z : Reply). Appends held held' (job_or_reply closing p judging test (owner_in z) z x.0.case)) y.is x.2,
 )
-put_job step gives closing moment judging test a b r held held' (Err fault.WriteFault) y x = (
+put_job step gives closing moment p judging test a b r held held' (Err fault.WriteFault) y x = (
   y.replies,
   x.0,
   y.known,
   subst (λ (z : Reply). IsCaseOf gives test (owner_in z) x.0) y.is x.1,
   y.entered,
-  (x.2.0, subst (λ (z : Reply). Appends held held' (take x.2.0 (job_or_reply closing judging test (owner_in z) z x.0.case))) y.is x.2.1),
+  (x.2.0, subst (λ (z : Reply). Appends held held' (take x.2.0 (job_or_reply closing p judging test (owner_in z) z x.0.case))) y.is x.2.1),
 )
-put_job step gives closing moment judging test a b r held held' (Err fault.NoMemory) y x =
+put_job step gives closing moment p judging test a b r held held' (Err fault.NoMemory) y x =
     let z = begun_all step (entered_for false moment (event.Owner judging)) a b y.replies y.entered in
     (nothing_given, record { replies = z.replies; made = z.made; prefix = z.prefix; entered = z.entered }, x)
 
@@ -88,9 +89,9 @@ begun_event step gives closing ticks moment e a b held z =
     (nothing_given, record { replies = z.replies; made = z.made; prefix = z.prefix; entered = z.entered }, Keeps-refl held)
 
 -- memory ran out where it was asked whose submission the judging is
-pub begun_job : {A : Type 0} (step : A → Entered → A → Type 0) (gives : Gives) (closing : Bool) (moment judging test : ℕ) (a b : A) (held : Option (List ℕ))
-    → IsBegun step (entered_for false moment (event.Owner judging)) a b → PutsAnswer step gives closing moment (asked.Job judging test) a b held held (Err fault.NoMemory)
-begun_job step gives closing moment judging test a b held z =
+pub begun_job : {A : Type 0} (step : A → Entered → A → Type 0) (gives : Gives) (closing : Bool) (moment : ℕ) (p : JobPart) (judging test : ℕ) (a b : A) (held : Option (List ℕ))
+    → IsBegun step (entered_for false moment (event.Owner judging)) a b → PutsAnswer step gives closing moment (asked.Job p judging test) a b held held (Err fault.NoMemory)
+begun_job step gives closing moment p judging test a b held z =
     (nothing_given, record { replies = z.replies; made = z.made; prefix = z.prefix; entered = z.entered }, Keeps-refl held)
 
 -- what is given by a look
@@ -138,59 +139,59 @@ put_contest step gives closing moment a held held' (Err fault.WriteFault) x = (n
 put_contest step gives closing moment a held held' (Err fault.NoMemory) x = (nothing_given, begun_none step asked.Contest moment nothing_given a, x)
 
 -- no job was asked of the cases: the response is that to the reply
-pub job_refused : (gives : Gives) (closing : Bool) (judging test : ℕ) (r : Reply) (held held' : Option (List ℕ)) (result : Result (Unit {0}) ResponseFault)
-    → owner_in r ≡ None → Writes held held' (reply_response closing r) result → PutsJob gives closing judging test r held held' result
-job_refused gives closing judging test r held held' (Ok u) none x = (
+pub job_refused : (gives : Gives) (closing : Bool) (p : JobPart) (judging test : ℕ) (r : Reply) (held held' : Option (List ℕ)) (result : Result (Unit {0}) ResponseFault)
+    → owner_in r ≡ None → Writes held held' (reply_response closing r) result → PutsJob gives closing p judging test r held held' result
+job_refused gives closing p judging test r held held' (Ok u) none x = (
   nothing_given,
   subst (λ (z : Option ℕ). IsCaseOf gives test z nothing_given) (sym none) tt,
-  subst (λ (z : Option ℕ). Appends held held' (job_or_reply closing judging test z r None)) (sym none) x,
+  subst (λ (z : Option ℕ). Appends held held' (job_or_reply closing p judging test z r None)) (sym none) x,
 )
-job_refused gives closing judging test r held held' (Err fault.WriteFault) none x = (
+job_refused gives closing p judging test r held held' (Err fault.WriteFault) none x = (
   nothing_given,
   subst (λ (z : Option ℕ). IsCaseOf gives test z nothing_given) (sym none) tt,
-  (x.0, subst (λ (z : Option ℕ). Appends held held' (take x.0 (job_or_reply closing judging test z r None))) (sym none) x.2),
+  (x.0, subst (λ (z : Option ℕ). Appends held held' (take x.0 (job_or_reply closing p judging test z r None))) (sym none) x.2),
 )
-job_refused gives closing judging test r held held' (Err fault.NoMemory) none x = x
+job_refused gives closing p judging test r held held' (Err fault.NoMemory) none x = x
 
 -- the cases were asked, and gave this
-pub job_given : (gives : Gives) (closing : Bool) (judging test submission : ℕ) (case : Option TestCase) (r : Reply) (held held' : Option (List ℕ)) (result : Result (Unit {0}) ResponseFault)
-    → owner_in r ≡ Some submission → gives.case submission test case → Writes held held' (job_response closing judging test case) result → PutsJob gives closing judging test r held held' result
-job_given gives closing judging test submission case r held held' (Ok u) some may x =
+pub job_given : (gives : Gives) (closing : Bool) (p : JobPart) (judging test submission : ℕ) (case : Option TestCase) (r : Reply) (held held' : Option (List ℕ)) (result : Result (Unit {0}) ResponseFault)
+    → owner_in r ≡ Some submission → gives.case submission test case → Writes held held' (job_response closing p judging test case) result → PutsJob gives closing p judging test r held held' result
+job_given gives closing p judging test submission case r held held' (Ok u) some may x =
     let given : Given = record { case = case; look = reply.Nothing; contest = no_view } in (
       given,
       subst (λ (z : Option ℕ). IsCaseOf gives test z given) (sym some) may,
-      subst (λ (z : Option ℕ). Appends held held' (job_or_reply closing judging test z r case)) (sym some) x,
+      subst (λ (z : Option ℕ). Appends held held' (job_or_reply closing p judging test z r case)) (sym some) x,
     )
-job_given gives closing judging test submission case r held held' (Err fault.WriteFault) some may x =
+job_given gives closing p judging test submission case r held held' (Err fault.WriteFault) some may x =
     let given : Given = record { case = case; look = reply.Nothing; contest = no_view } in (
       given,
       subst (λ (z : Option ℕ). IsCaseOf gives test z given) (sym some) may,
-      (x.0, subst (λ (z : Option ℕ). Appends held held' (take x.0 (job_or_reply closing judging test z r case))) (sym some) x.2),
+      (x.0, subst (λ (z : Option ℕ). Appends held held' (take x.0 (job_or_reply closing p judging test z r case))) (sym some) x.2),
     )
-job_given gives closing judging test submission case r held held' (Err fault.NoMemory) some may x = x
+job_given gives closing p judging test submission case r held held' (Err fault.NoMemory) some may x = x
 
 -- what is written where the replier gave a text, or none
-job_text_is : (may : Option TestCase → Type 0) (closing : Bool) (judging test : ℕ) (text : List ℕ) → (x : IsJobText may judging test (Some text)) → response_with closing 200 text ≡ job_response closing judging test x.0
+job_text_is : (may : Option TestCase → Type 0) (closing : Bool) (p : JobPart) (judging test : ℕ) (text : List ℕ) → (x : IsJobText may p judging test (Some text)) → response_with closing 200 text ≡ job_response closing p judging test x.0
 unfolding job_response
-job_text_is may closing judging test text (None, m, is) = absurd (cc is)
-job_text_is may closing judging test text (Some c, m, is) = ap (response_with closing 200) (let same : text ≡ text_for judging test c = cc is in same)
+job_text_is may closing p judging test text (None, m, is) = absurd (cc is)
+job_text_is may closing p judging test text (Some c, m, is) = ap (response_with closing 200) (let same : text ≡ text_for p judging test c = cc is in same)
 
-no_job_is : (may : Option TestCase → Type 0) (closing : Bool) (judging test : ℕ) → (x : IsJobText may judging test None) → response_with closing 404 no_job ≡ job_response closing judging test x.0
+no_job_is : (may : Option TestCase → Type 0) (closing : Bool) (p : JobPart) (judging test : ℕ) → (x : IsJobText may p judging test None) → response_with closing 404 no_job ≡ job_response closing p judging test x.0
 unfolding job_response
-no_job_is may closing judging test (None, m, is) = refl
-no_job_is may closing judging test (Some c, m, is) = absurd (cc is)
+no_job_is may closing p judging test (None, m, is) = refl
+no_job_is may closing p judging test (Some c, m, is) = absurd (cc is)
 
-pub job_text_given : (gives : Gives) (closing : Bool) (judging test submission : ℕ) (text : List ℕ) (r : Reply) (held held' : Option (List ℕ)) (result : Result (Unit {0}) ResponseFault)
-    → owner_in r ≡ Some submission → IsJobText (gives.case submission test) judging test (Some text) → Writes held held' (response_with closing 200 text) result → PutsJob gives closing judging test r held held' result
-job_text_given gives closing judging test submission text r held held' result some x written =
-    job_given gives closing judging test submission x.0 r held held' result some x.1
-    (subst (λ (z : List ℕ). Writes held held' z result) (job_text_is (gives.case submission test) closing judging test text x) written)
+pub job_text_given : (gives : Gives) (closing : Bool) (p : JobPart) (judging test submission : ℕ) (text : List ℕ) (r : Reply) (held held' : Option (List ℕ)) (result : Result (Unit {0}) ResponseFault)
+    → owner_in r ≡ Some submission → IsJobText (gives.case submission test) p judging test (Some text) → Writes held held' (response_with closing 200 text) result → PutsJob gives closing p judging test r held held' result
+job_text_given gives closing p judging test submission text r held held' result some x written =
+    job_given gives closing p judging test submission x.0 r held held' result some x.1
+    (subst (λ (z : List ℕ). Writes held held' z result) (job_text_is (gives.case submission test) closing p judging test text x) written)
 
-pub no_job_given : (gives : Gives) (closing : Bool) (judging test submission : ℕ) (r : Reply) (held held' : Option (List ℕ)) (result : Result (Unit {0}) ResponseFault)
-    → owner_in r ≡ Some submission → IsJobText (gives.case submission test) judging test None → Writes held held' (response_with closing 404 no_job) result → PutsJob gives closing judging test r held held' result
-no_job_given gives closing judging test submission r held held' result some x written =
-    job_given gives closing judging test submission x.0 r held held' result some x.1
-    (subst (λ (z : List ℕ). Writes held held' z result) (no_job_is (gives.case submission test) closing judging test x) written)
+pub no_job_given : (gives : Gives) (closing : Bool) (p : JobPart) (judging test submission : ℕ) (r : Reply) (held held' : Option (List ℕ)) (result : Result (Unit {0}) ResponseFault)
+    → owner_in r ≡ Some submission → IsJobText (gives.case submission test) p judging test None → Writes held held' (response_with closing 404 no_job) result → PutsJob gives closing p judging test r held held' result
+no_job_given gives closing p judging test submission r held held' result some x written =
+    job_given gives closing p judging test submission x.0 r held held' result some x.1
+    (subst (λ (z : List ℕ). Writes held held' z result) (no_job_is (gives.case submission test) closing p judging test x) written)
 
 -- what was entered for the request, with these replies, and what was given beside them
 abbrev exchange : Request → ℕ → Replies → Given → Bool → Exchange

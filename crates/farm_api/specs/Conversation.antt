@@ -14,6 +14,8 @@ use Rattle.wire_json.specs.declared.routes.Route.TheVariants as route
 use Rattle.wire_json.specs.Bodies.{body_of}
 use Rattle.wire_json.specs.FaultTexts.{json_of_fault}
 use Rattle.wire_json.specs.Replies.{json_of}
+use Rattle.wire_job.specs.declared.parts.JobPart.{JobPart}
+use Rattle.wire_job.specs.declared.parts.JobPart.TheVariants as part
 use Rattle.http_door.specs.Requests.{Request}
 use Rattle.http_door.specs.declared.responses.Content.TheVariants as content
 use Rattle.http_door.specs.Responses.{content_response, response_with}
@@ -103,7 +105,8 @@ asked_with ticks (Some e) = asked.Event ticks e
 
 -- a job is asked for, or what the event of the route asks
 abbrev pub asked_on : Route → Body → Asked
-asked_on (route.Job judging test) b = asked.Job judging test
+asked_on (route.Job judging test) b = asked.Job part.Whole judging test
+asked_on (route.JobRest judging test) b = asked.Job part.Rest judging test
 asked_on r b = asked_with (ticks_first r) (event_of r b)
 
 abbrev pub asked_by : Route → Result Body BodyFault → Asked
@@ -179,15 +182,15 @@ fault_body (fault.BadBody why) = compact_text (json_of_fault why)
 unfoldable pub fault_response : Bool → RequestFault → List ℕ
 fault_response closing why = response_with closing (fault_status why) (fault_body why)
 
--- the response that gives the job of a judging and a test; Not Found where there is no case of them
-unfoldable pub job_response : Bool → ℕ → ℕ → Option TestCase → List ℕ
-job_response closing judging test None = response_with closing 404 no_job
-job_response closing judging test (Some c) = response_with closing 200 (text_for judging test c)
+-- the response that gives so much of the job of a judging and a test; Not Found where there is no case of them
+unfoldable pub job_response : Bool → JobPart → ℕ → ℕ → Option TestCase → List ℕ
+job_response closing p judging test None = response_with closing 404 no_job
+job_response closing p judging test (Some c) = response_with closing 200 (text_for p judging test c)
 
 -- a job is given only where the reply names the submission of the judging
-abbrev pub job_or_reply : Bool → ℕ → ℕ → Option ℕ → Reply → Option TestCase → List ℕ
-job_or_reply closing judging test None r case = reply_response closing r
-job_or_reply closing judging test (Some submission) r case = job_response closing judging test case
+abbrev pub job_or_reply : Bool → JobPart → ℕ → ℕ → Option ℕ → Reply → Option TestCase → List ℕ
+job_or_reply closing p judging test None r case = reply_response closing r
+job_or_reply closing p judging test (Some submission) r case = job_response closing p judging test case
 
 -- the response that gives the rows of a look; there is none where it gave none
 unfoldable pub rows_response : Bool → Reply → List ℕ
@@ -215,7 +218,7 @@ nothing_given = record { case = None; look = reply.Nothing; contest = no_view }
 
 abbrev pub response_in : Bool → Asked → Reply → Given → List ℕ
 response_in closing (asked.Event ticks e) r given = reply_response closing r
-response_in closing (asked.Job judging test) r given = job_or_reply closing judging test (owner_in r) r given.case
+response_in closing (asked.Job p judging test) r given = job_or_reply closing p judging test (owner_in r) r given.case
 response_in closing asked.Public r given = rows_response closing given.look
 response_in closing asked.Page r given = page_response closing given.contest given.look
 response_in closing asked.Contest r given = contest_response closing given.contest

@@ -47,7 +47,7 @@ IsBoard r = ⊥
 -- what was given may be given for what is asked
 abbrev pub IsGiven : Gives → Asked → Reply → Given → Type 0
 IsGiven gives (asked.Event ticks e) r given = Unit {0}
-IsGiven gives (asked.Job judging test) r given = IsCaseOf gives test (owner_in r) given
+IsGiven gives (asked.Job p judging test) r given = IsCaseOf gives test (owner_in r) given
 IsGiven gives asked.Public r given = IsBoard given.look
 IsGiven gives asked.Page r given = IsBoard given.look × (given.contest ≡ gives.contest)
 IsGiven gives asked.Contest r given = given.contest ≡ gives.contest
@@ -65,7 +65,7 @@ pub record IsWhole (around : Around) (x : Exchange) : Type 0 where
 -- looked at that, also where it is shown as a page.
 abbrev pub entered_by : ℕ → Asked → Replies → Given → List Entered
 entered_by moment (asked.Event ticks e) r given = entered_for ticks moment e r
-entered_by moment (asked.Job judging test) r given = entered_for false moment (event.Owner judging) r
+entered_by moment (asked.Job p judging test) r given = entered_for false moment (event.Owner judging) r
 entered_by moment asked.Public r given = with_look given.look ∷ []
 entered_by moment asked.Page r given = with_look given.look ∷ []
 entered_by moment asked.Contest r given = []

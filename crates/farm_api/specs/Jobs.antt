@@ -4,6 +4,7 @@ use Rattle.farm_kinds.specs.declared.outcomes.Task.{Task}
 use Rattle.farm_kinds.specs.declared.events.Reply.{Reply}
 use Rattle.farm_kinds.specs.declared.events.Reply.TheVariants as reply
 use Rattle.case_run.specs.Cases.{TestCase}
+use Rattle.wire_job.specs.declared.parts.JobPart.{JobPart}
 use Rattle.wire_job.specs.Writing.{job_text}
 use Rattle.contest_page.specs.ViewValue.{ViewValue}
 
@@ -38,14 +39,14 @@ IsCaseBy case_at submission test case = case ≡ case_of case_at submission test
 abbrev pub gives_by : (Task → Option TestCase) → ViewValue → Gives
 gives_by case_at view = record { case = IsCaseBy case_at; contest = view }
 
--- the text of a judging's job
-abbrev pub text_for : ℕ → ℕ → TestCase → List ℕ
-text_for judging test c = job_text (record { judging = judging; test = test }) c
+-- the text of so much of a judging's job
+abbrev pub text_for : JobPart → ℕ → ℕ → TestCase → List ℕ
+text_for p judging test c = job_text p (record { judging = judging; test = test }) c
 
--- the text of the judging's job is that of a case which may be given; there is none where none may be
-abbrev pub IsJobText : (Option TestCase → Type 0) → ℕ → ℕ → Option (List ℕ) → Type 0
-IsJobText may judging test text =
-    (case : Option TestCase) × may case × (text ≡ option_map (text_for judging test) case)
+-- the text of so much of the judging's job is that of a case which may be given; there is none where none may be
+abbrev pub IsJobText : (Option TestCase → Type 0) → JobPart → ℕ → ℕ → Option (List ℕ) → Type 0
+IsJobText may p judging test text =
+    (case : Option TestCase) × may case × (text ≡ option_map (text_for p judging test) case)
 
 abbrev pub no_job : List ℕ
 no_job = codes "{\"reply\":\"no-job\"}"

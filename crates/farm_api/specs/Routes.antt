@@ -5,6 +5,8 @@ use Rattle.std.specs.Str.{bytes_eq}
 use Rattle.farm_model.specs.Numbers.{number_of}
 use Rattle.wire_json.specs.declared.routes.Route.{Route}
 use Rattle.wire_json.specs.declared.routes.Route.TheVariants as route
+use Rattle.wire_job.specs.declared.parts.JobPart.{JobPart}
+use Rattle.wire_job.specs.declared.parts.JobPart.TheVariants as part
 use Rattle.farm_api.specs.declared.paths.Place.{Place}
 use Rattle.farm_api.specs.declared.paths.Place.TheVariants as place
 use Rattle.farm_api.specs.declared.routes.Routed.{Routed}
@@ -32,17 +34,22 @@ abbrev pub with_id : (ℕ → Route) → Option ℕ → Option Route
 with_id make None = None
 with_id make (Some id) = Some (make id)
 
--- a job of these, where both are numbers
-abbrev pub job_with : Option ℕ → Option ℕ → Option Route
-job_with (Some judging) (Some test) = Some (route.Job judging test)
-job_with (Some judging) None = None
-job_with None test = None
+-- so much of the job of a test of a judging
+abbrev pub job_route : JobPart → ℕ → ℕ → Route
+job_route part.Whole judging test = route.Job judging test
+job_route part.Rest judging test = route.JobRest judging test
 
--- a job of the judging between the third slash of a path and the fourth, and the test behind that
-abbrev pub job_of : List ℕ → Option Route
-job_of path =
+-- the same of these, where both are numbers
+abbrev pub job_with : JobPart → Option ℕ → Option ℕ → Option Route
+job_with p (Some judging) (Some test) = Some (job_route p judging test)
+job_with p (Some judging) None = None
+job_with p None test = None
+
+-- the same of the judging between the third slash of a path and the fourth, and the test behind that, up to the fifth
+abbrev pub job_of : JobPart → List ℕ → Option Route
+job_of p path =
     let tail = behind 47 (behind 47 (behind 47 path)) in
-    job_with (number_of (before 47 tail)) (number_of (behind 47 tail))
+    job_with p (number_of (before 47 tail)) (number_of (before 47 (behind 47 tail)))
 
 -- the route of a place and the ids that stand in the path
 abbrev pub route_at : Place → List ℕ → Option Route
@@ -51,7 +58,8 @@ route_at place.FetchWork path = Some route.FetchWork
 route_at place.AddRun path = Some route.AddRun
 route_at place.Renew path = Some route.Renew
 route_at place.Down path = Some route.Down
-route_at place.Job path = job_of path
+route_at place.Job path = job_of part.Whole path
+route_at place.JobRest path = job_of part.Rest path
 route_at place.Judgement path = with_id route.Judgement (id_of path)
 route_at place.Submission path = with_id route.Submission (id_of path)
 route_at place.Verify path = with_id route.Verify (id_of path)
@@ -83,6 +91,7 @@ method_of route.AddRun = codes "POST"
 method_of route.Renew = codes "POST"
 method_of route.Down = codes "POST"
 method_of (route.Job judging test) = codes "GET"
+method_of (route.JobRest judging test) = codes "GET"
 method_of (route.Judgement judging) = codes "GET"
 method_of (route.Submission judging) = codes "GET"
 method_of (route.Verify judging) = codes "POST"

@@ -13,6 +13,7 @@ use Rattle.http_door.specs.declared.responses.ResponseFault.TheVariants as fault
 use Rattle.http_door.specs.Requests.{Request, IsRequest, AreRequests, EndsAs, IsRefusal}
 use Rattle.http_door.specs.Refusals.{refusal_of, refusal_status, refusal_body}
 use Rattle.http_door.specs.Responses.{response_text}
+use Rattle.wire_job.specs.declared.parts.JobPart.{JobPart}
 use Rattle.farm_api.specs.declared.asking.Asked.{Asked}
 use Rattle.farm_api.specs.declared.ends.ConnHow.{ConnHow}
 use Rattle.farm_api.specs.declared.ends.ConnHow.TheVariants as how
@@ -24,15 +25,15 @@ use Rattle.farm_api.specs.Exchanges.{Exchange, Around, IsCaseOf, IsGiven, IsWhol
 -- One request
 
 -- what was put of a job, or of what stands in its place
-abbrev pub PutsJob : Gives → Bool → ℕ → ℕ → Reply → Option (List ℕ) → Option (List ℕ)
+abbrev pub PutsJob : Gives → Bool → JobPart → ℕ → ℕ → Reply → Option (List ℕ) → Option (List ℕ)
     → Result (Unit {0}) ResponseFault → Type 0
-PutsJob gives closing judging test r held held' (Ok u) =
+PutsJob gives closing p judging test r held held' (Ok u) =
     (given : Given) × IsCaseOf gives test (owner_in r) given
-    × Appends held held' (job_or_reply closing judging test (owner_in r) r given.case)
-PutsJob gives closing judging test r held held' (Err fault.WriteFault) =
+    × Appends held held' (job_or_reply closing p judging test (owner_in r) r given.case)
+PutsJob gives closing p judging test r held held' (Err fault.WriteFault) =
     (given : Given) × IsCaseOf gives test (owner_in r) given
-    × ((n : ℕ) × Appends held held' (take n (job_or_reply closing judging test (owner_in r) r given.case)))
-PutsJob gives closing judging test r held held' (Err fault.NoMemory) = Keeps held held'
+    × ((n : ℕ) × Appends held held' (take n (job_or_reply closing p judging test (owner_in r) r given.case)))
+PutsJob gives closing p judging test r held held' (Err fault.NoMemory) = Keeps held held'
 
 -- what was put of the answer to what is asked, behind which the server asks to close or does not
 abbrev pub PutsAnswer : {A : Type 0} → (A → Entered → A → Type 0) → Gives → Bool → ℕ → Asked → A → A

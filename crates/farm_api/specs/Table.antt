@@ -23,6 +23,7 @@ table =
     (codes "/judgehosts", place.Hosts) ∷ (codes "/judgehosts/fetch-work", place.FetchWork)
     ∷ (codes "/judgehosts/add-judging-run", place.AddRun) ∷ (codes "/judgehosts/renew", place.Renew)
     ∷ (codes "/judgehosts/down", place.Down) ∷ (codes "/judgehosts/job/{judging}/{test}", place.Job)
+    ∷ (codes "/judgehosts/job/{judging}/{test}/rest", place.JobRest)
     ∷ (codes "/judgements/{id}", place.Judgement)
     ∷ (codes "/judgements/{id}/submission", place.Submission) ∷ (codes "/judgements/{id}/verify", place.Verify)
     ∷ (codes "/judgements/{id}/ask", place.Ask) ∷ (codes "/board", place.Board)

@@ -8,6 +8,7 @@ use crate::routes::{Routed, find_route};
 use farm_kinds::{Event, Name, NoMemory};
 use http_door::Head;
 use std::alloc::Global;
+use wire_job::JobPart;
 use wire_json::{Body, BodyFault, Route, read_body};
 
 /// Why a request has no event.
@@ -25,9 +26,16 @@ pub enum RequestFault {
 #[derive(Debug, Drop)]
 pub enum Asked {
     /// An event, before which time goes on to the clock's number where `ticks` says so.
-    Event { ticks: bool, event: Event },
-    /// The job of a test of a judging: whose submission that is, and then its case.
-    Job { judging: u32, test: u32 },
+    Event {
+        ticks: bool,
+        event: Event,
+    },
+    /// So much of the job of a test of a judging: whose submission that is, and then its case.
+    Job {
+        part: JobPart,
+        judging: u32,
+        test: u32,
+    },
     /// What the public sees.
     Public,
     /// The same as a page for people.
@@ -157,7 +165,16 @@ fn asked_on(route: Route, body: Body) -> Asked
     ensures { result ≡ asked_on route body }
 {
     match route {
-        Route::Job { judging, test } => Asked::Job { judging, test },
+        Route::Job { judging, test } => Asked::Job {
+            part: JobPart::Whole,
+            judging,
+            test,
+        },
+        Route::JobRest { judging, test } => Asked::Job {
+            part: JobPart::Rest,
+            judging,
+            test,
+        },
         _ => asked_with(ticks_first(route), event_of(route, body)),
     }
 }

@@ -19,6 +19,7 @@ use farm_kinds::{Event, NoMemory, Reply, Text};
 use http_door::ResponseFault;
 use std::alloc::Global;
 use std::sync::Wait;
+use wire_job::JobPart;
 
 /// Answers events by a board, each in its turn, on a pass, looks by asking for the board, and gives jobs of these cases
 /// and the names that they show.
@@ -63,11 +64,12 @@ impl<'a, W: Wait, A: Admission, Q: Cases + Shows> Replier for BoardReplier<'a, W
     fn job(
         &self,
         alloc: Global,
+        part: JobPart,
         submission: u32,
         judging: u32,
         test: u32,
     ) -> Result<Option<Text>, NoMemory> {
-        write_case(alloc, self.cases, submission, judging, test)
+        write_case(alloc, part, self.cases, submission, judging, test)
     }
 
     fn contest(&self) -> &ContestView {

@@ -22,6 +22,7 @@ use http_door::ResponseFault;
 use judge_feed::{Feed, Naming};
 use std::alloc::Global;
 use std::sync::{Mutex, Wait};
+use wire_job::JobPart;
 
 /// Answers events by a board, each in its turn, and has a feed publish what follows from them for the public; gives for a
 /// look what the feed has published, without waiting; and gives jobs of these cases and the names that they show.
@@ -79,11 +80,12 @@ impl<'a, W: Wait, A: Admission, Q: Cases + Shows, J: Naming> Replier
     fn job(
         &self,
         alloc: Global,
+        part: JobPart,
         submission: u32,
         judging: u32,
         test: u32,
     ) -> Result<Option<Text>, NoMemory> {
-        write_case(alloc, self.cases, submission, judging, test)
+        write_case(alloc, part, self.cases, submission, judging, test)
     }
 
     fn contest(&self) -> &ContestView {

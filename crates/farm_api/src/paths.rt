@@ -14,6 +14,7 @@ pub enum Place {
     Renew,
     Down,
     Job,
+    JobRest,
     Judgement,
     Submission,
     Verify,
@@ -29,13 +30,14 @@ pub enum Place {
     Cancel,
 }
 
-static TABLE: [(&str, Place); 19] = [
+static TABLE: [(&str, Place); 20] = [
     ("/judgehosts", Place::Hosts),
     ("/judgehosts/fetch-work", Place::FetchWork),
     ("/judgehosts/add-judging-run", Place::AddRun),
     ("/judgehosts/renew", Place::Renew),
     ("/judgehosts/down", Place::Down),
     ("/judgehosts/job/{judging}/{test}", Place::Job),
+    ("/judgehosts/job/{judging}/{test}/rest", Place::JobRest),
     ("/judgements/{id}", Place::Judgement),
     ("/judgements/{id}/submission", Place::Submission),
     ("/judgements/{id}/verify", Place::Verify),

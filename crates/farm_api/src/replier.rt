@@ -10,6 +10,7 @@ use farm_io::Sink;
 use farm_kinds::{Event, NoMemory, Reply, Text};
 use http_door::ResponseFault;
 use std::alloc::Global;
+use wire_job::JobPart;
 
 /// What answers events, one after the other, looks at what the public sees, and gives jobs and the names of the contest.
 pub trait Replier {
@@ -57,15 +58,16 @@ pub trait Replier {
         ensures left { left state.old ≤ left state.new + 1 }
         ensures suits { suits self.now state.new };
 
-    /// The text of the job of a test of a judging of this submission. None where there is no case of it.
+    /// The text of so much of the job of a test of a judging of this submission. None where there is no case of it.
     fn job(
         &self,
         alloc: Global,
+        part: JobPart,
         submission: u32,
         judging: u32,
         test: u32,
     ) -> Result<Option<Text>, NoMemory>
-        ensures { IfOk result (λ text. IsJobText ((gives self.now).case submission test) judging test text) };
+        ensures { IfOk result (λ text. IsJobText ((gives self.now).case submission test) part judging test text) };
 
     /// The names of the contest.
     fn contest(&self) -> &ContestView

@@ -1,10 +1,11 @@
 ghost use Rattle.std.specs.Prelude.{◌≡◌, ◌==◌, ◌≤◌, length, IsUtf8};
 ghost use Rattle.std.specs.List.{position, position_or_len};
 ghost use Rattle.farm_api.specs.Table.{rows, place_in};
-ghost use Rattle.farm_api.specs.Routes.{before, behind, path_of, id_of, job_with, job_of, route_at, method_of, routed_by, got_by, routed_at, routed_of};
+ghost use Rattle.farm_api.specs.Routes.{before, behind, path_of, id_of, job_route, job_with, job_of, route_at, method_of, routed_by, got_by, routed_at, routed_of};
 
 use crate::paths::{Paths, Place};
 use command_text::read_number;
+use wire_job::JobPart;
 use wire_json::Route;
 
 /// What a request asks for.
@@ -68,24 +69,35 @@ fn id_of(path: &[u8]) -> Option<u32>
     read_number(before(tail, b'/'))
 }
 
-/// The route of a job of these, where both are numbers.
-fn job_with(judging: Option<u32>, test: Option<u32>) -> Option<Route>
-    ensures { result ≡ job_with judging test }
+/// The route of so much of the job of a test of a judging.
+fn job_route(part: JobPart, judging: u32, test: u32) -> Route
+    ensures { result ≡ job_route part judging test }
+{
+    match part {
+        JobPart::Whole => Route::Job { judging, test },
+        JobPart::Rest => Route::JobRest { judging, test },
+    }
+}
+
+/// The same of these, where both are numbers.
+fn job_with(part: JobPart, judging: Option<u32>, test: Option<u32>) -> Option<Route>
+    ensures { result ≡ job_with part judging test }
 {
     match (judging, test) {
-        (Some(judging), Some(test)) => Some(Route::Job { judging, test }),
+        (Some(judging), Some(test)) => Some(job_route(part, judging, test)),
         _ => None,
     }
 }
 
-/// The route of a job: of the judging between the third slash of a path and the fourth, and the test behind that.
-fn job_of(path: &[u8]) -> Option<Route>
-    ensures { result ≡ job_of path.now }
+/// The same of the judging between the third slash of a path and the fourth, and the test behind that, up to the fifth.
+fn job_of(part: JobPart, path: &[u8]) -> Option<Route>
+    ensures { result ≡ job_of part path.now }
 {
     let tail = behind(behind(behind(path, b'/'), b'/'), b'/');
     job_with(
+        part,
         read_number(before(tail, b'/')),
-        read_number(behind(tail, b'/')),
+        read_number(before(behind(tail, b'/'), b'/')),
     )
 }
 
@@ -99,7 +111,8 @@ fn route_at(place: Place, path: &[u8]) -> Option<Route>
         Place::AddRun => Some(Route::AddRun),
         Place::Renew => Some(Route::Renew),
         Place::Down => Some(Route::Down),
-        Place::Job => job_of(path),
+        Place::Job => job_of(JobPart::Whole, path),
+        Place::JobRest => job_of(JobPart::Rest, path),
         Place::Judgement => id_of(path).map(Route::Judgement),
         Place::Submission => id_of(path).map(Route::Submission),
         Place::Verify => id_of(path).map(Route::Verify),
@@ -121,7 +134,7 @@ fn method_of(route: Route) -> &'static [u8]
 {
     match route {
         Route::Judgement(_) | Route::Submission(_) | Route::Rejudging(_) => b"GET",
-        Route::Job { .. } | Route::Board | Route::Audit => b"GET",
+        Route::Job { .. } | Route::JobRest { .. } | Route::Board | Route::Audit => b"GET",
         Route::Hosts | Route::FetchWork | Route::AddRun | Route::Renew | Route::Down => b"POST",
         Route::Verify(_) | Route::Ask(_) | Route::Apply(_) | Route::Cancel(_) => b"POST",
         Route::Rejudgings => b"POST",

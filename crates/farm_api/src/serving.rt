@@ -45,8 +45,12 @@ fn answer_asked<A: Replier, K: Sink>(
             Err(_) => Err(ResponseFault::NoMemory),
             Ok(reply) => answer_reply(alloc, sink, closing, &reply),
         },
-        Asked::Job { judging, test } => answer_job(
-            alloc, replier, state, moment, *judging, *test, closing, sink,
+        Asked::Job {
+            part,
+            judging,
+            test,
+        } => answer_job(
+            alloc, replier, state, moment, *part, *judging, *test, closing, sink,
         ),
         Asked::Public => replier.show(alloc, state, closing, sink),
         Asked::Page => answer_page(alloc, replier, state, moment, closing, sink),

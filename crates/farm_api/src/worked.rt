@@ -28,6 +28,8 @@ pub fn worked_routes()
     ensures job_without_test { route_of (codes "/judgehosts/job/12") ≡ None }
     ensures job_of_a_word { route_of (codes "/judgehosts/job/12/one") ≡ None }
     ensures job_of_a_signed_number { route_of (codes "/judgehosts/job/+12/3") ≡ None }
+    ensures job_rest { route_of (codes "/judgehosts/job/12/3/rest") ≡ Some (route.JobRest 12 3) }
+    ensures job_rest_of_a_word { route_of (codes "/judgehosts/job/12/x/rest") ≡ None }
     ensures largest { route_of (codes "/rejudgings/4294967295") ≡ Some (route.Rejudging 4294967295) }
     ensures too_large { route_of (codes "/rejudgings/4294967296") ≡ None }
     ensures zero { route_of (codes "/judgements/012") ≡ None }
@@ -40,6 +42,7 @@ pub fn worked_targets()
     ensures query { routed_of (codes "GET") (codes "/board?all") ≡ routed.Route route.Board }
     ensures method { routed_of (codes "POST") (codes "/board") ≡ routed.NoMethod }
     ensures job_method { routed_of (codes "POST") (codes "/judgehosts/job/12/3") ≡ routed.NoMethod }
+    ensures job_rest_method { routed_of (codes "PUT") (codes "/judgehosts/job/12/3/rest") ≡ routed.NoMethod }
     ensures lower_case { routed_of (codes "get") (codes "/board") ≡ routed.NoMethod }
     ensures public { routed_of (codes "GET") (codes "/public") ≡ routed.Public }
     ensures public_query { routed_of (codes "GET") (codes "/public?team=1") ≡ routed.Public }
@@ -66,6 +69,9 @@ pub fn worked_events()
         ≡ with_reply (event.Verify jury 1) (reply.Verified 1) ∷ [] }
     ensures job { let r : Replies = record { ticked = reply.NoMemory; answer = reply.Owned 1; downed = reply.NoMemory } in
         entered_in record { request = record { method = codes "GET"; target = codes "/judgehosts/job/4/2"; close = false; body = [] }; moment = 7; replies = r; given = nothing_given; asked = false }
+        ≡ with_reply (event.Owner 4) (reply.Owned 1) ∷ [] }
+    ensures job_rest { let r : Replies = record { ticked = reply.NoMemory; answer = reply.Owned 1; downed = reply.NoMemory } in
+        entered_in record { request = record { method = codes "GET"; target = codes "/judgehosts/job/4/2/rest"; close = false; body = [] }; moment = 7; replies = r; given = nothing_given; asked = false }
         ≡ with_reply (event.Owner 4) (reply.Owned 1) ∷ [] }
     ensures public { let r : Replies = record { ticked = reply.NoMemory; answer = reply.NoMemory; downed = reply.NoMemory } in
         entered_in record { request = record { method = codes "GET"; target = codes "/public"; close = false; body = [] }; moment = 7; replies = r; given = record { case = None; look = reply.Board (Pending ∷ []); contest = no_view }; asked = false }
@@ -114,6 +120,9 @@ pub fn worked_responses()
         ≡ codes "HTTP/1.1 200 OK\r\ncontent-length: 32\r\ncontent-type: application/json\r\n\r\n"
         ++ codes "{\"reply\":\"owner\",\"submission\":1}" }
     ensures no_job { response_of false record { method = codes "GET"; target = codes "/judgehosts/job/1/9"; close = false; body = [] } (reply.Owned 1) nothing_given
+        ≡ codes "HTTP/1.1 404 Not Found\r\ncontent-length: 18\r\ncontent-type: application/json\r\n\r\n"
+        ++ codes "{\"reply\":\"no-job\"}" }
+    ensures no_job_rest { response_of false record { method = codes "GET"; target = codes "/judgehosts/job/1/9/rest"; close = false; body = [] } (reply.Owned 1) nothing_given
         ≡ codes "HTTP/1.1 404 Not Found\r\ncontent-length: 18\r\ncontent-type: application/json\r\n\r\n"
         ++ codes "{\"reply\":\"no-job\"}" }
     ensures job_of_no_judging { response_of false record { method = codes "GET"; target = codes "/judgehosts/job/9/1"; close = false; body = [] } (reply.NoJudging 9) nothing_given

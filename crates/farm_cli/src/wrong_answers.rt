@@ -13,6 +13,11 @@ fn request_text(alloc: Global, request: Ask) -> Result<String, AllocError> {
             let test = task.test;
             format!(in alloc; "GET /judgehosts/job/{judging}/{test}")
         }
+        Ask::JobRest(task) => {
+            let judging = task.judging;
+            let test = task.test;
+            format!(in alloc; "GET /judgehosts/job/{judging}/{test}/rest")
+        }
         Ask::Post(task, _) => {
             let judging = task.judging;
             let test = task.test;

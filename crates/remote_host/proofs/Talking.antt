@@ -3,10 +3,12 @@ use Rattle.std.proofs.Common.{ℕ, suc, ◌≡◌, ◌+◌, ◌≤◌, ◌⊎◌
 use Rattle.std.specs.Io.KnownBytes.{Appends, Consumes}
 use Rattle.std.proofs.lemmas.List.{append-nil}
 use Rattle.std.proofs.KnownBytes.{Consumes-nil, Consumes-trans, Appends-nil, Appends-trans}
+use Rattle.farm_kinds.specs.declared.outcomes.Task.{Task}
 use Rattle.http_door.specs.Answers.{Answer, AreAnswers}
 use Rattle.http_door.specs.AnswerReading.{answer_with}
 use Rattle.http_door.proofs.AnswerCutting.{answers_more, answers_last}
 use Rattle.remote_host.specs.declared.asks.Caller.{Caller}
+use Rattle.remote_host.specs.declared.asks.Kept.{Kept}
 use Rattle.remote_host.specs.declared.asks.Ask.{Ask}
 use Rattle.remote_host.specs.declared.asks.Ask.TheVariants as ask
 use Rattle.farm_io.specs.Streams.{Rose}
@@ -15,7 +17,8 @@ use Rattle.remote_host.specs.declared.exchange.Halt.{Halt}
 use Rattle.remote_host.specs.declared.exchange.Halt.TheVariants as halt
 use Rattle.remote_host.specs.declared.asks.Wrong.{Wrong}
 use Rattle.remote_host.specs.declared.asks.TalkEnd.TheVariants as end
-use Rattle.remote_host.specs.Talk.{Talk, talk, turns, ended, onto, after, answered, count_fetch, count_post, fetches_in, posts_in}
+use Rattle.remote_host.specs.Bodies.{job_said}
+use Rattle.remote_host.specs.Talk.{Talk, talk, turns, ended, onto, after, answered, case_ask, job_next, count_fetch, count_post, fetches_in, posts_in}
 use Rattle.remote_host.specs.Requests.{spell, spelled}
 use Rattle.remote_host.specs.Standing.{Line, Took, Exchanged, Stopped, Stands, IfWronged, Breaks, Asked, first_wrong}
 
@@ -42,12 +45,14 @@ fetch_counted : (a : Ask) (n : ℕ) → count_fetch a n ≡ count_fetch a 0 + n
 fetch_counted ask.Enter n = omega arith
 fetch_counted ask.Fetch n = omega arith
 fetch_counted (ask.Job task) n = omega arith
+fetch_counted (ask.JobRest task) n = omega arith
 fetch_counted (ask.Post task kind) n = omega arith
 
 post_counted : (a : Ask) (n : ℕ) → count_post a n ≡ count_post a 0 + n
 post_counted ask.Enter n = omega arith
 post_counted ask.Fetch n = omega arith
 post_counted (ask.Job task) n = omega arith
+post_counted (ask.JobRest task) n = omega arith
 post_counted (ask.Post task kind) n = omega arith
 
 fetches_swap : (u a : Ask) (n : ℕ) → count_fetch u (count_fetch a n) ≡ count_fetch a (count_fetch u n)
@@ -111,9 +116,9 @@ stands_more who start old new claims fetched posted a f r s x = record {
 }
 
 -- the next turn
-pub stands_turn : (who : Caller) (start now : Line) (claims fetched posted : ℕ) → Stands who start now claims fetched posted (λ n more. turns who n more)
-    → Stands who start now (claims + 1) fetched posted (λ n more. turns who (suc n) more)
-stands_turn who start now claims fetched posted s = record {
+pub stands_turn : (who : Caller) (start now : Line) (claims fetched posted : ℕ) (kept : Option Kept) → Stands who start now claims fetched posted (λ n more. turns who n kept more)
+    → Stands who start now (claims + 1) fetched posted (λ n more. turns who (suc n) kept more)
+stands_turn who start now claims fetched posted kept s = record {
   asks = s.asks;
   answers = s.answers;
   puts = s.puts;
@@ -204,6 +209,20 @@ pub asked_err : (who : Caller) (start old new : Line) (claims fetched posted : �
 asked_err who start old new claims fetched posted a f w v asked is x e s =
     subst (λ (z : Option Wrong). Breaks who start new claims z) (sym e)
     (stands_stopped who start old new claims fetched posted a f v s (subst (λ (z : List ℕ). Stopped old new z v) is x))
+
+-- what comes behind the response to the request for the case of a task
+abbrev pub case_heard : Caller → Option (List ℕ) → Task → ℕ → Answer → List Answer → Talk
+case_heard who has task n a more = job_next (turns who n) task more (job_said has task a.body)
+
+-- what asks for the case of a task counts as no other request
+pub case_asked : (who : Caller) (start old new : Line) (claims fetched posted : ℕ) (has : Option (List ℕ)) (task : Task) (a : Ask) (f : ℕ → Answer → List Answer → Talk) (w : Option Wrong) (body : List ℕ) (result : Result (Unit {0}) BenchFault)
+    → a ≡ case_ask has task
+    → (Stands who start old claims fetched posted (λ n more. onto a (answered (f n) more)) → Asked who start new claims (count_fetch a fetched) (count_post a posted) f w body result)
+    → Stands who start old claims fetched posted (λ n more. onto (case_ask has task) (answered (f n) more)) → Asked who start new claims fetched posted f w body result
+case_asked who start old new claims fetched posted None task a f w body result is asks =
+    subst (λ (z : Ask). Stands who start old claims fetched posted (λ n more. onto z (answered (f n) more)) → Asked who start new claims (count_fetch z fetched) (count_post z posted) f w body result) is asks
+case_asked who start old new claims fetched posted (Some image) task a f w body result is asks =
+    subst (λ (z : Ask). Stands who start old claims fetched posted (λ n more. onto z (answered (f n) more)) → Asked who start new claims (count_fetch z fetched) (count_post z posted) f w body result) is asks
 
 -- nothing was asked
 pub asked_nothing : (who : Caller) (start now : Line) (claims fetched posted : ℕ) (f : ℕ → List Answer → Talk) (w : Option Wrong) → w ≡ None → Stands who start now claims fetched posted f → Breaks who start now claims w

@@ -13,6 +13,7 @@ use Rattle.judgehost.specs.Benches.{Heard, Nothing, Refused}
 use Rattle.wire_job.specs.JobValue.{JobValue}
 use Rattle.http_door.specs.Answers.{Answer}
 use Rattle.remote_host.specs.declared.asks.Caller.{Caller}
+use Rattle.remote_host.specs.declared.asks.Kept.{Kept}
 use Rattle.remote_host.specs.declared.asks.Wrong.{Wrong}
 use Rattle.remote_host.specs.declared.asks.TalkEnd.{TalkEnd}
 use Rattle.remote_host.specs.declared.asks.TalkEnd.TheVariants as end
@@ -43,9 +44,9 @@ pub stands_talked : (who : Caller) (start now : Line) (claims fetched posted fue
     → Talked who start now fuel fetched posted e
 stands_talked who start now claims fetched posted fuel e s le = talked_by who start now claims fetched posted (fuel - claims) fuel (λ n more. ended e) e s (omega (arith, le)) refl
 
-pub stands_spent : (who : Caller) (start now : Line) (claims fetched posted fuel : ℕ) → Stands who start now claims fetched posted (λ n more. turns who n more) → claims ≡ fuel
+pub stands_spent : (who : Caller) (start now : Line) (claims fetched posted fuel : ℕ) (kept : Option Kept) → Stands who start now claims fetched posted (λ n more. turns who n kept more) → claims ≡ fuel
     → Talked who start now fuel fetched posted end.Spent
-stands_spent who start now claims fetched posted fuel s is = talked_by who start now claims fetched posted zero fuel (λ n more. turns who n more) end.Spent s (omega (arith, is)) refl
+stands_spent who start now claims fetched posted fuel kept s is = talked_by who start now claims fetched posted zero fuel (λ n more. turns who n kept more) end.Spent s (omega (arith, is)) refl
 
 -- the wrong answer of so many claims is the one of as many turns
 wrong_by : (who : Caller) (start now : Line) (claims fuel : ℕ) (w : Option Wrong) (answers : List Answer) → IfWronged who w claims answers now → claims + (fuel - claims) ≡ fuel → IfWrong who fuel w answers now
@@ -73,9 +74,9 @@ breaks_prefixes who start now claims fuel w b le =
     let f = breaks_broken who start now claims fuel w b le in
     record { answers = f.answers; took = f.took; put = f.put; rest = f.rest; puts = f.puts; prefix = f.prefix }
 
-goes_on_prefix : (who : Caller) (start now : Line) (claims fetched posted : ℕ) (p : Option (Task × TestCase)) → GoesOnAt who start now claims fetched posted p → Breaks who start now claims None
-goes_on_prefix who start now claims fetched posted None s = stands_prefix who start now claims fetched posted (λ n more. turns who n more) s
-goes_on_prefix who start now claims fetched posted (Some p) s = stands_prefix who start now claims fetched posted _ s
+goes_on_prefix : (who : Caller) (start now : Line) (claims fetched posted : ℕ) (kept : Option Kept) (p : Option (Task × TestCase)) → GoesOnAt who start now claims fetched posted kept p → Breaks who start now claims None
+goes_on_prefix who start now claims fetched posted kept None s = stands_prefix who start now claims fetched posted (λ n more. turns who n kept more) s
+goes_on_prefix who start now claims fetched posted kept (Some p) s = stands_prefix who start now claims fetched posted _ s
 
 refused_prefix : (who : Caller) (start now : Line) (claims fetched posted fuel : ℕ) (w : Option Wrong) (e : BenchFault) → RefusedAt who start now claims fetched posted w e → claims ≤ fuel → Prefixes who start now fuel
 refused_prefix who start now claims fetched posted fuel w fault.Link s le = breaks_prefixes who start now claims fuel w s le
@@ -84,10 +85,10 @@ refused_prefix who start now claims fetched posted fuel w fault.NoHost s le = br
 refused_prefix who start now claims fetched posted fuel w (fault.NoCase task) s le = absurd s
 refused_prefix who start now claims fetched posted fuel w fault.NoMemory s le = breaks_prefixes who start now claims fuel w s le
 
-at_prefix : (who : Caller) (start now : Line) (claims posts fuel : ℕ) (p : Option (Task × TestCase)) (w : Option Wrong) (h : Option Heard) → IsAt who start now claims posts p w h → claims ≤ fuel → Prefixes who start now fuel
-at_prefix who start now claims posts fuel p w None s le = breaks_prefixes who start now claims fuel None (goes_on_prefix who start now claims claims posts p s.1) le
-at_prefix who start now claims posts fuel p w (Some Nothing) s le = breaks_prefixes who start now claims fuel None (stands_prefix who start now claims claims posts _ s.2) le
-at_prefix who start now claims posts fuel p w (Some (Refused e)) s le = refused_prefix who start now claims claims posts fuel w e s le
+at_prefix : (who : Caller) (start now : Line) (claims posts fuel : ℕ) (kept : Option Kept) (p : Option (Task × TestCase)) (w : Option Wrong) (h : Option Heard) → IsAt who start now claims posts kept p w h → claims ≤ fuel → Prefixes who start now fuel
+at_prefix who start now claims posts fuel kept p w None s le = breaks_prefixes who start now claims fuel None (goes_on_prefix who start now claims claims posts kept p s.1) le
+at_prefix who start now claims posts fuel kept p w (Some Nothing) s le = breaks_prefixes who start now claims fuel None (stands_prefix who start now claims claims posts _ s.2) le
+at_prefix who start now claims posts fuel kept p w (Some (Refused e)) s le = refused_prefix who start now claims claims posts fuel w e s le
 
 refused_as : (who : Caller) (start now : Line) (claims posts fuel : ℕ) (w : Option Wrong) (e : BenchFault) → RefusedAt who start now claims claims posts w e → claims ≤ fuel → RefusedAs who start now fuel claims posts w e
 refused_as who start now claims posts fuel w fault.Link s le = breaks_broken who start now claims fuel w s le
@@ -100,11 +101,11 @@ none_pending : (j : Option JobValue) (posts tasks : ℕ) → posts + is_pending 
 none_pending None posts tasks le e = refl
 none_pending (Some j) posts tasks le e = absurd (omega (arith, le, e))
 
-spent_as : (who : Caller) (start now : Line) (claims posts fuel : ℕ) (p : Option (Task × TestCase)) (w : Option Wrong) (h : Option Heard) → IsAt who start now claims posts p w h → h ≡ None → p ≡ None → claims ≡ fuel → Talked who start now fuel claims posts end.Spent
-spent_as who start now claims posts fuel p w h s hn pn is =
-    let t = subst (IsAt who start now claims posts p w) hn s in
-    let g = subst (GoesOnAt who start now claims claims posts) pn t.1 in
-    stands_spent who start now claims claims posts fuel g is
+spent_as : (who : Caller) (start now : Line) (claims posts fuel : ℕ) (kept : Option Kept) (p : Option (Task × TestCase)) (w : Option Wrong) (h : Option Heard) → IsAt who start now claims posts kept p w h → h ≡ None → p ≡ None → claims ≡ fuel → Talked who start now fuel claims posts end.Spent
+spent_as who start now claims posts fuel kept p w h s hn pn is =
+    let t = subst (IsAt who start now claims posts kept p w) hn s in
+    let g = subst (GoesOnAt who start now claims claims posts kept) pn t.1 in
+    stands_spent who start now claims claims posts fuel kept g is
 
 pub first_same : {A B C : Type 0} (x y : A × B × C) → x ≡ y → x.0 ≡ y.0
 first_same x y e = ap (λ z. z.0) e
@@ -119,10 +120,10 @@ idle_ends : (who : Caller) (f : List Answer → Talk) (us : List Answer) → who
 idle_ends who f us h = rw h refl
 
 -- no task was open, and the host does not wait for one
-idle_as : (who : Caller) (start now : Line) (claims posts fuel : ℕ) (p : Option (Task × TestCase)) (w : Option Wrong) → IsAt who start now claims posts p w (Some Nothing) → who.waits ≡ false → claims ≤ fuel → Talked who start now fuel claims posts end.Idle
-idle_as who start now claims posts fuel p w s h le =
+idle_as : (who : Caller) (start now : Line) (claims posts fuel : ℕ) (kept : Option Kept) (p : Option (Task × TestCase)) (w : Option Wrong) → IsAt who start now claims posts kept p w (Some Nothing) → who.waits ≡ false → claims ≤ fuel → Talked who start now fuel claims posts end.Idle
+idle_as who start now claims posts fuel kept p w s h le =
     stands_talked who start now claims claims posts fuel end.Idle
-    (stands_as who start now claims claims posts (λ n more. idle_next who (turns who n) more) (λ n more. ended end.Idle) (λ n more. idle_ends who (turns who n) more h) s.2) le
+    (stands_as who start now claims claims posts (λ n more. idle_next who (turns who n kept) more) (λ n more. ended end.Idle) (λ n more. idle_ends who (turns who n kept) more h) s.2) le
 
 -- all that was put are whole requests
 stands_begun : (who : Caller) (start now : Line) (claims posts fuel : ℕ) (f : ℕ → List Answer → Talk) → Stands who start now claims claims posts f → claims ≤ fuel → Begun who start now fuel claims posts
@@ -140,16 +141,16 @@ stands_begun who start now claims posts fuel f s le =
       posts_are = s.posts_are;
     }
 
-goes_on_begun : (who : Caller) (start now : Line) (claims posts fuel : ℕ) (p : Option (Task × TestCase)) → GoesOnAt who start now claims claims posts p → claims ≤ fuel → Begun who start now fuel claims posts
-goes_on_begun who start now claims posts fuel None s le = stands_begun who start now claims posts fuel (λ n more. turns who n more) s le
-goes_on_begun who start now claims posts fuel (Some p) s le = stands_begun who start now claims posts fuel _ s le
+goes_on_begun : (who : Caller) (start now : Line) (claims posts fuel : ℕ) (kept : Option Kept) (p : Option (Task × TestCase)) → GoesOnAt who start now claims claims posts kept p → claims ≤ fuel → Begun who start now fuel claims posts
+goes_on_begun who start now claims posts fuel kept None s le = stands_begun who start now claims posts fuel (λ n more. turns who n kept more) s le
+goes_on_begun who start now claims posts fuel kept (Some p) s le = stands_begun who start now claims posts fuel _ s le
 
 -- the gate let the host die, unless it was refused before
-died_as : (who : Caller) (start now : Line) (claims posts fuel : ℕ) (p : Option (Task × TestCase)) (w : Option Wrong) (h : Option Heard) (point : Point) (turn : ℕ) → IsAt who start now claims posts p w h → claims ≤ fuel
+died_as : (who : Caller) (start now : Line) (claims posts fuel : ℕ) (kept : Option Kept) (p : Option (Task × TestCase)) (w : Option Wrong) (h : Option Heard) (point : Point) (turn : ℕ) → IsAt who start now claims posts kept p w h → claims ≤ fuel
     → WorkedAs who start now fuel claims posts w (died_heard h (host.Died point turn))
-died_as who start now claims posts fuel p w None point turn s le = goes_on_begun who start now claims posts fuel p s.1 le
-died_as who start now claims posts fuel p w (Some Nothing) point turn s le = stands_begun who start now claims posts fuel _ s.2 le
-died_as who start now claims posts fuel p w (Some (Refused e)) point turn s le = refused_as who start now claims posts fuel w e s le
+died_as who start now claims posts fuel kept p w None point turn s le = goes_on_begun who start now claims posts fuel kept p s.1 le
+died_as who start now claims posts fuel kept p w (Some Nothing) point turn s le = stands_begun who start now claims posts fuel _ s.2 le
+died_as who start now claims posts fuel kept p w (Some (Refused e)) point turn s le = refused_as who start now claims posts fuel w e s le
 
 -- the end of the loop is the host's, unless this was refused
 pub end_is : (h : Option Heard) (d e k : HostEnd) → e ≡ end_heard h d → e ≡ k → ((f : BenchFault) → k ≢ host.Bench f) → d ≡ k
@@ -181,39 +182,40 @@ refused_heard h (host.Bench g) e f is refused q = refused f (sym is ∙ q)
 refused_heard h host.NoMemory e f is refused q = let bad : host.NoMemory ≡ host.Bench f = sym is ∙ q in cc
 
 -- all that was put, by how the host ended
-pub worked_as : (who : Caller) (start now : Line) (claims fuel posts tasks : ℕ) (j : Option JobValue) (w : Option Wrong) (h : Option Heard) (e : HostEnd)
-    → IsAt who start now claims posts (pending_job j) w h → claims ≤ fuel → posts + is_pending j ≤ tasks
+pub worked_as : (who : Caller) (start now : Line) (claims fuel posts tasks : ℕ) (kept : Option Kept) (j : Option JobValue) (w : Option Wrong) (h : Option Heard) (e : HostEnd)
+    → IsAt who start now claims posts kept (pending_job j) w h → claims ≤ fuel → posts + is_pending j ≤ tasks
     → (e ≡ host.Idle → who.waits ≡ false) → (e ≡ host.Idle → h ≡ Some Nothing) → ((f : BenchFault) → e ≡ host.Bench f → h ≡ Some (Refused f))
     → (e ≡ host.Fuel → h ≡ None) → (e ≡ host.Fuel → claims ≡ fuel) → (e ≡ host.Fuel → posts ≡ tasks)
     → WorkedAs who start now fuel claims posts w (end_heard h e)
-worked_as who start now claims fuel posts tasks j w h host.Idle s le few quits idle refused unheard spent all =
-    idle_as who start now claims posts fuel (pending_job j) w (subst (IsAt who start now claims posts (pending_job j) w) (idle refl) s) (quits refl) le
-worked_as who start now claims fuel posts tasks j w h (host.Died p turn) s le few quits idle refused unheard spent all = died_as who start now claims posts fuel (pending_job j) w h p turn s le
-worked_as who start now claims fuel posts tasks j w h host.Fuel s le few quits idle refused unheard spent all =
-    (spent_as who start now claims posts fuel (pending_job j) w h s (unheard refl) (none_pending j posts tasks few (all refl)) (spent refl), spent refl)
-worked_as who start now claims fuel posts tasks j w h (host.Bench f) s le few quits idle refused unheard spent all =
-    refused_as who start now claims posts fuel w f (subst (IsAt who start now claims posts (pending_job j) w) (refused f refl) s) le
-worked_as who start now claims fuel posts tasks j w h host.NoMemory s le few quits idle refused unheard spent all = at_prefix who start now claims posts fuel (pending_job j) w h s le
+worked_as who start now claims fuel posts tasks kept j w h host.Idle s le few quits idle refused unheard spent all =
+    idle_as who start now claims posts fuel kept (pending_job j) w (subst (IsAt who start now claims posts kept (pending_job j) w) (idle refl) s) (quits refl) le
+worked_as who start now claims fuel posts tasks kept j w h (host.Died p turn) s le few quits idle refused unheard spent all = died_as who start now claims posts fuel kept (pending_job j) w h p turn s le
+worked_as who start now claims fuel posts tasks kept j w h host.Fuel s le few quits idle refused unheard spent all =
+    (spent_as who start now claims posts fuel kept (pending_job j) w h s (unheard refl) (none_pending j posts tasks few (all refl)) (spent refl), spent refl)
+worked_as who start now claims fuel posts tasks kept j w h (host.Bench f) s le few quits idle refused unheard spent all =
+    refused_as who start now claims posts fuel w f (subst (IsAt who start now claims posts kept (pending_job j) w) (refused f refl) s) le
+worked_as who start now claims fuel posts tasks kept j w h host.NoMemory s le few quits idle refused unheard spent all = at_prefix who start now claims posts fuel kept (pending_job j) w h s le
 
 -- the same, of the host's end
-pub worked_heard : (who : Caller) (start now : Line) (claims fuel posts tasks : ℕ) (j : Option JobValue) (w : Option Wrong) (h : Option Heard) (e r : HostEnd) → r ≡ end_heard h e
-    → IsAt who start now claims posts (pending_job j) w h → claims ≤ fuel → posts + is_pending j ≤ tasks
+pub worked_heard : (who : Caller) (start now : Line) (claims fuel posts tasks : ℕ) (kept : Option Kept) (j : Option JobValue) (w : Option Wrong) (h : Option Heard) (e r : HostEnd) → r ≡ end_heard h e
+    → IsAt who start now claims posts kept (pending_job j) w h → claims ≤ fuel → posts + is_pending j ≤ tasks
     → (r ≡ host.Idle → who.waits ≡ false) → (e ≡ host.Idle → h ≡ Some Nothing) → ((f : BenchFault) → e ≡ host.Bench f → h ≡ Some (Refused f))
     → (e ≡ host.Fuel → h ≡ None) → (e ≡ host.Fuel → claims ≡ fuel) → (e ≡ host.Fuel → posts ≡ tasks)
     → WorkedAs who start now fuel claims posts w r
-worked_heard who start now claims fuel posts tasks j w h e r is s le few quits idle refused unheard spent all =
+worked_heard who start now claims fuel posts tasks kept j w h e r is s le few quits idle refused unheard spent all =
     subst (λ (z : HostEnd). WorkedAs who start now fuel claims posts w z) (sym is)
-    (worked_as who start now claims fuel posts tasks j w h e s le few (λ q. quits (is ∙ ap (end_heard h) q)) idle refused unheard spent all)
+    (worked_as who start now claims fuel posts tasks kept j w h e s le few (λ q. quits (is ∙ ap (end_heard h) q)) idle refused unheard spent all)
 
 -- the name was entered, and nothing was claimed yet
-pub entered_at : (who : Caller) (start now : Line) (before claims posts : ℕ) (j : Option JobValue) (w : Option Wrong) (h : Option Heard)
-    → before ≡ 0 → claims ≡ 0 → posts ≡ 0 → j ≡ None → w ≡ None → h ≡ None → Stands who start now 0 0 0 (λ n more. turns who n more) → IsAt who start now (before + claims) posts (pending_job j) w h
-entered_at who start now before claims posts j w h b c pn jn wn hn s =
+pub entered_at : (who : Caller) (start now : Line) (before claims posts : ℕ) (kept : Option Kept) (j : Option JobValue) (w : Option Wrong) (h : Option Heard)
+    → before ≡ 0 → claims ≡ 0 → posts ≡ 0 → kept ≡ None → j ≡ None → w ≡ None → h ≡ None → Stands who start now 0 0 0 (λ n more. turns who n None more) → IsAt who start now (before + claims) posts kept (pending_job j) w h
+entered_at who start now before claims posts kept j w h b c pn kn jn wn hn s =
     let zero_is : 0 ≡ before + claims = omega (arith, b, c) in
-    let stands = subst (λ (z : ℕ). Stands who start now (before + claims) (before + claims) z (λ n more. turns who n more)) (sym pn)
-    (subst (λ (z : ℕ). Stands who start now z z 0 (λ n more. turns who n more)) zero_is s) in
-    subst (λ (z : Option Heard). IsAt who start now (before + claims) posts (pending_job j) w z) (sym hn)
-    (subst (λ (z : Option JobValue). (w ≡ None) × GoesOnAt who start now (before + claims) (before + claims) posts (pending_job z)) (sym jn) (wn, stands))
+    let stands = subst (λ (z : ℕ). Stands who start now (before + claims) (before + claims) z (λ n more. turns who n None more)) (sym pn)
+    (subst (λ (z : ℕ). Stands who start now z z 0 (λ n more. turns who n None more)) zero_is s) in
+    let keeps = subst (λ (z : Option Kept). Stands who start now (before + claims) (before + claims) posts (λ n more. turns who n z more)) (sym kn) stands in
+    subst (λ (z : Option Heard). IsAt who start now (before + claims) posts kept (pending_job j) w z) (sym hn)
+    (subst (λ (z : Option JobValue). (w ≡ None) × GoesOnAt who start now (before + claims) (before + claims) posts kept (pending_job z)) (sym jn) (wn, keeps))
 
 -- nothing was heard, and so no fault
 pub unfailed : (h : Option Heard) (w : Option Wrong) (faults : ℕ) → h ≡ None → IfFailed h w faults

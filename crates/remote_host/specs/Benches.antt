@@ -7,7 +7,9 @@ use Rattle.judgehost.specs.declared.host.HostEnd.{HostEnd}
 use Rattle.judgehost.specs.declared.host.HostEnd.TheVariants as host
 use Rattle.judgehost.specs.Benches.{Heard, Nothing, Refused}
 use Rattle.wire_job.specs.JobValue.{JobValue}
+use Rattle.remote_host.specs.declared.asks.Kept.{Kept}
 use Rattle.remote_host.specs.declared.asks.Wrong.{Wrong}
+use Rattle.remote_host.specs.Talk.{kept_of}
 
 -- how many jobs are pending
 abbrev pub is_pending : Option JobValue → ℕ
@@ -18,12 +20,18 @@ abbrev pub pending_job : Option JobValue → Option (Task × TestCase)
 pending_job None = None
 pending_job (Some j) = Some (j.task, j.case)
 
--- no claim was made and nothing heard
-pub record IsFresh (b c t p : ℕ) (j : Option JobValue) (h : Option Heard) : Type 0 where
+-- what is kept of the job that was run
+abbrev pub kept_behind : Option JobValue → Option Kept
+kept_behind None = None
+kept_behind (Some j) = kept_of j.task j.case
+
+-- no claim was made and nothing heard, and nothing is kept
+pub record IsFresh (b c t p : ℕ) (k : Option Kept) (j : Option JobValue) (h : Option Heard) : Type 0 where
   pub before : b ≡ 0
   pub claims : c ≡ 0
   pub tasks : t ≡ 0
   pub posts : p ≡ 0
+  pub kept : k ≡ None
   pub job : j ≡ None
   pub heard : h ≡ None
 

@@ -72,9 +72,9 @@ abbrev pub job_read : Task → Result JobValue JobFault → Result TestCase Wron
 job_read task (Ok job) = if same_task job.task task then Ok job.case else Err (wrong.OtherTask job.task)
 job_read task (Err fault) = Err wrong.BadBody
 
--- the case of the job, which has to be one of this task
-unfoldable pub job_said : Task → List ℕ → Result TestCase Wrong
-job_said task body = job_read task (job_of body)
+-- the case of the job, which has to be one of this task, to a host that has this image or none
+unfoldable pub job_said : Option (List ℕ) → Task → List ℕ → Result TestCase Wrong
+job_said has task body = job_read task (job_of has body)
 
 -- Of a result that is posted
 

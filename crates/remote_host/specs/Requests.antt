@@ -34,11 +34,15 @@ result_body name judging test kind =
 abbrev pub job_path : ℕ → ℕ → List ℕ
 job_path judging test = codes "/judgehosts/job/" ++ (decimal judging ++ (codes "/" ++ decimal test))
 
+abbrev pub rest_path : ℕ → ℕ → List ℕ
+rest_path judging test = codes "/judgehosts/job/" ++ (decimal judging ++ (codes "/" ++ (decimal test ++ codes "/rest")))
+
 -- the bytes of a request of this host
 unfoldable pub spell : Caller → Ask → List ℕ
 spell who ask.Enter = post_text who.lines (codes "/judgehosts") (host_body who.name)
 spell who ask.Fetch = post_text who.lines (codes "/judgehosts/fetch-work") (host_body who.name)
 spell who (ask.Job task) = get_text who.lines (job_path task.judging task.test)
+spell who (ask.JobRest task) = get_text who.lines (rest_path task.judging task.test)
 spell who (ask.Post task kind) =
     post_text who.lines (codes "/judgehosts/add-judging-run") (result_body who.name task.judging task.test (name_of kind))
 

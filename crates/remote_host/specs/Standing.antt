@@ -11,6 +11,7 @@ use Rattle.judgehost.specs.Benches.{Heard, Nothing, Refused}
 use Rattle.http_door.specs.declared.answers.ending.AnswerEnding.TheVariants as ending
 use Rattle.http_door.specs.Answers.{Answer, IsAnswer, AreAnswers, EndsAs}
 use Rattle.remote_host.specs.declared.asks.Caller.{Caller}
+use Rattle.remote_host.specs.declared.asks.Kept.{Kept}
 use Rattle.remote_host.specs.declared.asks.Ask.{Ask}
 use Rattle.remote_host.specs.declared.asks.Fetched.{Fetched}
 use Rattle.remote_host.specs.declared.asks.Wrong.{Wrong}
@@ -101,23 +102,23 @@ Asked who start now claims fetched posted f w body (Ok u) =
 Asked who start now claims fetched posted f w body (Err e) = Breaks who start now claims w
 
 abbrev pub EnteredAt : Caller → Line → Line → ℕ → ℕ → ℕ → Option Wrong → Result (Unit {0}) BenchFault → Type 0
-EnteredAt who start now claims fetched posted w (Ok u) = Stands who start now claims fetched posted (λ n more. turns who n more)
+EnteredAt who start now claims fetched posted w (Ok u) = Stands who start now claims fetched posted (λ n more. turns who n None more)
 EnteredAt who start now claims fetched posted w (Err e) = Breaks who start now claims w
 
-abbrev pub FetchedAt : Caller → Line → Line → ℕ → ℕ → ℕ → Option Wrong → Result Fetched BenchFault → Type 0
-FetchedAt who start now claims fetched posted w (Ok said) =
-    Stands who start now claims fetched posted (λ n more. fetch_next who (turns who n) more (Some said))
-FetchedAt who start now claims fetched posted w (Err e) = Breaks who start now claims w
+abbrev pub FetchedAt : Caller → Line → Line → ℕ → ℕ → ℕ → Option Kept → Option Wrong → Result Fetched BenchFault → Type 0
+FetchedAt who start now claims fetched posted kept w (Ok said) =
+    Stands who start now claims fetched posted (λ n more. fetch_next who (turns who n) kept more (Some said))
+FetchedAt who start now claims fetched posted kept w (Err e) = Breaks who start now claims w
 
 abbrev pub JobAt : Caller → Line → Line → ℕ → ℕ → ℕ → Option Wrong → Task → Result JobValue BenchFault → Type 0
 JobAt who start now claims fetched posted w task (Ok j) =
     Stands who start now claims fetched posted (λ n more. job_next (turns who n) task more (Ok j.case))
 JobAt who start now claims fetched posted w task (Err e) = Breaks who start now claims w
 
-abbrev pub PostedAt : Caller → Line → Line → ℕ → ℕ → ℕ → Option Wrong → Result (Option Reply) BenchFault → Type 0
-PostedAt who start now claims fetched posted w (Ok said) =
-    Stands who start now claims fetched posted (λ n more. post_next (turns who n) more (Some said))
-PostedAt who start now claims fetched posted w (Err e) = Breaks who start now claims w
+abbrev pub PostedAt : Caller → Line → Line → ℕ → ℕ → ℕ → Option Kept → Option Wrong → Result (Option Reply) BenchFault → Type 0
+PostedAt who start now claims fetched posted kept w (Ok said) =
+    Stands who start now claims fetched posted (λ n more. post_next (turns who n kept) more (Some said))
+PostedAt who start now claims fetched posted kept w (Err e) = Breaks who start now claims w
 
 -- how the talk stands where the host was refused so
 abbrev pub RefusedAt : Caller → Line → Line → ℕ → ℕ → ℕ → Option Wrong → BenchFault → Type 0
@@ -127,26 +128,26 @@ RefusedAt who start now claims fetched posted w fault.NoHost = Stands who start 
 RefusedAt who start now claims fetched posted w (fault.NoCase task) = ⊥
 RefusedAt who start now claims fetched posted w fault.NoMemory = Breaks who start now claims w
 
-abbrev pub TurnedAt : Caller → Line → Line → ℕ → ℕ → ℕ → Option Wrong → Result (Option JobValue) BenchFault → Type 0
-TurnedAt who start now claims fetched posted w (Ok None) =
-    (w ≡ None) × Stands who start now claims fetched posted (λ n more. idle_next who (turns who n) more)
-TurnedAt who start now claims fetched posted w (Ok (Some j)) =
+abbrev pub TurnedAt : Caller → Line → Line → ℕ → ℕ → ℕ → Option Kept → Option Wrong → Result (Option JobValue) BenchFault → Type 0
+TurnedAt who start now claims fetched posted kept w (Ok None) =
+    (w ≡ None) × Stands who start now claims fetched posted (λ n more. idle_next who (turns who n kept) more)
+TurnedAt who start now claims fetched posted kept w (Ok (Some j)) =
     (w ≡ None) × Stands who start now claims fetched posted (λ n more. job_next (turns who n) j.task more (Ok j.case))
-TurnedAt who start now claims fetched posted w (Err e) = RefusedAt who start now claims fetched posted w e
+TurnedAt who start now claims fetched posted kept w (Err e) = RefusedAt who start now claims fetched posted w e
 
 -- where nothing was heard: the next turn is to come, or the result of the pending task
-abbrev pub GoesOnAt : Caller → Line → Line → ℕ → ℕ → ℕ → Option (Task × TestCase) → Type 0
-GoesOnAt who start now claims fetched posted None = Stands who start now claims fetched posted (λ n more. turns who n more)
-GoesOnAt who start now claims fetched posted (Some p) =
+abbrev pub GoesOnAt : Caller → Line → Line → ℕ → ℕ → ℕ → Option Kept → Option (Task × TestCase) → Type 0
+GoesOnAt who start now claims fetched posted kept None = Stands who start now claims fetched posted (λ n more. turns who n kept more)
+GoesOnAt who start now claims fetched posted kept (Some p) =
     Stands who start now claims fetched posted (λ n more. job_next (turns who n) p.0 more (Ok p.1))
 
--- how the talk stands, by what the host has heard
-abbrev pub IsAt : Caller → Line → Line → (claims posts : ℕ) → Option (Task × TestCase) → Option Wrong
+-- how the talk stands of a host that keeps this, by what it has heard
+abbrev pub IsAt : Caller → Line → Line → (claims posts : ℕ) → Option Kept → Option (Task × TestCase) → Option Wrong
     → Option Heard → Type 0
-IsAt who start now claims posts pending w None = (w ≡ None) × GoesOnAt who start now claims claims posts pending
-IsAt who start now claims posts pending w (Some Nothing) =
-    (w ≡ None) × (pending ≡ None) × Stands who start now claims claims posts (λ n more. idle_next who (turns who n) more)
-IsAt who start now claims posts pending w (Some (Refused e)) = RefusedAt who start now claims claims posts w e
+IsAt who start now claims posts kept pending w None = (w ≡ None) × GoesOnAt who start now claims claims posts kept pending
+IsAt who start now claims posts kept pending w (Some Nothing) =
+    (w ≡ None) × (pending ≡ None) × Stands who start now claims claims posts (λ n more. idle_next who (turns who n kept) more)
+IsAt who start now claims posts kept pending w (Some (Refused e)) = RefusedAt who start now claims claims posts w e
 
 -- what the bench met first
 abbrev pub first_wrong : Option Wrong → Wrong → Option Wrong

@@ -11,6 +11,15 @@ pub struct Caller {
     pub lines: Text,
 }
 
+/// What a remote host keeps of the job that it ran last.
+#[derive(Debug, Drop)]
+pub struct Kept {
+    /// The job's judging.
+    pub judging: u32,
+    /// The image of the submission.
+    pub image: Text,
+}
+
 /// What a remote host asks of the server, a request each.
 #[derive(Clone, Copy, Debug, PartialEq, Eq)]
 pub enum Ask {
@@ -20,6 +29,8 @@ pub enum Ask {
     Fetch,
     /// For the case of a task.
     Job(Task),
+    /// For the case of a task without the image of the submission.
+    JobRest(Task),
     /// That the result of a task is taken.
     Post(Task, Kind),
 }

@@ -8,7 +8,8 @@ ghost use Rattle.judgehost.specs.Benches.{IsPending, heard_at_claim, heard_at_po
 ghost use Rattle.remote_host.specs.Standing.{IsAt, EnteredAt, IsPlain};
 ghost use Rattle.remote_host.specs.Benches.{pending_job, is_pending, IsFresh, IfFailed, end_heard};
 
-use crate::asks::{Ask, Caller, Wrong};
+use crate::asks::{Ask, Caller, Kept, Wrong};
+use crate::kept::keep;
 use crate::talker::Talker;
 use case_run::Case;
 use farm_io::{Sink, Source};
@@ -27,6 +28,8 @@ pub struct RemoteBench<N: Source + Sink> {
     /// The connection as it came. It takes no bytes.
     pub start: Log<N, ()>,
     pub job: Option<Job>,
+    /// What is kept of the job that was posted last.
+    pub kept: Option<Kept>,
     /// What the last call answered. A task stands for nothing that was heard.
     pub heard: Claimed,
     /// How many claims were made before it was resumed last.
@@ -60,7 +63,7 @@ impl<N: Source + Sink> RemoteBench<N> {
         ensures talker { (result.talker.conn ≡ conn) × (result.caller ≡ caller) × (result.talker.wrong ≡ None)
             × (result.talker.wrongs ≡ 0) × (result.talker.reader.ahead ≡ []) }
         ensures start { result.start.items ≡ (conn, tt) ∷ [] }
-        ensures fresh { IsFresh result.before result.claims result.tasks result.posts result.job (heard_at_claim result.heard) }
+        ensures fresh { IsFresh result.before result.claims result.tasks result.posts result.kept result.job (heard_at_claim result.heard) }
     {
         let start = Log::new().and(&conn, &());
         RemoteBench {
@@ -75,6 +78,7 @@ impl<N: Source + Sink> RemoteBench<N> {
             caller,
             start,
             job: None,
+            kept: None,
             heard: silence(),
             before: 0,
             claims: 0,
@@ -88,7 +92,7 @@ impl<N: Source + Sink> RemoteBench<N> {
         requires start { self.old.start.items ≡ (self.old.talker.conn, tt) ∷ [] }
         requires wrong { self.old.talker.wrong ≡ None }
         requires ahead { self.old.talker.reader.ahead ≡ [] }
-        requires fresh { IsFresh self.old.before self.old.claims self.old.tasks self.old.posts self.old.job (heard_at_claim self.old.heard) }
+        requires fresh { IsFresh self.old.before self.old.claims self.old.tasks self.old.posts self.old.kept self.old.job (heard_at_claim self.old.heard) }
         ensures entered { (s : N) × (self.new.start.items ≡ (s, tt) ∷ []) × EnteredAt self.new.caller
             (record { held = N.held s; left = N.left s; ahead = [] })
             (record { held = N.held self.new.talker.conn; left = N.left self.new.talker.conn; ahead = self.new.talker.reader.ahead })
@@ -97,7 +101,7 @@ impl<N: Source + Sink> RemoteBench<N> {
         ensures plain { IfErr result IsPlain }
         ensures start { self.new.start ≡ self.old.start }
         ensures caller { self.new.caller ≡ self.old.caller }
-        ensures fresh { IsFresh self.new.before self.new.claims self.new.tasks self.new.posts self.new.job (heard_at_claim self.new.heard) }
+        ensures fresh { IsFresh self.new.before self.new.claims self.new.tasks self.new.posts self.new.kept self.new.job (heard_at_claim self.new.heard) }
         ensures later { N.Source.faults self.old.talker.conn + N.Sink.faults self.old.talker.conn + self.old.talker.wrongs
             ≤ N.Source.faults self.new.talker.conn + N.Sink.faults self.new.talker.conn + self.new.talker.wrongs }
         ensures link { result ≡ Err BenchFault.Link
@@ -116,7 +120,7 @@ impl<N: Source + Sink> RemoteBench<N> {
         ensures claims { self.new.claims ≡ 0 }
         ensures heard { heard_at_claim self.new.heard ≡ None }
         ensures rest { (self.new.talker ≡ self.old.talker) × (self.new.caller ≡ self.old.caller) × (self.new.start ≡ self.old.start) × (self.new.job ≡ self.old.job)
-            × (self.new.tasks ≡ self.old.tasks) × (self.new.posts ≡ self.old.posts) }
+            × (self.new.kept ≡ self.old.kept) × (self.new.tasks ≡ self.old.tasks) × (self.new.posts ≡ self.old.posts) }
     {
         self.before += self.claims;
         self.claims = 0;
@@ -205,13 +209,13 @@ impl<N: Source + Sink> Bench for RemoteBench<N> {
     ghost sound = { λ b. (s : N) × (b.start.items ≡ (s, tt) ∷ []) × IsAt b.caller
         (record { held = N.held s; left = N.left s; ahead = [] })
         (record { held = N.held b.talker.conn; left = N.left b.talker.conn; ahead = b.talker.reader.ahead })
-        (b.before + b.claims) b.posts (pending_job b.job) b.talker.wrong (heard_at_claim b.heard)
+        (b.before + b.claims) b.posts b.kept (pending_job b.job) b.talker.wrong (heard_at_claim b.heard)
         × IfFailed (heard_at_claim b.heard) b.talker.wrong (N.Source.faults b.talker.conn + N.Sink.faults b.talker.conn) };
 
     fn claim(&mut self) -> Claimed {
         self.claims += 1;
         self.job = None;
-        match self.talker.fetch_job(&self.caller) {
+        match self.talker.fetch_job(&self.caller, &mut self.kept) {
             Ok(said) => match said {
                 Some(job) => {
                     let task = job.task();
@@ -242,7 +246,7 @@ impl<N: Source + Sink> Bench for RemoteBench<N> {
 
     fn post(&mut self, done: Done) -> Result<Reply, BenchFault> {
         self.posts += 1;
-        self.job = None;
+        self.kept = keep(self.job.take());
         match self.talker.post(&self.caller, done.task(), done.kind()) {
             Ok(said) => match said {
                 Some(reply) => {

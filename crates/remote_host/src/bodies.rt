@@ -9,7 +9,7 @@ ghost use Rattle.remote_host.specs.Bodies.{word_of, number_at, kind_at, is_enter
 ghost use Rattle.remote_host.specs.declared.asks.Wrong.TheVariants as wrongs;
 
 use crate::asks::{Fetched, Wrong};
-use farm_kinds::{Kind, NoMemory, Reply, Task};
+use farm_kinds::{Kind, NoMemory, Reply, Task, Text};
 use serde_json::Value;
 use std::alloc::Global;
 use wire_job::{Job, JobFault, read_job};
@@ -226,13 +226,13 @@ fn same_task(task: Task, other: Task) -> bool
     task.judging == other.judging && task.test == other.test
 }
 
-/// The job that a body is, where it is one of this task.
+/// The job that a body is to a host that has this image or none, where it is one of this task.
 #[tactic(auto, unfolding(crate::specs::Bodies::job_said))]
-pub fn read_job_of(alloc: Global, task: Task, body: &[u8]) -> Result<Job, NoJob>
-    ensures ok { IfOk result (λ job. (job_said task body.now ≡ Ok job.case) × (job.task ≡ task)) }
-    ensures wrong { (w : WrongValue) → result ≡ Err (NoJob.Wrong w) → job_said task body.now ≡ Err w }
+pub fn read_job_of(alloc: Global, has: Option<Text>, task: Task, body: &[u8]) -> Result<Job, NoJob>
+    ensures ok { IfOk result (λ job. (job_said has task body.now ≡ Ok job.case) × (job.task ≡ task)) }
+    ensures wrong { (w : WrongValue) → result ≡ Err (NoJob.Wrong w) → job_said has task body.now ≡ Err w }
 {
-    match read_job(alloc, body) {
+    match read_job(alloc, has, body) {
         Ok(job) => of_task(task, job),
         Err(JobFault::NoMemory) => Err(NoJob::NoMemory),
         Err(JobFault::NotJson | JobFault::MissingField { .. } | JobFault::BadField { .. }) => {

@@ -33,7 +33,7 @@ fn round<N: Source + Sink, G: Gate>(
     requires sound { (s : N) × (bench.old.start.items ≡ (s, tt) ∷ []) × IsAt bench.old.caller
         (record { held = N.held s; left = N.left s; ahead = [] })
         (record { held = N.held bench.old.talker.conn; left = N.left bench.old.talker.conn; ahead = bench.old.talker.reader.ahead })
-        (bench.old.before + bench.old.claims) bench.old.posts (pending_job bench.old.job) bench.old.talker.wrong (heard_at_claim bench.old.heard)
+        (bench.old.before + bench.old.claims) bench.old.posts bench.old.kept (pending_job bench.old.job) bench.old.talker.wrong (heard_at_claim bench.old.heard)
         × IfFailed (heard_at_claim bench.old.heard) bench.old.talker.wrong (N.Source.faults bench.old.talker.conn + N.Sink.faults bench.old.talker.conn) }
     ensures worked { (result ≡ HostEnd.Idle → bench.new.caller.waits ≡ false)
         → (s : N) × (bench.new.start.items ≡ (s, tt) ∷ []) × WorkedAs bench.new.caller
@@ -43,7 +43,7 @@ fn round<N: Source + Sink, G: Gate>(
     ensures sound { (s : N) × (bench.new.start.items ≡ (s, tt) ∷ []) × IsAt bench.new.caller
         (record { held = N.held s; left = N.left s; ahead = [] })
         (record { held = N.held bench.new.talker.conn; left = N.left bench.new.talker.conn; ahead = bench.new.talker.reader.ahead })
-        (bench.new.before + bench.new.claims) bench.new.posts (pending_job bench.new.job) bench.new.talker.wrong (heard_at_claim bench.new.heard)
+        (bench.new.before + bench.new.claims) bench.new.posts bench.new.kept (pending_job bench.new.job) bench.new.talker.wrong (heard_at_claim bench.new.heard)
         × IfFailed (heard_at_claim bench.new.heard) bench.new.talker.wrong (N.Source.faults bench.new.talker.conn + N.Sink.faults bench.new.talker.conn) }
     ensures idle { result ≡ HostEnd.Idle → heard_at_claim bench.new.heard ≡ Some Nothing }
     ensures posted { result ≡ HostEnd.Idle → bench.new.posts ≡ bench.new.tasks }
@@ -81,7 +81,7 @@ fn work<N: Source + Sink, G: Gate, P: Pause>(
     requires sound { (s : N) × (bench.old.start.items ≡ (s, tt) ∷ []) × IsAt bench.old.caller
         (record { held = N.held s; left = N.left s; ahead = [] })
         (record { held = N.held bench.old.talker.conn; left = N.left bench.old.talker.conn; ahead = bench.old.talker.reader.ahead })
-        (bench.old.before + bench.old.claims) bench.old.posts (pending_job bench.old.job) bench.old.talker.wrong (heard_at_claim bench.old.heard)
+        (bench.old.before + bench.old.claims) bench.old.posts bench.old.kept (pending_job bench.old.job) bench.old.talker.wrong (heard_at_claim bench.old.heard)
         × IfFailed (heard_at_claim bench.old.heard) bench.old.talker.wrong (N.Source.faults bench.old.talker.conn + N.Sink.faults bench.old.talker.conn) }
     ensures worked { (s : N) × (bench.new.start.items ≡ (s, tt) ∷ []) × WorkedAs bench.new.caller
         (record { held = N.held s; left = N.left s; ahead = [] })
@@ -117,7 +117,7 @@ fn enter_and_work<N: Source + Sink, G: Gate, P: Pause>(
     requires start { bench.old.start.items ≡ (bench.old.talker.conn, tt) ∷ [] }
     requires wrong { bench.old.talker.wrong ≡ None }
     requires ahead { bench.old.talker.reader.ahead ≡ [] }
-    requires fresh { IsFresh bench.old.before bench.old.claims bench.old.tasks bench.old.posts bench.old.job (heard_at_claim bench.old.heard) }
+    requires fresh { IsFresh bench.old.before bench.old.claims bench.old.tasks bench.old.posts bench.old.kept bench.old.job (heard_at_claim bench.old.heard) }
     requires fuel { fuel ≤ 2 ^ 32 }
     ensures worked { (s : N) × (bench.new.start.items ≡ (s, tt) ∷ []) × WorkedAs bench.new.caller
         (record { held = N.held s; left = N.left s; ahead = [] })

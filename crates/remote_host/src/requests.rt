@@ -1,6 +1,6 @@
 ghost use Rattle.std.specs.Prelude.{◌≡◌, ◌++◌, codes, length, IfOk, string_bytes};
 ghost use Rattle.farm_kinds.specs.Kinds.{name_of};
-ghost use Rattle.remote_host.specs.Requests.{first_lines, length_and_body, get_text, post_text, host_body, result_body, job_path, spell};
+ghost use Rattle.remote_host.specs.Requests.{first_lines, length_and_body, get_text, post_text, host_body, result_body, job_path, rest_path, spell};
 
 use crate::asks::{Ask, Caller};
 use farm_kinds::{Kind, Name, NoMemory, Task};
@@ -78,6 +78,13 @@ fn job_path(alloc: Global, judging: u32, test: u16) -> Result<String, AllocError
     format!(in alloc; "/judgehosts/job/{judging}/{test}")
 }
 
+/// The path of a task's job without its image.
+fn rest_path(alloc: Global, judging: u32, test: u16) -> Result<String, AllocError>
+    ensures { IfOk result (λ text. string_bytes text ≡ rest_path judging test) }
+{
+    format!(in alloc; "/judgehosts/job/{judging}/{test}/rest")
+}
+
 /// A request whose body says the host's name.
 fn named_text(alloc: Global, caller: &Caller, path: &str) -> Result<Vec<u8>, AllocError>
     ensures { IfOk result (λ text. text.items ≡ post_text caller.now.lines path.now (host_body caller.now.name)) }
@@ -91,6 +98,14 @@ fn job_text(alloc: Global, caller: &Caller, task: Task) -> Result<Vec<u8>, Alloc
     ensures { IfOk result (λ text. text.items ≡ get_text caller.now.lines (job_path task.judging task.test)) }
 {
     let path = job_path(alloc, task.judging, task.test)?;
+    get_text(alloc, caller.lines.as_slice(), path.as_str())
+}
+
+/// The request for a task's job without its image.
+fn rest_text(alloc: Global, caller: &Caller, task: Task) -> Result<Vec<u8>, AllocError>
+    ensures { IfOk result (λ text. text.items ≡ get_text caller.now.lines (rest_path task.judging task.test)) }
+{
+    let path = rest_path(alloc, task.judging, task.test)?;
     get_text(alloc, caller.lines.as_slice(), path.as_str())
 }
 
@@ -129,6 +144,7 @@ fn ask_text(alloc: Global, caller: &Caller, ask: Ask) -> Result<Vec<u8>, AllocEr
         Ask::Enter => named_text(alloc, caller, "/judgehosts"),
         Ask::Fetch => named_text(alloc, caller, "/judgehosts/fetch-work"),
         Ask::Job(task) => job_text(alloc, caller, task),
+        Ask::JobRest(task) => rest_text(alloc, caller, task),
         Ask::Post(task, kind) => result_text(alloc, caller, task, kind),
     }
 }

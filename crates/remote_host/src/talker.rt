@@ -1,22 +1,23 @@
-ghost use Rattle.std.specs.Prelude.{◌≡◌, ◌≢◌, ◌+◌, ◌≤◌, ◌⊎◌, ℕ, suc, List, None, Some, Ok, Err, IfOk, IfErr, OnOk};
+ghost use Rattle.std.specs.Prelude.{◌≡◌, ◌≢◌, ◌+◌, ◌≤◌, ◌⊎◌, ℕ, suc, List, Option, None, Some, Ok, Err, IfOk, IfErr, OnOk};
 ghost use Rattle.farm_io.specs.Streams.{Rose};
 ghost use Rattle.farm_io.specs.Beside.{side};
 ghost use Rattle.farm_kinds.specs.declared.events.Reply.TheVariants as replies;
 ghost use Rattle.http_door.specs.Answers.{Answer};
 ghost use Rattle.remote_host.specs.declared.asks.Ask.TheVariants as asks;
-ghost use Rattle.remote_host.specs.declared.asks.Fetched.TheVariants as said;
+ghost use Rattle.remote_host.specs.declared.asks.Kept.{Kept as KeptValue};
 ghost use Rattle.remote_host.specs.Bodies.{post_said};
 ghost use Rattle.remote_host.specs.Halts.{head_wrong};
 ghost use Rattle.remote_host.specs.Requests.{spell};
-ghost use Rattle.remote_host.specs.Talk.{Talk, talk, turns, onto, answered, fetch_next, post_next, count_fetch, count_post};
+ghost use Rattle.remote_host.specs.Talk.{Talk, talk, turns, onto, answered, case_next, post_next, count_fetch, count_post};
 ghost use Rattle.remote_host.specs.Standing.{Line, Stands, Breaks, Asked, FetchedAt, JobAt, PostedAt, EnteredAt, TurnedAt, first_wrong, IsPlain};
 
-use crate::asks::{Ask, Caller, Fetched, Wrong};
+use crate::asks::{Ask, Caller, Fetched, Kept, Wrong};
 use crate::bodies::{NoJob, read_entered, read_fetched, read_job_of, read_posted};
 use crate::exchange::{Halt, exchange};
+use crate::kept::{case_ask, image_for};
 use crate::requests::write_ask;
 use farm_io::{Sink, Source};
-use farm_kinds::{Kind, Reply, Task};
+use farm_kinds::{Kind, Reply, Task, Text};
 use http_door::AnswerReader;
 use judgehost::BenchFault;
 use std::alloc::Global;
@@ -127,13 +128,13 @@ impl<N: Source + Sink> Talker<N> {
     fn fetch(&mut self, caller: &Caller) -> Result<Fetched, BenchFault>
         requires source { (n : N) → N.Source.beside n ≡ side (N.held n) (N.Sink.faults n) }
         requires sink { (n : N) → N.Sink.beside n ≡ side (N.left n) (N.Source.faults n) }
-        ensures talks { (start : Line) (claims fetched posted : ℕ) → self.old.wrong ≡ None
+        ensures talks { (start : Line) (claims fetched posted : ℕ) (kept : Option KeptValue) → self.old.wrong ≡ None
             → Stands caller.now start
             (record { held = N.held self.old.conn; left = N.left self.old.conn; ahead = self.old.reader.ahead })
-            claims fetched posted (λ n more. turns caller.now (suc n) more)
+            claims fetched posted (λ n more. turns caller.now (suc n) kept more)
             → FetchedAt caller.now start
             (record { held = N.held self.new.conn; left = N.left self.new.conn; ahead = self.new.reader.ahead })
-            claims (fetched + 1) posted self.new.wrong result }
+            claims (fetched + 1) posted kept self.new.wrong result }
         ensures fine { OnOk result (self.new.wrong ≡ self.old.wrong) }
         ensures plain { IfErr result IsPlain }
         ensures later { N.Source.faults self.old.conn + N.Sink.faults self.old.conn + self.old.wrongs
@@ -156,14 +157,14 @@ impl<N: Source + Sink> Talker<N> {
         }
     }
 
-    /// Asks for the case of a task that was handed out.
-    fn job(&mut self, caller: &Caller, task: Task) -> Result<Job, BenchFault>
+    /// Asks for the case of a task that was handed out, which is run with this image where there is one.
+    fn job(&mut self, caller: &Caller, has: Option<Text>, task: Task) -> Result<Job, BenchFault>
         requires source { (n : N) → N.Source.beside n ≡ side (N.held n) (N.Sink.faults n) }
         requires sink { (n : N) → N.Sink.beside n ≡ side (N.left n) (N.Source.faults n) }
         ensures talks { (start : Line) (claims fetched posted : ℕ) → self.old.wrong ≡ None
             → Stands caller.now start
             (record { held = N.held self.old.conn; left = N.left self.old.conn; ahead = self.old.reader.ahead })
-            claims fetched posted (λ n more. fetch_next caller.now (turns caller.now n) more (Some (said.Task task)))
+            claims fetched posted (λ n more. case_next (turns caller.now n) has task more)
             → JobAt caller.now start
             (record { held = N.held self.new.conn; left = N.left self.new.conn; ahead = self.new.reader.ahead })
             claims fetched posted self.new.wrong task result }
@@ -178,9 +179,9 @@ impl<N: Source + Sink> Talker<N> {
         ensures failed { result ≡ Err BenchFault.Link → self.new.wrong ≡ None
             → 1 ≤ N.Source.faults self.new.conn + N.Sink.faults self.new.conn }
     {
-        match self.ask(caller, Ask::Job(task)) {
+        match self.ask(caller, case_ask(&has, task)) {
             Err(fault) => Err(fault),
-            Ok(()) => match read_job_of(self.alloc, task, self.reader.body()) {
+            Ok(()) => match read_job_of(self.alloc, has, task, self.reader.body()) {
                 Ok(job) => Ok(job),
                 Err(no_job) => match no_job {
                     NoJob::NoMemory => Err(BenchFault::NoMemory),
@@ -199,13 +200,13 @@ impl<N: Source + Sink> Talker<N> {
     ) -> Result<Option<Reply>, BenchFault>
         requires source { (n : N) → N.Source.beside n ≡ side (N.held n) (N.Sink.faults n) }
         requires sink { (n : N) → N.Sink.beside n ≡ side (N.left n) (N.Source.faults n) }
-        ensures talks { (start : Line) (claims fetched posted : ℕ) → self.old.wrong ≡ None
+        ensures talks { (start : Line) (claims fetched posted : ℕ) (kept : Option KeptValue) → self.old.wrong ≡ None
             → Stands caller.now start
             (record { held = N.held self.old.conn; left = N.left self.old.conn; ahead = self.old.reader.ahead })
-            claims fetched posted (λ n more. onto (asks.Post task kind) (answered (λ a later. post_next (turns caller.now n) later (post_said a.body)) more))
+            claims fetched posted (λ n more. onto (asks.Post task kind) (answered (λ a later. post_next (turns caller.now n kept) later (post_said a.body)) more))
             → PostedAt caller.now start
             (record { held = N.held self.new.conn; left = N.left self.new.conn; ahead = self.new.reader.ahead })
-            claims fetched (posted + 1) self.new.wrong result }
+            claims fetched (posted + 1) kept self.new.wrong result }
         ensures no_host { (name : List ℕ) → result ≢ Ok (Some (replies.NoHost name)) }
         ensures no_memory { result ≢ Ok (Some replies.NoMemory) }
         ensures fine { OnOk result (self.new.wrong ≡ self.old.wrong) }
@@ -263,17 +264,22 @@ impl<N: Source + Sink> Talker<N> {
         }
     }
 
-    /// Asks for a task and its case. None where no task is open.
-    pub fn fetch_job(&mut self, caller: &Caller) -> Result<Option<Job>, BenchFault>
+    /// Asks for a task and its case, for which the image that is kept may serve. None where no task is open; then all is
+    /// still kept.
+    pub fn fetch_job(
+        &mut self,
+        caller: &Caller,
+        kept: &mut Option<Kept>,
+    ) -> Result<Option<Job>, BenchFault>
         requires source { (n : N) → N.Source.beside n ≡ side (N.held n) (N.Sink.faults n) }
         requires sink { (n : N) → N.Sink.beside n ≡ side (N.left n) (N.Source.faults n) }
         ensures talks { (start : Line) (claims fetched posted : ℕ) → self.old.wrong ≡ None
             → Stands caller.now start
             (record { held = N.held self.old.conn; left = N.left self.old.conn; ahead = self.old.reader.ahead })
-            claims fetched posted (λ n more. turns caller.now (suc n) more)
+            claims fetched posted (λ n more. turns caller.now (suc n) kept.old more)
             → TurnedAt caller.now start
             (record { held = N.held self.new.conn; left = N.left self.new.conn; ahead = self.new.reader.ahead })
-            claims (fetched + 1) posted self.new.wrong result }
+            claims (fetched + 1) posted kept.new self.new.wrong result }
         ensures later { N.Source.faults self.old.conn + N.Sink.faults self.old.conn + self.old.wrongs
             ≤ N.Source.faults self.new.conn + N.Sink.faults self.new.conn + self.new.wrongs }
         ensures link { result ≡ Err BenchFault.Link
@@ -288,10 +294,13 @@ impl<N: Source + Sink> Talker<N> {
                 Fetched::Nothing => Ok(None),
                 Fetched::NoHost => Err(BenchFault::NoHost),
                 Fetched::Holding => Err(BenchFault::Holding),
-                Fetched::Task(task) => match self.job(caller, task) {
-                    Err(fault) => Err(fault),
-                    Ok(job) => Ok(Some(job)),
-                },
+                Fetched::Task(task) => {
+                    let has = image_for(kept.take(), task);
+                    match self.job(caller, has, task) {
+                        Err(fault) => Err(fault),
+                        Ok(job) => Ok(Some(job)),
+                    }
+                }
             },
         }
     }

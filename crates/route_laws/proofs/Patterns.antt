@@ -13,10 +13,12 @@ use Rattle.farm_model.specs.Numbers.{number_of}
 use Rattle.command_text.proofs.Decimals.{number_of-decimal}
 use Rattle.wire_json.specs.declared.routes.Route.{Route}
 use Rattle.wire_json.specs.declared.routes.Route.TheVariants as route
+use Rattle.wire_job.specs.declared.parts.JobPart.{JobPart}
+use Rattle.wire_job.specs.declared.parts.JobPart.TheVariants as part
 use Rattle.farm_api.specs.declared.paths.Place.{Place}
 use Rattle.farm_api.specs.declared.paths.Place.TheVariants as place
 use Rattle.farm_api.specs.Table.{rows, place_in}
-use Rattle.farm_api.specs.Routes.{before, behind, id_of, job_of, with_id, job_with, route_at, route_by, route_of}
+use Rattle.farm_api.specs.Routes.{before, behind, id_of, job_of, with_id, job_route, job_with, route_at, route_by, route_of}
 use Rattle.route_laws.proofs.Spelling.{AreSlashless}
 use Rattle.route_laws.specs.PathTexts.{path_text, IsId, HasIds}
 use Rattle.route_laws.proofs.Seeking.{HasRow, Spells, found}
@@ -67,6 +69,7 @@ pattern_of place.AddRun = codes "/judgehosts/add-judging-run"
 pattern_of place.Renew = codes "/judgehosts/renew"
 pattern_of place.Down = codes "/judgehosts/down"
 pattern_of place.Job = codes "/judgehosts/job/" ++ (param_token ∷ (codes "/" ++ param_token ∷ []))
+pattern_of place.JobRest = codes "/judgehosts/job/" ++ (param_token ∷ (codes "/" ++ (param_token ∷ codes "/rest")))
 pattern_of place.Judgement = codes "/judgements/" ++ (param_token ∷ codes "")
 pattern_of place.Submission = codes "/judgements/" ++ (param_token ∷ codes "/submission")
 pattern_of place.Verify = codes "/judgements/" ++ (param_token ∷ codes "/verify")
@@ -87,7 +90,7 @@ AreKeyed ((t, row) ∷ rest) = (t ≡ pattern_of row.value) × AreKeyed rest
 
 are_keyed : AreKeyed rows
 unfolding rows matchit_on_literals
-are_keyed = (refl, (refl, (refl, (refl, (refl, (refl, (refl, (refl, (refl, (refl, (refl, (refl, (refl, (refl, (refl, (refl, (refl, (refl, (refl, tt)))))))))))))))))))
+are_keyed = (refl, (refl, (refl, (refl, (refl, (refl, (refl, (refl, (refl, (refl, (refl, (refl, (refl, (refl, (refl, (refl, (refl, (refl, (refl, (refl, tt))))))))))))))))))))
 
 keyed : (rs : RowsOf (RouteOf Place)) (t : List ℕ) (row : RouteOf Place) → AreKeyed rs → HasRow rs t row → t ≡ pattern_of row.value
 keyed [] t row all there = absurd there
@@ -131,26 +134,37 @@ with_last make prefix v path r is read text ids e =
     let w = written v said.0 (sym read ∙ said.1) in
     subst (λ (x : Route). (path ≡ path_text x) × HasIds x) said.2 (is ∙ (ap (λ (z : List ℕ). prefix ++ z) w.0 ∙ sym (text said.0)), ids said.0 w.1)
 
-job_said : (o p : Option ℕ) (r : Route) → job_with o p ≡ Some r → (judging test : ℕ) × (o ≡ Some judging) × (p ≡ Some test) × (route.Job judging test ≡ r)
-job_said None p r e = let no' : ⊥ = cc in absurd no'
-job_said (Some judging) None r e = let no' : ⊥ = cc in absurd no'
-job_said (Some judging) (Some test) r e = (judging, test, refl, refl, let is : route.Job judging test ≡ r = cc in is)
+job_said : (q : JobPart) (o p : Option ℕ) (r : Route) → job_with q o p ≡ Some r → (judging test : ℕ) × (o ≡ Some judging) × (p ≡ Some test) × (job_route q judging test ≡ r)
+job_said q None p r e = let no' : ⊥ = cc in absurd no'
+job_said q (Some judging) None r e = let no' : ⊥ = cc in absurd no'
+job_said q (Some judging) (Some test) r e = (judging, test, refl, refl, let is : job_route q judging test ≡ r = cc in is)
 
 slashless_first : (values : List (List ℕ)) → AreSlashless values → has_slash (get_or values 0 []) ≡ false
 slashless_first [] h = refl
 slashless_first (v ∷ values) h = h.0
 
-with_two : (path v w : List ℕ) (r : Route) → path ≡ codes "/judgehosts/job/" ++ (v ++ 47 ∷ w) → has_slash v ≡ false → job_of path ≡ Some r → (path ≡ path_text r) × HasIds r
-with_two path v w r is none e =
-    let read : job_with (number_of v) (number_of w) ≡ Some r
-    = ap (λ (x : List ℕ). job_with (number_of x) (number_of w)) (sym (before_slash v w none))
-    ∙ (ap (λ (x : List ℕ). job_with (number_of (before 47 (v ++ 47 ∷ w))) (number_of x)) (sym (behind_slash v w none)) ∙ (sym (ap job_of is) ∙ e)) in
-    let said = job_said (number_of v) (number_of w) r read in
+slashless_second : (values : List (List ℕ)) → AreSlashless values → has_slash (get_or (drop 1 values) 0 []) ≡ false
+slashless_second [] h = refl
+slashless_second (v ∷ values) h = slashless_first values h.1
+
+-- what is read of the path of a job: the numbers v and w, of which w begins the tail
+job_read : (q : JobPart) (path v w tail : List ℕ) → path ≡ codes "/judgehosts/job/" ++ (v ++ 47 ∷ tail) → has_slash v ≡ false → before 47 tail ≡ w → job_of q path ≡ job_with q (number_of v) (number_of w)
+job_read q path v w tail is none begins =
+    ap (job_of q) is
+    ∙ (ap (λ (x : List ℕ). job_with q (number_of x) (number_of (before 47 (behind 47 (v ++ 47 ∷ tail))))) (before_slash v tail none)
+    ∙ (ap (λ (x : List ℕ). job_with q (number_of v) (number_of (before 47 x))) (behind_slash v tail none) ∙ ap (λ (x : List ℕ). job_with q (number_of v) (number_of x)) begins))
+
+with_two : (q : JobPart) (tail : List ℕ → List ℕ) (path v w : List ℕ) (r : Route) → path ≡ codes "/judgehosts/job/" ++ (v ++ 47 ∷ tail w) → has_slash v ≡ false → before 47 (tail w) ≡ w
+    → ((judging test : ℕ) → path_text (job_route q judging test) ≡ codes "/judgehosts/job/" ++ (decimal judging ++ 47 ∷ tail (decimal test)))
+    → ((judging test : ℕ) → IsId judging → IsId test → HasIds (job_route q judging test)) → job_of q path ≡ Some r → (path ≡ path_text r) × HasIds r
+with_two q tail path v w r is none begins text ids e =
+    let said = job_said q (number_of v) (number_of w) r (sym (job_read q path v w (tail w) is none begins) ∙ e) in
     let first_id = written v said.0 said.2 in
     let second_id = written w said.1 said.3 in
     subst (λ (x : Route). (path ≡ path_text x) × HasIds x) said.4 (
-      is ∙ (ap (λ (z : List ℕ). codes "/judgehosts/job/" ++ (z ++ 47 ∷ w)) first_id.0 ∙ ap (λ (z : List ℕ). codes "/judgehosts/job/" ++ (decimal said.0 ++ 47 ∷ z)) second_id.0),
-      (first_id.1, second_id.1),
+      is ∙ (ap (λ (z : List ℕ). codes "/judgehosts/job/" ++ (z ++ 47 ∷ tail w)) first_id.0
+          ∙ (ap (λ (z : List ℕ). codes "/judgehosts/job/" ++ (decimal said.0 ++ 47 ∷ tail z)) second_id.0 ∙ sym (text said.0 said.1))),
+      ids said.0 said.1 first_id.1 second_id.1,
     )
 
 no_catch : {A : Type 0} → false ≡ true → A
@@ -175,7 +189,13 @@ spelled_route place.Job path r (inl catch) e = no_catch catch
 spelled_route place.Job path r (inr s) e =
     let v = get_or s.0 0 [] in
     let w = get_or (drop 1 s.0) 0 [] in
-    with_two path v w r (s.2 ∙ ap (λ (z : List ℕ). codes "/judgehosts/job/" ++ (v ++ 47 ∷ z)) (nothing_behind w)) (slashless_first s.0 s.1) e
+    with_two part.Whole (λ z. z) path v w r (s.2 ∙ ap (λ (z : List ℕ). codes "/judgehosts/job/" ++ (v ++ 47 ∷ z)) (nothing_behind w)) (slashless_first s.0 s.1)
+    (before_none w (slashless_second s.0 s.1)) (λ judging test. refl) (λ judging test h k. (h, k)) e
+spelled_route place.JobRest path r (inl catch) e = no_catch catch
+spelled_route place.JobRest path r (inr s) e =
+    let v = get_or s.0 0 [] in
+    let w = get_or (drop 1 s.0) 0 [] in
+    with_two part.Rest (λ z. z ++ codes "/rest") path v w r s.2 (slashless_first s.0 s.1) (before_slash w (codes "rest") (slashless_second s.0 s.1)) (λ judging test. refl) (λ judging test h k. (h, k)) e
 spelled_route place.Judgement path r (inl catch) e = no_catch catch
 spelled_route place.Judgement path r (inr s) e =
     let v = get_or s.0 0 [] in
@@ -363,6 +383,13 @@ cancel_path id h =
     make_route route.Cancel (path_text (route.Cancel id)) place.Cancel id h (place_between (codes "/rejudgings/") (codes "cancel") place.Cancel rejudgings_plain rejudgings_take rejudgings_go_on cancel_place id h) refl
     (ap number_of (before_slash (decimal id) (codes "cancel") (decimal_slashless id h)))
 
+-- the numbers in the path of a job
+job_named : (q : JobPart) (path tail : List ℕ) (judging test : ℕ) → IsId judging → IsId test → path ≡ codes "/judgehosts/job/" ++ (decimal judging ++ 47 ∷ tail) → before 47 tail ≡ decimal test
+    → job_of q path ≡ Some (job_route q judging test)
+job_named q path tail judging test h k is begins =
+    job_read q path (decimal judging) (decimal test) tail is (decimal_slashless judging h) begins
+    ∙ (ap (λ (o : Option ℕ). job_with q o (number_of (decimal test))) (number_read judging h) ∙ ap (λ (o : Option ℕ). job_with q (Some judging) o) (number_read test k))
+
 -- behind the judging of a job
 abbrev tests : RowsOf (RouteOf Place)
 tests = with_suffix one_slash (step param_token (walked (codes "/judgehosts/job/") rows))
@@ -388,11 +415,29 @@ job_path judging test h k =
     ∙ (number_between (walked prefix rows) (decimal judging) (decimal test) (decimal_is_digits judging h) jobs_take jobs_go_on
     ∙ (walk one_slash tests (decimal test) tests_plain ∙ number_at_end (walked one_slash tests) (decimal test) (decimal_is_digits test k) tests_take)) in
     let there : place_in rows path ≡ Some place.Job = ap (λ (o : Option (RouteOf Place)). option_map (λ row. row.value) o) leads ∙ job_place in
-    let slashless = decimal_slashless judging h in
     ap (λ (o : Option Place). route_by o path) there
-    ∙ (ap (λ (z : List ℕ). job_with (number_of z) (number_of (behind 47 (decimal judging ++ 47 ∷ decimal test)))) (before_slash (decimal judging) (decimal test) slashless)
-    ∙ (ap (λ (z : List ℕ). job_with (number_of (decimal judging)) (number_of z)) (behind_slash (decimal judging) (decimal test) slashless)
-    ∙ (ap (λ (o : Option ℕ). job_with o (number_of (decimal test))) (number_read judging h) ∙ ap (λ (o : Option ℕ). job_with (Some judging) o) (number_read test k))))
+    ∙ job_named part.Whole path (decimal test) judging test h k refl (before_none (decimal test) (decimal_slashless test k))
+
+tests_go_on : goes_on (step param_token (walked one_slash tests)) ≡ true
+unfolding rows matchit_on_literals
+tests_go_on = refl
+
+rest_place : option_map (λ row. row.value) (seek 0 (with_suffix one_slash (step param_token (walked one_slash tests))) (codes "/rest")) ≡ Some place.JobRest
+unfolding rows matchit_on_literals
+rest_place = refl
+
+rest_path : (judging test : ℕ) → IsId judging → IsId test → route_of (path_text (route.JobRest judging test)) ≡ Some (route.JobRest judging test)
+rest_path judging test h k =
+    let prefix = codes "/judgehosts/job/" in
+    let path = path_text (route.JobRest judging test) in
+    let tail = decimal test ++ codes "/rest" in
+    let leads : first rows path ≡ seek 0 (with_suffix one_slash (step param_token (walked one_slash tests))) (codes "/rest")
+    = walk prefix rows (decimal judging ++ 47 ∷ tail) jobs_plain
+    ∙ (number_between (walked prefix rows) (decimal judging) tail (decimal_is_digits judging h) jobs_take jobs_go_on
+    ∙ (walk one_slash tests tail tests_plain ∙ number_between (walked one_slash tests) (decimal test) (codes "rest") (decimal_is_digits test k) tests_take tests_go_on)) in
+    let there : place_in rows path ≡ Some place.JobRest = ap (λ (o : Option (RouteOf Place)). option_map (λ row. row.value) o) leads ∙ rest_place in
+    ap (λ (o : Option Place). route_by o path) there
+    ∙ job_named part.Rest path tail judging test h k refl (before_slash (decimal test) (codes "rest") (decimal_slashless test k))
 
 hosts_path : route_of (codes "/judgehosts") ≡ Some route.Hosts
 unfolding rows matchit_on_literals
@@ -428,6 +473,7 @@ rejudgings_path = refl
 
 pub each_path : (r : Route) → HasIds r → route_of (path_text r) ≡ Some r
 each_path (route.Job judging test) h = job_path judging test h.0 h.1
+each_path (route.JobRest judging test) h = rest_path judging test h.0 h.1
 each_path (route.Judgement id) h = judgement_path id h
 each_path (route.Submission id) h = submission_path id h
 each_path (route.Verify id) h = verify_path id h

@@ -11,6 +11,8 @@ path_text route.AddRun = codes "/judgehosts/add-judging-run"
 path_text route.Renew = codes "/judgehosts/renew"
 path_text route.Down = codes "/judgehosts/down"
 path_text (route.Job judging test) = codes "/judgehosts/job/" ++ (decimal judging ++ (codes "/" ++ decimal test))
+path_text (route.JobRest judging test) =
+    codes "/judgehosts/job/" ++ (decimal judging ++ (codes "/" ++ (decimal test ++ codes "/rest")))
 path_text (route.Judgement judging) = codes "/judgements/" ++ decimal judging
 path_text (route.Submission judging) = codes "/judgements/" ++ (decimal judging ++ codes "/submission")
 path_text (route.Verify judging) = codes "/judgements/" ++ (decimal judging ++ codes "/verify")
@@ -28,6 +30,7 @@ IsId id = id ≤ 4294967295
 
 abbrev pub HasIds : Route → Type 0
 HasIds (route.Job judging test) = IsId judging × IsId test
+HasIds (route.JobRest judging test) = IsId judging × IsId test
 HasIds (route.Judgement judging) = IsId judging
 HasIds (route.Submission judging) = IsId judging
 HasIds (route.Verify judging) = IsId judging

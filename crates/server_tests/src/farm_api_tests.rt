@@ -9,6 +9,7 @@ use http_door::Head;
 use std::alloc::{AllocError, Global};
 use std::process::Abort;
 use std::test::Fail;
+use wire_job::JobPart;
 use wire_json::BodyFault;
 
 /// The head of a request.
@@ -22,8 +23,8 @@ fn head(alloc: Global, method: &str, target: &str) -> Result<Head, AllocError>
     })
 }
 
-/// What a request asks: the line of its event, behind the word `tick` where time goes on first; `job` and the numbers of
-/// a judging and a test; `public`, `page` or `contest`; or why it asks nothing.
+/// What a request asks: the line of its event, behind the word `tick` where time goes on first; `job`, or `rest` where its
+/// image is not asked for, and the numbers of a judging and a test; `public`, `page` or `contest`; or why it asks nothing.
 fn shown(alloc: Global, asked: &Asked) -> Result<Text, NoMemory>
     requires { asked.now ≢ Asked.Refused (RequestFault.BadBody BodyFault.NoMemory) }
 {
@@ -36,8 +37,16 @@ fn shown(alloc: Global, asked: &Asked) -> Result<Text, NoMemory>
             shown.extend_from_slice(write_event(alloc, event)?.as_slice())?;
             Ok(Text::from_vec(shown))
         }
-        Asked::Job { judging, test } => {
-            let shown = format!(in alloc; "job {judging} {test}")?;
+        Asked::Job {
+            part,
+            judging,
+            test,
+        } => {
+            let part = match part {
+                JobPart::Whole => "job",
+                JobPart::Rest => "rest",
+            };
+            let shown = format!(in alloc; "{part} {judging} {test}")?;
             Ok(Text::from_vec(shown.into_bytes()))
         }
         Asked::Public => Ok(Text::from_vec(Vec::from_slice(alloc, b"public")?)),
@@ -74,6 +83,7 @@ const ASKED: &str = concat!(
     "POST /judgehosts/down|{\"hostname\":\"h1\"} => down h1\n",
     "GET /judgehosts/job/12/3| => job 12 3\n",
     "GET /judgehosts/job/4294967295/4294967295?x| => job 4294967295 4294967295\n",
+    "GET /judgehosts/job/12/3/rest?image| => rest 12 3\n",
     "GET /judgements/12|{ => show 12\n",
     "GET /judgements/12?strict=true| => show 12\n",
     "POST /judgements/12/verify| => verify 12\n",
@@ -100,6 +110,8 @@ const REFUSED: &str = concat!(
     "PUT /judgements/x/verify| => HTTP/1.1 404 Not Found^~content-length: 20^~content-type: application/json^~^~{\"reply\":\"no-route\"}\n",
     "GET /judgehosts/job/12| => HTTP/1.1 404 Not Found^~content-length: 20^~content-type: application/json^~^~{\"reply\":\"no-route\"}\n",
     "GET /judgehosts/job/12/x| => HTTP/1.1 404 Not Found^~content-length: 20^~content-type: application/json^~^~{\"reply\":\"no-route\"}\n",
+    "GET /judgehosts/job/12/3/image| => HTTP/1.1 404 Not Found^~content-length: 20^~content-type: application/json^~^~{\"reply\":\"no-route\"}\n",
+    "POST /judgehosts/job/12/3/rest| => HTTP/1.1 405 Method Not Allowed^~content-length: 21^~content-type: application/json^~^~{\"reply\":\"no-method\"}\n",
     "POST /judgehosts/job/12/3| => HTTP/1.1 405 Method Not Allowed^~content-length: 21^~content-type: application/json^~^~{\"reply\":\"no-method\"}\n",
     "POST /board| => HTTP/1.1 405 Method Not Allowed^~content-length: 21^~content-type: application/json^~^~{\"reply\":\"no-method\"}\n",
     "POST /public| => HTTP/1.1 405 Method Not Allowed^~content-length: 21^~content-type: application/json^~^~{\"reply\":\"no-method\"}\n",

@@ -10,6 +10,7 @@ use http_door::ResponseFault;
 use std::alloc::Global;
 use std::process::Abort;
 use std::test::Fail;
+use wire_job::JobPart;
 
 /// Finds that every result differs, that every judging is of submission 3, and has nothing else to say. What the public
 /// sees is that submission 1 is pending. It has no cases, and the names of a contest.
@@ -83,6 +84,7 @@ impl Replier for Differing {
     fn job(
         &self,
         _alloc: Global,
+        _part: JobPart,
         _submission: u32,
         _judging: u32,
         _test: u32,

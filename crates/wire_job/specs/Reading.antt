@@ -72,20 +72,25 @@ job_with answer image input limits task check =
     without_fault (fault_of check image answer)
     (record { task = task; case = record { image = image; input = input; answer = answer; check = check; limits = limits } })
 
-abbrev pub job_in : Data → Result JobValue JobFault
-job_in d =
+-- the image is the one that the reader has, or else the body says it
+abbrev pub image_in : Option (List ℕ) → Data → Result (List ℕ) JobFault
+image_in None d = needed field.Image bytes_in d
+image_in (Some image) d = Ok image
+
+abbrev pub job_in : Option (List ℕ) → Data → Result JobValue JobFault
+job_in has d =
     next (needed field.Answer bytes_in d) (λ answer.
-    next (needed field.Image bytes_in d) (λ image.
+    next (image_in has d) (λ image.
     next (needed field.Input bytes_in d) (λ input.
     next (limits_in d) (λ limits.
     next (task_in d) (λ task.
     next (check_in d) (λ check.
     job_with answer image input limits task check))))))
 
-abbrev pub in_object : Option Data → Result JobValue JobFault
-in_object None = Err NotJson
-in_object (Some d) = job_in d
+abbrev pub in_object : Option (List ℕ) → Option Data → Result JobValue JobFault
+in_object has None = Err NotJson
+in_object has (Some d) = job_in has d
 
--- the job that a body is, or its first fault
-abbrev pub job_of : List ℕ → Result JobValue JobFault
-job_of bytes = in_object (object_of bytes)
+-- the job that a body is to a reader that has this image or none, or its first fault
+abbrev pub job_of : Option (List ℕ) → List ℕ → Result JobValue JobFault
+job_of has bytes = in_object has (object_of bytes)

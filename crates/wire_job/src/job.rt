@@ -69,6 +69,13 @@ impl Job {
         self.task
     }
 
+    /// The image of the submission. All else is let go.
+    pub fn into_image(self) -> Text
+        ensures { result ≡ self.case.image }
+    {
+        self.image
+    }
+
     /// The task's case.
     pub fn case(&self) -> Case<'_>
         ensures case { test_case result ≡ self.now.case }

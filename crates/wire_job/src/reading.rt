@@ -1,7 +1,7 @@
 ghost use Rattle.std.specs.Prelude.{◌≡◌};
 ghost use Rattle.serde_json.specs.View.{view};
 ghost use Rattle.wire_job.specs.JobFields.{IsReading};
-ghost use Rattle.wire_job.specs.Reading.{limits_in, task_in, check_by, check_in, job_with, job_in, job_of};
+ghost use Rattle.wire_job.specs.Reading.{limits_in, task_in, check_by, check_in, job_with, image_in, job_in, job_of};
 ghost use Rattle.wire_job.specs.Checks.{own_checking, IsCheckRead};
 
 use crate::checking::fault_of;
@@ -82,12 +82,22 @@ fn job_with(
     Ok(Job::new(task, image, input, answer, check, limits))
 }
 
-/// The job that the fields say.
-fn job_in(alloc: Global, body: &Value) -> Result<Job, JobFault>
-    ensures { IsReading (job_in (view body.now)) result }
+/// The image of the submission: the one that the reader has, or else the field says it.
+fn image_in(alloc: Global, has: Option<Text>, body: &Value) -> Result<Text, JobFault>
+    ensures { IsReading (image_in has (view body.now)) result }
+{
+    match has {
+        None => bytes_at(alloc, body, JobField::Image),
+        Some(image) => Ok(image),
+    }
+}
+
+/// The job that the fields say to a reader that has this image or none.
+fn job_in(alloc: Global, has: Option<Text>, body: &Value) -> Result<Job, JobFault>
+    ensures { IsReading (job_in has (view body.now)) result }
 {
     let answer = bytes_at(alloc, body, JobField::Answer)?;
-    let image = bytes_at(alloc, body, JobField::Image)?;
+    let image = image_in(alloc, has, body)?;
     let input = bytes_at(alloc, body, JobField::Input)?;
     let limits = limits_in(body)?;
     let task = task_in(body)?;
@@ -97,12 +107,13 @@ fn job_in(alloc: Global, body: &Value) -> Result<Job, JobFault>
 
 /// The job that a body is, or its first fault. The fields are looked at in the order of [`JobField`]'s list, and then
 /// whether the validator is a raw image, the image is one that can be run, and the answer can be compared. Other fields
-/// are ignored, and of a field that stands more than once the last value counts.
-pub fn read_job(alloc: Global, bytes: &[u8]) -> Result<Job, JobFault>
-    ensures { IsReading (job_of bytes.now) result }
+/// are ignored, and of a field that stands more than once the last value counts. For a reader that has the image of the
+/// submission, the field of that is one of the others.
+pub fn read_job(alloc: Global, has: Option<Text>, bytes: &[u8]) -> Result<Job, JobFault>
+    ensures { IsReading (job_of has bytes.now) result }
 {
     match object_of(alloc, bytes) {
-        Ok(body) => job_in(alloc, &body),
+        Ok(body) => job_in(alloc, has, &body),
         Err(BodyFault::NotJson) => Err(JobFault::NotJson),
         // No other fault is one of an object as a whole.
         Err(_) => Err(JobFault::NoMemory),

@@ -1,7 +1,8 @@
 ghost use Rattle.std.specs.Prelude.{◌≡◌, ◌++◌, codes, Some, IfOk, string_bytes};
 ghost use Rattle.case_run.specs.Cases.{test_case, ByDefault, ByProgram};
-ghost use Rattle.wire_job.specs.Writing.{coded, quoted, units_text, switch_text, flags_with, flags_text, first_fields, number_fields, last_field, text_with, job_text};
+ghost use Rattle.wire_job.specs.Writing.{coded, quoted, units_text, switch_text, flags_with, flags_text, image_field, first_fields, number_fields, last_field, text_with, job_text};
 
+use crate::parts::JobPart;
 use base64::engine::general_purpose::STANDARD;
 use case_run::{Case, Check};
 use default_validator::Flags;
@@ -76,7 +77,27 @@ fn flags_text(alloc: Global, flags: Flags) -> Result<String, AllocError>
     )
 }
 
-/// The fields from `answer` to `input`.
+/// The field `image` of this text.
+fn image_with(alloc: Global, image: &str) -> Result<String, AllocError>
+    ensures { IfOk result (λ text. string_bytes text ≡ codes ",\"image\":\"" ++ (image.now ++ codes "\"")) }
+{
+    format!(in alloc; ",\"image\":\"{image}\"")
+}
+
+/// The field `image`, where it is asked for.
+fn image_field(alloc: Global, part: JobPart, image: &[u8]) -> Result<String, AllocError>
+    ensures { IfOk result (λ text. string_bytes text ≡ image_field part image.now) }
+{
+    match part {
+        JobPart::Whole => {
+            let image = coded(alloc, image)?;
+            image_with(alloc, image.as_str())
+        }
+        JobPart::Rest => Ok(String::new(alloc)),
+    }
+}
+
+/// The fields from `answer` to `input`, of which `image` is the whole field.
 fn first_fields(
     alloc: Global,
     answer: &str,
@@ -88,22 +109,23 @@ fn first_fields(
     ensures { IfOk result (λ text. string_bytes text ≡ first_fields answer.now check.now flags.now image.now input.now) }
 {
     format!(in alloc;
-        "{{\"answer\":\"{answer}\",\"check\":\"{check}\",\"flags\":{flags},\"image\":\"{image}\",\"input\":\"{input}\""
+        "{{\"answer\":\"{answer}\",\"check\":\"{check}\",\"flags\":{flags}{image},\"input\":\"{input}\""
     )
 }
 
 /// The same of a case, with this check and these flags.
 fn case_fields(
     alloc: Global,
+    part: JobPart,
     case: &Case<'_>,
     check: &str,
     flags: &str,
 ) -> Result<String, AllocError>
     ensures { IfOk result (λ text. let c = test_case case.now in
-        string_bytes text ≡ first_fields (coded c.answer) check.now flags.now (coded c.image) (coded c.input)) }
+        string_bytes text ≡ first_fields (coded c.answer) check.now flags.now (image_field part c.image) (coded c.input)) }
 {
     let answer = coded(alloc, case.answer)?;
-    let image = coded(alloc, case.image)?;
+    let image = image_field(alloc, part, case.image)?;
     let input = coded(alloc, case.input)?;
     first_fields(
         alloc,
@@ -149,14 +171,15 @@ fn joined(first: String, second: &str, third: &str) -> Result<Vec<u8>, AllocErro
 /// A job whose output is checked by the default output validator.
 fn default_text(
     alloc: Global,
+    part: JobPart,
     task: Task,
     case: &Case<'_>,
     flags: Flags,
 ) -> Result<Vec<u8>, AllocError>
-    ensures { IfOk result (λ text. text.items ≡ text_with (ByDefault flags) task (test_case case.now)) }
+    ensures { IfOk result (λ text. text.items ≡ text_with (ByDefault flags) part task (test_case case.now)) }
 {
     let flags = flags_text(alloc, flags)?;
-    let first = case_fields(alloc, case, "default", flags.as_str())?;
+    let first = case_fields(alloc, part, case, "default", flags.as_str())?;
     let numbers = number_fields(alloc, case.limits, task)?;
     joined(first, numbers.as_str(), "}")
 }
@@ -164,36 +187,47 @@ fn default_text(
 /// A job whose output is checked by a program.
 fn custom_text(
     alloc: Global,
+    part: JobPart,
     task: Task,
     case: &Case<'_>,
     validator: &[u8],
     flags: &[u8],
 ) -> Result<Vec<u8>, AllocError>
-    ensures { IfOk result (λ text. text.items ≡ text_with (ByProgram validator.now flags.now) task (test_case case.now)) }
+    ensures { IfOk result (λ text. text.items ≡ text_with (ByProgram validator.now flags.now) part task (test_case case.now)) }
 {
     let flags = coded(alloc, flags)?;
     let flags = quoted(alloc, flags.as_str())?;
-    let first = case_fields(alloc, case, "custom", flags.as_str())?;
+    let first = case_fields(alloc, part, case, "custom", flags.as_str())?;
     let numbers = number_fields(alloc, case.limits, task)?;
     let validator = coded(alloc, validator)?;
     let last = last_field(alloc, validator.as_str())?;
     joined(first, numbers.as_str(), last.as_str())
 }
 
-/// The bytes of a job.
-fn job_bytes(alloc: Global, task: Task, case: &Case<'_>) -> Result<Vec<u8>, AllocError>
-    ensures { IfOk result (λ text. text.items ≡ job_text task (test_case case.now)) }
+/// The bytes of so much of a job.
+fn job_bytes(
+    alloc: Global,
+    part: JobPart,
+    task: Task,
+    case: &Case<'_>,
+) -> Result<Vec<u8>, AllocError>
+    ensures { IfOk result (λ text. text.items ≡ job_text part task (test_case case.now)) }
 {
     match case.check {
-        Check::Default(flags) => default_text(alloc, task, case, flags),
-        Check::Custom { image, flags } => custom_text(alloc, task, case, image, flags),
+        Check::Default(flags) => default_text(alloc, part, task, case, flags),
+        Check::Custom { image, flags } => custom_text(alloc, part, task, case, image, flags),
     }
 }
 
-/// A job as compact JSON, its keys in the order of their bytes.
-pub fn write_job(alloc: Global, task: Task, case: &Case<'_>) -> Result<Text, NoMemory>
-    ensures { IfOk result (λ text. text ≡ job_text task (test_case case.now)) }
+/// A job, or so much of it, as compact JSON, its keys in the order of their bytes.
+pub fn write_job(
+    alloc: Global,
+    part: JobPart,
+    task: Task,
+    case: &Case<'_>,
+) -> Result<Text, NoMemory>
+    ensures { IfOk result (λ text. text ≡ job_text part task (test_case case.now)) }
 {
-    let bytes = job_bytes(alloc, task, case)?;
+    let bytes = job_bytes(alloc, part, task, case)?;
     Ok(Text::from_vec(bytes))
 }

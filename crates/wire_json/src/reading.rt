@@ -154,6 +154,7 @@ pub fn read_body(alloc: Global, route: Route, bytes: &[u8]) -> Result<Body, Body
         Route::Apply(_) | Route::Cancel(_) => actor_body(&fields_of(alloc, bytes)?),
         Route::Rejudgings => rejudge_body(alloc, &fields_of(alloc, bytes)?),
         Route::Judgement(_) | Route::Submission(_) | Route::Rejudging(_) => Ok(Body::Empty),
-        Route::Job { .. } | Route::Board | Route::Audit => Ok(Body::Empty),
+        Route::Job { .. } | Route::JobRest { .. } => Ok(Body::Empty),
+        Route::Board | Route::Audit => Ok(Body::Empty),
     }
 }

@@ -15,6 +15,8 @@ pub enum Route {
     Down,
     /// `GET /judgehosts/job/{judging}/{test}`: a judgehost asks for the program and the files of a test of a judging.
     Job { judging: u32, test: u32 },
+    /// `GET /judgehosts/job/{judging}/{test}/rest`: a judgehost that has the judging's program asks for the files alone.
+    JobRest { judging: u32, test: u32 },
     /// `GET /judgements/{id}`: what is reported of a judging.
     Judgement(u32),
     /// `GET /judgements/{id}/submission`: the submission of a judging.

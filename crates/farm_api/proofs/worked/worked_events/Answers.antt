@@ -40,3 +40,7 @@ returns-clause-page c = refl
 pub returns-clause-contest : goal.returns-clause-contest
 unfolding rows is_utf8 chars serde_json_on_literals matchit_on_literals
 returns-clause-contest c = refl
+
+pub returns-clause-job_rest : goal.returns-clause-job_rest
+unfolding rows is_utf8 chars serde_json_on_literals matchit_on_literals
+returns-clause-job_rest c = refl

@@ -71,3 +71,7 @@ returns-clause-page c = refl
 pub returns-clause-contest : goal.returns-clause-contest
 unfolding rows contest_response view_text is_utf8 chars serde_json_on_literals matchit_on_literals digits
 returns-clause-contest c = refl
+
+pub returns-clause-no_job_rest : goal.returns-clause-no_job_rest
+unfolding rows reply_response fault_response job_response is_utf8 chars serde_json_on_literals matchit_on_literals digits
+returns-clause-no_job_rest c = refl

@@ -58,3 +58,11 @@ returns-clause-job_of_a_word c = refl
 pub returns-clause-job_of_a_signed_number : goal.returns-clause-job_of_a_signed_number
 unfolding rows matchit_on_literals
 returns-clause-job_of_a_signed_number c = refl
+
+pub returns-clause-job_rest : goal.returns-clause-job_rest
+unfolding rows matchit_on_literals
+returns-clause-job_rest c = refl
+
+pub returns-clause-job_rest_of_a_word : goal.returns-clause-job_rest_of_a_word
+unfolding rows matchit_on_literals
+returns-clause-job_rest_of_a_word c = refl

@@ -50,3 +50,7 @@ returns-clause-contest c = refl
 pub returns-clause-contest_method : goal.returns-clause-contest_method
 unfolding rows matchit_on_literals
 returns-clause-contest_method c = refl
+
+pub returns-clause-job_rest_method : goal.returns-clause-job_rest_method
+unfolding rows matchit_on_literals
+returns-clause-job_rest_method c = refl

@@ -10,7 +10,7 @@ pub work-requires-clause-sound : goal.work-requires-clause-sound
 work-requires-clause-sound g c =
     let e = c.in-Ok.ensures in
     let f = e.fresh in
-    (e.entered.0, e.entered.1, entered_at _ _ _ _ _ _ _ _ _ f.before f.claims f.posts f.job e.fine f.heard e.entered.2, unfailed _ _ _ f.heard)
+    (e.entered.0, e.entered.1, entered_at _ _ _ _ _ _ _ _ _ _ f.before f.claims f.posts f.kept f.job e.fine f.heard e.entered.2, unfailed _ _ _ f.heard)
 
 pub returns-in-Err-clause-failed : goal.returns-in-Err-clause-failed
 returns-in-Err-clause-failed g c = λ q w. c.in-Err.ensures.failed (bench_is _ _ q) w

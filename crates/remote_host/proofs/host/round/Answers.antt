@@ -12,7 +12,7 @@ returns-clause-worked g c =
     let same = third_same _ _ e.fixed in (
       s.0,
       s.1,
-      worked_heard _ _ _ _ c.args.fuel _ _ _ _ _ c.host_loop-end.result c.end_heard.result c.end_heard.ensures s.2 (omega (arith, e.claims, same, c.requires.before)) c.host_loop-end.new.bench.fewest quits e.idle e.refused e.unheard
+      worked_heard _ _ _ _ c.args.fuel _ _ _ _ _ _ c.host_loop-end.result c.end_heard.result c.end_heard.ensures s.2 (omega (arith, e.claims, same, c.requires.before)) c.host_loop-end.new.bench.fewest quits e.idle e.refused e.unheard
           (λ q. omega (arith, e.spent q, same, c.requires.before)) (λ q. omega (arith, e.posts, ap left_over q, c.requires.posted)),
     )
 

@@ -17,7 +17,7 @@ invariant-loop-end g l =
           (s : g.row.N.Denot) × (b.start.items ≡ (s, tt) ∷ []) × IsAt b.caller
           (record { held = g.N.Sink.held s; left = g.N.Source.left s; ahead = [] })
           (record { held = g.N.Sink.held b.talker.conn; left = g.N.Source.left b.talker.conn; ahead = b.talker.reader.ahead })
-          (b.before + b.claims) b.posts (pending_job b.job) b.talker.wrong (heard_at_claim b.heard)
+          (b.before + b.claims) b.posts b.kept (pending_job b.job) b.talker.wrong (heard_at_claim b.heard)
           × IfFailed (heard_at_claim b.heard) b.talker.wrong (g.N.Source.faults b.talker.conn + g.N.Sink.faults b.talker.conn);
       start : b.start.items ≡ l.fn.bench.start.items;
       caller : b.caller ≡ l.fn.bench.caller;

@@ -6,16 +6,16 @@ use Rattle.remote_host.proofs.Talking.{unread, said_as, said_wrong, first_is}
 use Rattle.remote_host.proofs.talker.Talker.enter.Goals as goal
 
 pub returns-in-Err-clause-talks : goal.returns-in-Err-clause-talks
-returns-in-Err-clause-talks g c = λ start claims fetched posted fine s. c.in-Err.ensures.talks start claims fetched posted (λ n a more. enter_next (turns c.args.caller.now n) more (enters a.body)) fine s
+returns-in-Err-clause-talks g c = λ start claims fetched posted fine s. c.in-Err.ensures.talks start claims fetched posted (λ n a more. enter_next (turns c.args.caller.now n None) more (enters a.body)) fine s
 
 pub returns-in-Err-read_entered-clause-talks : goal.returns-in-Err-read_entered-clause-talks
-returns-in-Err-read_entered-clause-talks g c = λ start claims fetched posted fine s. unread _ start _ claims fetched posted (λ n a more. enter_next (turns c.args.caller.now n) more (enters a.body)) None _ _ tt (c.in-Ok.ensures.fine ∙ fine) (c.in-Ok.ensures.talks start claims fetched posted (λ n a more. enter_next (turns c.args.caller.now n) more (enters a.body)) fine s)
+returns-in-Err-read_entered-clause-talks g c = λ start claims fetched posted fine s. unread _ start _ claims fetched posted (λ n a more. enter_next (turns c.args.caller.now n None) more (enters a.body)) None _ _ tt (c.in-Ok.ensures.fine ∙ fine) (c.in-Ok.ensures.talks start claims fetched posted (λ n a more. enter_next (turns c.args.caller.now n None) more (enters a.body)) fine s)
 
 pub returns-in-None-clause-talks : goal.returns-in-None-clause-talks
 returns-in-None-clause-talks g c =
     λ start claims fetched posted fine s. said_wrong _ start _ claims fetched posted None _ wrong.BadBody (c.meet.ensures.kept ∙ first_is _ _ (c.in-Ok.ensures.fine ∙ fine))
-    (said_as _ start _ claims fetched posted (λ n q more. enter_next (turns c.args.caller.now n) more q) enters None _ tt None (c.in-Ok.ensures.talks start claims fetched posted (λ n a more. enter_next (turns c.args.caller.now n) more (enters a.body)) fine s) (sym c.in-None.is ∙ c.in-Ok-read_entered.ensures ∙ ap enters c.body.ensures))
+    (said_as _ start _ claims fetched posted (λ n q more. enter_next (turns c.args.caller.now n None) more q) enters None _ tt None (c.in-Ok.ensures.talks start claims fetched posted (λ n a more. enter_next (turns c.args.caller.now n None) more (enters a.body)) fine s) (sym c.in-None.is ∙ c.in-Ok-read_entered.ensures ∙ ap enters c.body.ensures))
 
 pub returns-in-Some-clause-talks : goal.returns-in-Some-clause-talks
 returns-in-Some-clause-talks g c =
-    λ start claims fetched posted fine s. said_as _ start _ claims fetched posted (λ n q more. enter_next (turns c.args.caller.now n) more q) enters None _ tt (Some c.in-Some.said) (c.in-Ok.ensures.talks start claims fetched posted (λ n a more. enter_next (turns c.args.caller.now n) more (enters a.body)) fine s) (sym c.in-Some.is ∙ c.in-Ok-read_entered.ensures ∙ ap enters c.body.ensures)
+    λ start claims fetched posted fine s. said_as _ start _ claims fetched posted (λ n q more. enter_next (turns c.args.caller.now n None) more q) enters None _ tt (Some c.in-Some.said) (c.in-Ok.ensures.talks start claims fetched posted (λ n a more. enter_next (turns c.args.caller.now n None) more (enters a.body)) fine s) (sym c.in-Some.is ∙ c.in-Ok-read_entered.ensures ∙ ap enters c.body.ensures)

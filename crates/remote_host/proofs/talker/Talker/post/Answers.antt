@@ -6,16 +6,16 @@ use Rattle.remote_host.proofs.Talking.{unread, said_as, said_wrong, first_is}
 use Rattle.remote_host.proofs.talker.Talker.post.Goals as goal
 
 pub returns-in-Err-clause-talks : goal.returns-in-Err-clause-talks
-returns-in-Err-clause-talks g c = λ start claims fetched posted fine s. c.in-Err.ensures.talks start claims fetched posted (λ n a more. post_next (turns c.args.caller.now n) more (post_said a.body)) fine s
+returns-in-Err-clause-talks g c = λ start claims fetched posted kept fine s. c.in-Err.ensures.talks start claims fetched posted (λ n a more. post_next (turns c.args.caller.now n kept) more (post_said a.body)) fine s
 
 pub returns-in-Err-read_posted-clause-talks : goal.returns-in-Err-read_posted-clause-talks
-returns-in-Err-read_posted-clause-talks g c = λ start claims fetched posted fine s. unread _ start _ claims fetched (posted + 1) (λ n a more. post_next (turns c.args.caller.now n) more (post_said a.body)) None _ _ tt (c.in-Ok.ensures.fine ∙ fine) (c.in-Ok.ensures.talks start claims fetched posted (λ n a more. post_next (turns c.args.caller.now n) more (post_said a.body)) fine s)
+returns-in-Err-read_posted-clause-talks g c = λ start claims fetched posted kept fine s. unread _ start _ claims fetched (posted + 1) (λ n a more. post_next (turns c.args.caller.now n kept) more (post_said a.body)) None _ _ tt (c.in-Ok.ensures.fine ∙ fine) (c.in-Ok.ensures.talks start claims fetched posted (λ n a more. post_next (turns c.args.caller.now n kept) more (post_said a.body)) fine s)
 
 pub returns-in-None-clause-talks : goal.returns-in-None-clause-talks
 returns-in-None-clause-talks g c =
-    λ start claims fetched posted fine s. said_wrong _ start _ claims fetched (posted + 1) None _ wrong.BadBody (c.meet.ensures.kept ∙ first_is _ _ (c.in-Ok.ensures.fine ∙ fine))
-    (said_as _ start _ claims fetched (posted + 1) (λ n q more. post_next (turns c.args.caller.now n) more q) post_said None _ tt None (c.in-Ok.ensures.talks start claims fetched posted (λ n a more. post_next (turns c.args.caller.now n) more (post_said a.body)) fine s) (sym c.in-None.is ∙ c.in-Ok-read_posted.ensures.said ∙ ap post_said c.body.ensures))
+    λ start claims fetched posted kept fine s. said_wrong _ start _ claims fetched (posted + 1) None _ wrong.BadBody (c.meet.ensures.kept ∙ first_is _ _ (c.in-Ok.ensures.fine ∙ fine))
+    (said_as _ start _ claims fetched (posted + 1) (λ n q more. post_next (turns c.args.caller.now n kept) more q) post_said None _ tt None (c.in-Ok.ensures.talks start claims fetched posted (λ n a more. post_next (turns c.args.caller.now n kept) more (post_said a.body)) fine s) (sym c.in-None.is ∙ c.in-Ok-read_posted.ensures.said ∙ ap post_said c.body.ensures))
 
 pub returns-in-Some-clause-talks : goal.returns-in-Some-clause-talks
 returns-in-Some-clause-talks g c =
-    λ start claims fetched posted fine s. said_as _ start _ claims fetched (posted + 1) (λ n q more. post_next (turns c.args.caller.now n) more q) post_said None _ tt (Some c.in-Some.said) (c.in-Ok.ensures.talks start claims fetched posted (λ n a more. post_next (turns c.args.caller.now n) more (post_said a.body)) fine s) (sym c.in-Some.is ∙ c.in-Ok-read_posted.ensures.said ∙ ap post_said c.body.ensures)
+    λ start claims fetched posted kept fine s. said_as _ start _ claims fetched (posted + 1) (λ n q more. post_next (turns c.args.caller.now n kept) more q) post_said None _ tt (Some c.in-Some.said) (c.in-Ok.ensures.talks start claims fetched posted (λ n a more. post_next (turns c.args.caller.now n kept) more (post_said a.body)) fine s) (sym c.in-Some.is ∙ c.in-Ok-read_posted.ensures.said ∙ ap post_said c.body.ensures)
