@@ -11,7 +11,7 @@ const LEASES: &str = "2 3 1 60~1 3 2 60~2 1 10 61~1 1 9 59~3 2 1 60~3 3 10 59";
 /// Trees, a row each: what is shown, behind `|` the order of the tree, and behind the next `|` the steps, each before a
 /// `~`, with what is answered behind `=`.
 ///
-/// `fill` makes room for 10 leases and puts in the leases above. A key stands there as its rank, and its task as its
+/// `fill` makes room for 10 leases and puts in the leases above. A key stands there as its group, and its task as its
 /// judging and its test. `take` asks whether the lease is the first, is found by its key, and is removed once.
 const ROWS: &str = concat!(
     "leases come out in the order of judgings|judging|",
@@ -56,7 +56,7 @@ const ROWS: &str = concat!(
     "spare = 10~",
     "depth = 0~",
     "\n",
-    "what stands at a rank|host|",
+    "what stands at a group|host|",
     "fill = yes~",
     "first-of 2 = 2 1 10 61~",
     "first-of 4 = none~",
@@ -96,7 +96,7 @@ fn lease_of(words: &str) -> Lease {
 /// The key behind the first word.
 fn key_of(words: &str) -> Key {
     Key {
-        rank: number(words, 1) as u64,
+        group: number(words, 1) as u64,
         task: Task {
             judging: number(words, 2),
             test: rank(words, 3),
