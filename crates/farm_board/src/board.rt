@@ -238,6 +238,13 @@ impl<R: Trust + Drop, A: Admission> Board<R, A> {
 }
 
 impl<A: Admission> Pass<A> {
+    /// Its number: 0 of the opening pass, 1 of the first one that is split off, and so on.
+    pub fn number(&self) -> u64
+        ensures { result ≡ self.now.number }
+    {
+        self.number
+    }
+
     /// How many passes it may split off.
     pub fn spare(&self) -> u16
         ensures { result ≡ self.now.spare }
