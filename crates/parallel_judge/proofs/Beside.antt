@@ -104,7 +104,7 @@ splits_beside case_at start calls split old new other share b s =
 
 -- a host's pass is taken in
 pub joins_beside : (case_at : Task → Option TestCase) (start : BoardState) (calls : List Call) (split joined : List ℕ) (old from new : PassValue) → IsOpening start
-    → IsBeside case_at start calls split joined old → TakesIn old from new → EachEntry (IsHostEntry case_at) from.mine
+    → IsBeside case_at start calls split joined old → TakesIn old from new → EachEntry (IsHostEntry case_at from.number) from.mine
     → IsBeside case_at start calls split (joined ++ from.number ∷ []) new
 joins_beside case_at start calls split joined old from new o b t h =
     let join = entry.Join old.number from.number in
@@ -121,7 +121,7 @@ joins_beside case_at start calls split joined old from new o b t h =
       number = g.number;
       begins = g.begins;
       hosts = λ n is. ⊎_elim (λ is. g.hosts n is)
-          (λ (same : n ≡ from.number). subst (λ (m : ℕ). (its : List HistoryEntry) × IsJoined m new its × EachEntry (IsHostEntry case_at) its) (sym same) (from.mine, here, h))
+          (λ (same : n ≡ from.number). subst (λ (m : ℕ). (its : List HistoryEntry) × IsJoined m new its × EachEntry (IsHostEntry case_at m) its) (sym same) (from.mine, here, h))
           (in_either n from.number joined is);
     }
 

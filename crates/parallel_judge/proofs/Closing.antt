@@ -20,11 +20,11 @@ use Rattle.farm_board.specs.declared.entries.HistoryEntry.TheVariants as entry
 use Rattle.farm_board.proofs.Histories.{board_after_append}
 use Rattle.parallel_judge.specs.Entering.{NamedProblem, NamedSubmission, problem_event, submission_event, ask_event, waiting, contest_events}
 use Rattle.parallel_judge.specs.Hosts.{as_entries, HasEntered, IsBeside}
-use Rattle.parallel_judge.specs.Journal.{events_in, IsJudgingEvent, AreJudging, IsKept, KeepsJournal}
+use Rattle.parallel_judge.specs.Journal.{events_in, IsJudgingEvent, AreCallers, AreJudging, AreNamed, IsKept, KeepsJournal}
 use Rattle.parallel_judge.specs.UnderWay.{IsUnderWay}
 use Rattle.parallel_judge.proofs.Opening.{entered_state}
 use Rattle.parallel_judge.proofs.Replies.{legal_answers}
-use Rattle.parallel_judge.proofs.Whole.{all_known, entries_under_way, entries_judging}
+use Rattle.parallel_judge.proofs.Whole.{all_known, entries_under_way, call_named, entries_judging, entries_named}
 
 -- ---- the events of a contest and its hosts
 
@@ -58,6 +58,15 @@ contest_judges case_at modes ps xs names =
 call_judges : (case_at : Task → Option TestCase) (call : Call) (b : Bool) (more : List Call) → IsJudgingEvent case_at call.event → AreJudging case_at more → AreJudging case_at (call_unless b call more)
 call_judges case_at call true more is h = h
 call_judges case_at call false more is h = (is, h)
+
+-- what the caller enters is no host's
+calls_named : (calls : List Call) → AreCallers calls → AreNamed (effective_calls (as_entries calls))
+calls_named [] h = tt
+calls_named (call ∷ calls) h = call_named call (is_no_memory call.reply) (effective_calls (as_entries calls)) (λ other. absurd (other h.0)) (calls_named calls h.1)
+
+both_named : (xs ys : List Call) → AreNamed xs → AreNamed ys → AreNamed (xs ++ ys)
+both_named [] ys h k = k
+both_named (x ∷ xs) ys h k = (h.0, both_named xs ys h.1 k)
 
 calls_judge : (case_at : Task → Option TestCase) (calls : List Call) → AllJudge case_at (events_in calls) → AreJudging case_at (effective_calls (as_entries calls))
 calls_judge case_at [] h = tt
@@ -102,6 +111,12 @@ all_judging case_at opening events entered pass split out judge h b =
     (both_judge case_at (effective_calls (as_entries h.calls)) (effective_calls b.rest)
     (calls_judge case_at h.calls (subst (AllJudge case_at) (sym h.events_are) judge)) (entries_judging case_at b.rest (all_known case_at opening h.calls split pass out b)))
 
+all_named : (case_at : Task → Option TestCase) (opening : BoardState) (events : List Event) (entered pass : PassValue) (split : List ℕ) → opening.out ≡ 0 ∷ []
+    → (h : HasEntered opening events entered) → IsBeside case_at opening h.calls split split pass → AreNamed (effective_calls pass.seen)
+all_named case_at opening events entered pass split out h b =
+    subst AreNamed (sym (ap effective_calls b.seen ∙ effective_append (as_entries h.calls) b.rest))
+    (both_named (effective_calls (as_entries h.calls)) (effective_calls b.rest) (calls_named h.calls h.callers) (entries_named case_at b.rest (all_known case_at opening h.calls split pass out b)))
+
 journal_is : (journal : Option (List Call)) (seen calls : List Call) → journal_with_calls (Some []) seen ≡ Some calls → seen ≡ calls
 journal_is journal seen calls e = cc
 
@@ -125,6 +140,7 @@ closed_journal settings case_at hosts true ps xs names entered pass split kept h
       legal = b.legal;
       whole = sym (append-nil (effective_calls pass.seen));
       callers = tt;
+      named = all_named case_at opening (contest_events settings.modes ps xs ++ map event.Host names) entered pass split refl h b;
       answered = answers.0;
       judging = all_judging case_at opening (contest_events settings.modes ps xs ++ map event.Host names) entered pass split refl (contest_judges case_at settings.modes ps xs names) h b;
       stands = ap (λ (s : BoardState). (board_after s pass.seen).state) b.begins ∙ answers.1;

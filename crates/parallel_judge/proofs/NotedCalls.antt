@@ -14,7 +14,7 @@ use Rattle.farm_board.specs.Histories.{effective_calls, journal_with_call}
 use Rattle.farm_board.specs.Passes.{call_of}
 use Rattle.farm_board.specs.declared.entries.Call.{Call}
 use Rattle.parallel_judge.specs.declared.noted.NotedFarm.{NotedFarm}
-use Rattle.parallel_judge.specs.Journal.{events_in, AreAnswered, AreJudging, IsJudgingEvent, IsKept}
+use Rattle.parallel_judge.specs.Journal.{events_in, AreAnswered, AreJudging, AreNamed, IsJudgingEvent, IsKept}
 use Rattle.parallel_judge.specs.Noting.{Notes, StillKeeps}
 use Rattle.parallel_judge.proofs.Opening.{callers_more}
 
@@ -26,6 +26,10 @@ judging_more : (case_at : Task → Option TestCase) (calls : List Call) (call : 
 judging_more case_at [] call h is = (is, tt)
 judging_more case_at (c ∷ calls) call h is = (h.0, judging_more case_at calls call h.1 is)
 
+named_more : (calls : List Call) (call : Call) → AreNamed calls → call.number ≡ 0 → AreNamed (calls ++ call ∷ [])
+named_more [] call h is = (λ other. absurd (other is), tt)
+named_more (c ∷ calls) call h is = (h.0, named_more calls call h.1 is)
+
 one_more_kept : (settings : SettingsValue) (case_at : Task → Option TestCase) (hosts : ℕ) (s : State) (calls : List Call) (e : Event) (r : Reply)
     → IsKept settings case_at hosts s calls → IsJudgingEvent case_at e → r ≡ reply_to s e → IsKept settings case_at hosts (farm_step s e).0 (calls ++ call_of 0 e r ∷ [])
 one_more_kept settings case_at hosts s calls e r k judges answers =
@@ -36,6 +40,7 @@ one_more_kept settings case_at hosts s calls e r k judges answers =
       legal = k.legal;
       whole = ap (λ (cs : List Call). cs ++ call ∷ []) k.whole ∙ append_assoc (effective_calls k.history) k.later (call ∷ []);
       callers = callers_more k.later call k.callers refl;
+      named = named_more calls call k.named refl;
       answered = answered_more (start settings) calls call k.answered (answers ∙ ap (λ (t : State). reply_to t e) k.stands);
       judging = judging_more case_at calls call k.judging judges;
       stands = ap (λ (t : State). (farm_step t e).0) k.stands ∙ sym (state_after-append (start settings) (events_in calls) (e ∷ []))

@@ -47,8 +47,8 @@ use Rattle.parallel_judge.specs.Entering.{NamedProblem, NamedSubmission, problem
 use Rattle.parallel_judge.specs.Table.{named_problem, named_submission, tests_for, verdict_for, row_for, table_rows}
 use Rattle.parallel_judge.specs.Working.{IsFinished}
 use Rattle.parallel_judge.proofs.Contests.{HasTests, Apart, IsKnown, first_version, cells_of_named, judging_named, numbered_as, tests_named, asked_of_named}
-use Rattle.parallel_judge.specs.Hosts.{all_hosts, host_names, with_hosts}
-use Rattle.parallel_judge.specs.UnderWay.{IsUnderWay}
+use Rattle.parallel_judge.specs.Hosts.{host_names, with_hosts}
+use Rattle.parallel_judge.specs.UnderWay.{all_hosts, IsUnderWay}
 use Rattle.parallel_judge.proofs.Entered.{IsContestOf}
 use Rattle.parallel_judge.proofs.Starting.{starts, names_differ, names_few}
 use Rattle.parallel_judge.proofs.Reading.{row_more, shown_final}

@@ -17,8 +17,8 @@ use Rattle.farm_laws.proofs.Each.{Each, each_append}
 use Rattle.farm_laws.proofs.Outputs.{state_after-append}
 use Rattle.case_run.specs.Cases.{TestCase}
 use Rattle.parallel_judge.specs.Entering.{NamedProblem, NamedSubmission, problem_event, submission_event, ask_event, waiting, contest_events}
-use Rattle.parallel_judge.specs.Hosts.{all_hosts, host_names}
-use Rattle.parallel_judge.specs.UnderWay.{AreHeldAfter, IsUnderWay}
+use Rattle.parallel_judge.specs.Hosts.{host_names}
+use Rattle.parallel_judge.specs.UnderWay.{all_hosts, AreHeldAfter, IsUnderWay}
 use Rattle.parallel_judge.specs.Working.{truth_of, AreRunnable, row_lengths}
 use Rattle.parallel_judge.proofs.Contests.{counts_none, problems_give_none, submissions_give_none}
 use Rattle.parallel_judge.proofs.Deaths.{IsOther, ups, one_more_host, host_dies}

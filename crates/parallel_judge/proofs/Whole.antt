@@ -1,6 +1,6 @@
 -- Once all passes of hosts are taken in, it is known what every entry is: so the contest is under way, and the journal
 -- is that of a judging.
-use Rattle.std.proofs.Common.{◌≡◌, ℕ, suc, ◌⊎◌, Bool, true, false, List, [], ◌∷◌, ◌++◌, Option, length, eqb, refl, sym, ap, ◌∙◌, subst, inl, inr, ⊎_elim, arith, eq-eqb}
+use Rattle.std.proofs.Common.{◌≡◌, ◌≢◌, ℕ, suc, ◌⊎◌, Bool, true, false, List, [], ◌∷◌, ◌++◌, Option, length, eqb, refl, sym, ap, ◌∙◌, subst, inl, inr, ⊎_elim, arith, eq-eqb, eqb-true}
 use Rattle.std.specs.Prelude.{if◌then◌else◌}
 use Rattle.farm_kinds.specs.declared.outcomes.Task.{Task}
 use Rattle.farm_kinds.specs.declared.events.Event.{Event}
@@ -15,10 +15,10 @@ use Rattle.farm_board.specs.declared.entries.HistoryEntry.{HistoryEntry}
 use Rattle.farm_board.specs.declared.entries.HistoryEntry.TheVariants as entry
 use Rattle.farm_board.proofs.Numbers.{in_either, in_from, in_single, in_here}
 use Rattle.farm_board.proofs.Histories.{after_call_out, next_out, entries_append, legal_rest}
-use Rattle.parallel_judge.specs.Journal.{AreJudging, IsJudgingEvent}
+use Rattle.parallel_judge.specs.Journal.{AreJudging, AreNamed, IsJudgingEvent}
 use Rattle.std.specs.Prelude.{slice_index_or, ◌<◌}
-use Rattle.parallel_judge.specs.Hosts.{HostJob, job_numbers, pass_numbers, as_entries, EachEntry, IsHostEntry, IsSeatEntry, IsBeside}
-use Rattle.parallel_judge.specs.UnderWay.{IsHostEvent, IsUnderWay}
+use Rattle.parallel_judge.specs.Hosts.{pass_numbers, as_entries, EachEntry, IsHostEntry, IsSeatEntry, IsBeside}
+use Rattle.parallel_judge.specs.UnderWay.{IsHostEvent, IsOfHost, IsUnderWay}
 use Rattle.parallel_judge.proofs.HostEvents.{host_event}
 use Rattle.parallel_judge.proofs.Opening.{calls_out}
 use Rattle.parallel_judge.proofs.Beside.{each_second}
@@ -57,9 +57,9 @@ each_entry P Q s (e ∷ es) legal within known =
 
 -- ---- what hosts and the opening pass enter
 
--- a host enters something, or a pass comes or goes
+-- the host of the pass's number enters something, or a pass comes or goes
 abbrev IsBoardEntry : (Task → Option TestCase) → HistoryEntry → Type 0
-IsBoardEntry case_at (entry.Call call) = IsHostEvent case_at call.event
+IsBoardEntry case_at (entry.Call call) = IsHostEvent case_at call.event × IsOfHost call.number call.event
 IsBoardEntry case_at (entry.Split number new) = Unit {0}
 IsBoardEntry case_at (entry.Join number old) = Unit {0}
 
@@ -67,12 +67,25 @@ IsBoardEntry case_at (entry.Join number old) = Unit {0}
 abbrev IsSeated : List ℕ → ℕ → Type 0
 IsSeated split n = (n ≡ 0) ⊎ (is_in n split ≡ true)
 
-by_host : (case_at : Task → Option TestCase) (split : List ℕ) (es : List HistoryEntry) → EachEntry (IsHostEntry case_at) es
-    → EachEntry (λ e. IsBoardEntry case_at e × GivesIn (IsSeated split) e) es
-by_host case_at split [] h = tt
-by_host case_at split (entry.Call call ∷ es) h = ((h.0, tt), by_host case_at split es h.1)
-by_host case_at split (entry.Split number new ∷ es) h = absurd h.0
-by_host case_at split (entry.Join number old ∷ es) h = absurd h.0
+host_makes : (case_at : Task → Option TestCase) (split : List ℕ) (n : ℕ) (e : HistoryEntry) → pass_number e ≡ n → IsHostEntry case_at n e → IsBoardEntry case_at e × GivesIn (IsSeated split) e
+host_makes case_at split n (entry.Call call) same h = ((h.0, subst (λ (m : ℕ). IsOfHost m call.event) (sym same) h.1), tt)
+host_makes case_at split n (entry.Split number new) same h = absurd h
+host_makes case_at split n (entry.Join number old) same h = absurd h
+
+-- the entries of one number, where one more may be of it
+abbrev each_own : (HistoryEntry → Type 0) → Bool → HistoryEntry → List HistoryEntry → Type 0
+each_own P b e es = EachEntry P (if b then e ∷ es else es)
+
+own_too : (P Q : HistoryEntry → Type 0) (b : Bool) (e : HistoryEntry) (es : List HistoryEntry) → (b ≡ true → P e → Q e) → each_own P b e es → (EachEntry P es → EachEntry Q es) → each_own Q b e es
+own_too P Q true e es here h rest = (here refl h.0, rest h.1)
+own_too P Q false e es here h rest = rest h
+
+by_host : (case_at : Task → Option TestCase) (split : List ℕ) (n : ℕ) (es : List HistoryEntry) → EachEntry (IsHostEntry case_at n) (entries_by n es)
+    → EachEntry (λ e. IsBoardEntry case_at e × GivesIn (IsSeated split) e) (entries_by n es)
+by_host case_at split n [] h = tt
+by_host case_at split n (e ∷ es) h =
+    own_too (IsHostEntry case_at n) (λ e. IsBoardEntry case_at e × GivesIn (IsSeated split) e) (eqb (pass_number e) n) e (entries_by n es)
+    (λ same. host_makes case_at split n e (eqb-true (pass_number e) n same)) h (by_host case_at split n es)
 
 by_opening : (case_at : Task → Option TestCase) (split : List ℕ) (es : List HistoryEntry) → EachEntry (IsSeatEntry split) es
     → EachEntry (λ e. IsBoardEntry case_at e × GivesIn (IsSeated split) e) es
@@ -93,8 +106,8 @@ all_known case_at start calls split pass out b =
     (λ there. let known = b.hosts n there in
     let parts : known.0 ≡ entries_by n (as_entries calls) ++ entries_by n b.rest =
     sym known.1.entries ∙ ap (λ (es : List HistoryEntry). entries_by n es) b.seen ∙ entries_append n (as_entries calls) b.rest in
-    by_host case_at split (entries_by n b.rest)
-    (each_second (IsHostEntry case_at) (entries_by n (as_entries calls)) (entries_by n b.rest) (subst (EachEntry (IsHostEntry case_at)) parts known.2)))
+    by_host case_at split n b.rest
+    (each_second (IsHostEntry case_at n) (entries_by n (as_entries calls)) (entries_by n b.rest) (subst (EachEntry (IsHostEntry case_at n)) parts known.2)))
     is)
 
 -- ---- the contest
@@ -110,7 +123,7 @@ pub entries_under_way : (settings : SettingsValue) (case_at : Task → Option Te
 entries_under_way settings case_at cells down up s [] h w = w
 entries_under_way settings case_at cells down up s (entry.Call call ∷ es) h w =
     entries_under_way settings case_at cells down up (next_board s (entry.Call call)) es h.1
-    (call_under_way settings case_at cells down up s call (is_no_memory call.reply) h.0 w)
+    (call_under_way settings case_at cells down up s call (is_no_memory call.reply) h.0.0 w)
 entries_under_way settings case_at cells down up s (entry.Split number new ∷ es) h w = entries_under_way settings case_at cells down up (next_board s (entry.Split number new)) es h.1 w
 entries_under_way settings case_at cells down up s (entry.Join number old ∷ es) h w = entries_under_way settings case_at cells down up (next_board s (entry.Join number old)) es h.1 w
 
@@ -128,20 +141,31 @@ call_judging case_at call false more is h = (is, h)
 -- their calls are those of a judging
 pub entries_judging : (case_at : Task → Option TestCase) (es : List HistoryEntry) → EachEntry (IsBoardEntry case_at) es → AreJudging case_at (effective_calls es)
 entries_judging case_at [] h = tt
-entries_judging case_at (entry.Call call ∷ es) h = call_judging case_at call (is_no_memory call.reply) (effective_calls es) (host_judges case_at call.event h.0) (entries_judging case_at es h.1)
+entries_judging case_at (entry.Call call ∷ es) h = call_judging case_at call (is_no_memory call.reply) (effective_calls es) (host_judges case_at call.event h.0.0) (entries_judging case_at es h.1)
 entries_judging case_at (entry.Split number new ∷ es) h = entries_judging case_at es h.1
 entries_judging case_at (entry.Join number old ∷ es) h = entries_judging case_at es h.1
 
+pub call_named : (call : Call) (b : Bool) (more : List Call) → ((call.number ≢ 0) → IsOfHost call.number call.event) → AreNamed more → AreNamed (call_unless b call more)
+call_named call true more is h = h
+call_named call false more is h = (is, h)
+
+-- their calls are those of the hosts that have the passes' numbers
+pub entries_named : (case_at : Task → Option TestCase) (es : List HistoryEntry) → EachEntry (IsBoardEntry case_at) es → AreNamed (effective_calls es)
+entries_named case_at [] h = tt
+entries_named case_at (entry.Call call ∷ es) h = call_named call (is_no_memory call.reply) (effective_calls es) (λ other. h.0.1) (entries_named case_at es h.1)
+entries_named case_at (entry.Split number new ∷ es) h = entries_named case_at es h.1
+entries_named case_at (entry.Join number old ∷ es) h = entries_named case_at es h.1
+
 -- ---- numbers
 
--- each pass has the number of its job
-pub same_numbers : (passes : List PassValue) (jobs : List HostJob) → length passes ≡ length jobs
-    → ((k : ℕ) (job : HostJob) (pass : PassValue) → k < length jobs → (slice_index_or passes k pass).number ≡ (slice_index_or jobs k job).0.number)
-    → pass_numbers passes ≡ job_numbers jobs
+-- each pass has kept its number
+pub same_numbers : (ended begun : List PassValue) → length ended ≡ length begun
+    → ((k : ℕ) (from to : PassValue) → k < length begun → (slice_index_or ended k to).number ≡ (slice_index_or begun k from).number)
+    → pass_numbers ended ≡ pass_numbers begun
 same_numbers [] [] len each = refl
-same_numbers [] (job ∷ jobs) len each = absurd (omega (arith, len))
-same_numbers (pass ∷ passes) [] len each = absurd (omega (arith, len))
-same_numbers (pass ∷ passes) (job ∷ jobs) len each =
-    let here : pass.number ≡ job.0.number = each 0 job pass (omega arith) in
-    let rest = same_numbers passes jobs (omega (arith, len)) (λ k j p less. each (suc k) j p (omega (arith, less))) in
-    ap (λ (n : ℕ). n ∷ pass_numbers passes) here ∙ ap (λ (ns : List ℕ). job.0.number ∷ ns) rest
+same_numbers [] (from ∷ begun) len each = absurd (omega (arith, len))
+same_numbers (to ∷ ended) [] len each = absurd (omega (arith, len))
+same_numbers (to ∷ ended) (from ∷ begun) len each =
+    let here : to.number ≡ from.number = each 0 from to (omega arith) in
+    let rest = same_numbers ended begun (omega (arith, len)) (λ k f t less. each (suc k) f t (omega (arith, less))) in
+    ap (λ (n : ℕ). n ∷ pass_numbers ended) here ∙ ap (λ (ns : List ℕ). from.number ∷ ns) rest

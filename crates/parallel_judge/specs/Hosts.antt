@@ -1,5 +1,5 @@
 -- What the passes of a contest's hosts enter, and what the opening pass knows of it.
-use Rattle.std.specs.Prelude.{◌≡◌, ◌≢◌, ℕ, ◌^◌, ◌≤◌, Bool, true, List, [], ◌∷◌, ◌++◌, map, take, codes, Option}
+use Rattle.std.specs.Prelude.{◌≡◌, ◌≢◌, ℕ, ◌^◌, Bool, true, List, [], ◌∷◌, ◌++◌, map, take, Option}
 use Rattle.farm_kinds.specs.declared.outcomes.Task.{Task}
 use Rattle.farm_kinds.specs.declared.events.Event.{Event}
 use Rattle.farm_kinds.specs.declared.events.Event.TheVariants as event
@@ -16,13 +16,7 @@ use Rattle.farm_board.specs.declared.entries.HistoryEntry.{HistoryEntry}
 use Rattle.farm_board.specs.declared.entries.HistoryEntry.TheVariants as entry
 use Rattle.parallel_judge.specs.Journal.{events_in, AreCallers}
 use Rattle.parallel_judge.specs.Table.{roster_events}
-use Rattle.parallel_judge.specs.UnderWay.{IsHostEvent}
-
--- the names of the hosts, of which there are at most 16
-abbrev pub all_hosts : List (List ℕ)
-all_hosts =
-    codes "h1" ∷ codes "h2" ∷ codes "h3" ∷ codes "h4" ∷ codes "h5" ∷ codes "h6" ∷ codes "h7" ∷ codes "h8"
-    ∷ codes "h9" ∷ codes "h10" ∷ codes "h11" ∷ codes "h12" ∷ codes "h13" ∷ codes "h14" ∷ codes "h15" ∷ codes "h16" ∷ []
+use Rattle.parallel_judge.specs.UnderWay.{all_hosts, IsHostEvent, IsOfHost}
 
 abbrev pub host_names : ℕ → List (List ℕ)
 host_names hosts = take hosts all_hosts
@@ -63,11 +57,11 @@ abbrev pub EachEntry : (HistoryEntry → Type 0) → List HistoryEntry → Type 
 EachEntry P [] = Unit {0}
 EachEntry P (e ∷ es) = P e × EachEntry P es
 
--- a host's pass calls the board with what a host enters
-abbrev pub IsHostEntry : (Task → Option TestCase) → HistoryEntry → Type 0
-IsHostEntry case_at (entry.Call call) = IsHostEvent case_at call.event
-IsHostEntry case_at (entry.Split number new) = ⊥
-IsHostEntry case_at (entry.Join number old) = ⊥
+-- the pass of a host of this number calls the board with what that host enters
+abbrev pub IsHostEntry : (Task → Option TestCase) → ℕ → HistoryEntry → Type 0
+IsHostEntry case_at number (entry.Call call) = IsHostEvent case_at call.event × IsOfHost number call.event
+IsHostEntry case_at number (entry.Split from new) = ⊥
+IsHostEntry case_at number (entry.Join from old) = ⊥
 
 -- the opening pass splits off passes of these numbers, and takes passes in
 abbrev pub IsSeatEntry : List ℕ → HistoryEntry → Type 0
@@ -79,30 +73,22 @@ IsSeatEntry numbers (entry.Join number old) = Unit {0}
 abbrev pub share : ℕ
 share = 2 ^ 33
 
--- a pass of a host, and the host's number
-abbrev pub HostJob : Type 0
-HostJob = PassValue × ℕ
-
--- the host can begin with the pass, which is one of this board
-pub record IsReadyJob (board : BoardId) (job : HostJob) : Type 0 where
-  pub board_is : job.0.board ≡ board
-  pub fresh : job.0.mine ≡ []
-  pub left : job.0.left ≡ share
-  pub spare : job.0.spare ≡ 0
-  pub number : (1 ≤ job.1) × (job.1 ≤ 16)
-
--- a host has stopped, and this is its pass
-pub record IsDonePass (case_at : Task → Option TestCase) (board : BoardId) (pass : PassValue) : Type 0 where
+-- a host can begin with the pass, which is one of this board
+pub record IsReadyPass (board : BoardId) (pass : PassValue) : Type 0 where
   pub board_is : pass.board ≡ board
-  pub entries : EachEntry (IsHostEntry case_at) pass.mine
+  pub fresh : pass.mine ≡ []
+  pub left : pass.left ≡ share
   pub spare : pass.spare ≡ 0
 
--- the same of the pass that the host began with
-abbrev pub IsDoneJob : (Task → Option TestCase) → BoardId → HostJob → PassValue → Type 0
-IsDoneJob case_at board job pass = (pass.number ≡ job.0.number) × IsDonePass case_at board pass
+-- the host of the pass's number has stopped
+pub record IsDonePass (case_at : Task → Option TestCase) (board : BoardId) (pass : PassValue) : Type 0 where
+  pub board_is : pass.board ≡ board
+  pub entries : EachEntry (IsHostEntry case_at pass.number) pass.mine
+  pub spare : pass.spare ≡ 0
 
-abbrev pub job_numbers : List HostJob → List ℕ
-job_numbers jobs = map (λ job. job.0.number) jobs
+-- the same, where the host began with that pass
+abbrev pub IsDoneFrom : (Task → Option TestCase) → BoardId → PassValue → PassValue → Type 0
+IsDoneFrom case_at board begun pass = (pass.number ≡ begun.number) × IsDonePass case_at board pass
 
 abbrev pub pass_numbers : List PassValue → List ℕ
 pass_numbers passes = map (λ pass. pass.number) passes
@@ -118,4 +104,4 @@ pub record IsBeside (case_at : Task → Option TestCase) (start : BoardState) (c
   pub number : pass.number ≡ 0
   pub begins : pass.start ≡ start
   pub hosts : (n : ℕ) → is_in n joined ≡ true
-      → (its : List HistoryEntry) × IsJoined n pass its × EachEntry (IsHostEntry case_at) its
+      → (its : List HistoryEntry) × IsJoined n pass its × EachEntry (IsHostEntry case_at n) its

@@ -1,5 +1,5 @@
 -- The journal of a judging: the calls that took effect, each with its reply.
-use Rattle.std.specs.Prelude.{◌≡◌, ℕ, ◌+◌, true, List, [], ◌∷◌, ◌++◌, map, Option, Some, None}
+use Rattle.std.specs.Prelude.{◌≡◌, ◌≢◌, ℕ, ◌+◌, true, List, [], ◌∷◌, ◌++◌, map, Option, Some, None}
 use Rattle.farm_kinds.specs.declared.outcomes.Task.{Task}
 use Rattle.farm_kinds.specs.declared.outcomes.Answer.TheVariants.{Final}
 use Rattle.farm_kinds.specs.declared.events.Event.{Event}
@@ -21,6 +21,7 @@ use Rattle.farm_board.specs.declared.entries.Call.{Call}
 use Rattle.farm_board.specs.declared.entries.HistoryEntry.{HistoryEntry}
 use Rattle.parallel_judge.specs.Working.{truth_of}
 use Rattle.parallel_judge.specs.Table.{verdict_for}
+use Rattle.parallel_judge.specs.UnderWay.{IsOfHost}
 
 abbrev pub events_in : List Call → List Event
 events_in calls = map (λ call. call.event) calls
@@ -51,6 +52,11 @@ abbrev pub AreJudging : (Task → Option TestCase) → List Call → Type 0
 AreJudging case_at [] = Unit {0}
 AreJudging case_at (call ∷ calls) = IsJudgingEvent case_at call.event × AreJudging case_at calls
 
+-- what pass 1 calls is a claim or a result of host h1, and so on; pass 0 is the caller's
+abbrev pub AreNamed : List Call → Type 0
+AreNamed [] = Unit {0}
+AreNamed (call ∷ calls) = ((call.number ≢ 0) → IsOfHost call.number call.event) × AreNamed calls
+
 -- The calls of one legal history from the empty farm, in which each of so many hosts has a pass, and then what the
 -- caller entered. The farm stands after all of them
 pub record IsKept (settings : SettingsValue) (case_at : Task → Option TestCase) (hosts : ℕ) (s : State)
@@ -60,6 +66,7 @@ pub record IsKept (settings : SettingsValue) (case_at : Task → Option TestCase
   pub legal : IsLegal (opening_board (start settings) (hosts + 1) true) history
   pub whole : calls ≡ effective_calls history ++ later
   pub callers : AreCallers later
+  pub named : AreNamed calls
   pub answered : AreAnswered (start settings) calls
   pub judging : AreJudging case_at calls
   pub stands : s ≡ reached settings (events_in calls)

@@ -1,5 +1,5 @@
 -- A contest that hosts are judging.
-use Rattle.std.specs.Prelude.{◌≡◌, ℕ, ◌+◌, ◌<◌, ◌≤◌, true, false, List, [], ◌∷◌, map, length, ◌++◌, Option, Some}
+use Rattle.std.specs.Prelude.{◌≡◌, ℕ, ◌+◌, ◌-◌, ◌<◌, ◌≤◌, true, false, List, [], ◌∷◌, map, length, ◌++◌, Option, Some, codes, slice_get}
 use Rattle.farm_kinds.specs.declared.outcomes.Task.{Task}
 use Rattle.farm_kinds.specs.declared.events.Event.{Event}
 use Rattle.farm_kinds.specs.declared.events.Event.TheVariants as event
@@ -10,6 +10,22 @@ use Rattle.farm_model.specs.Changes.{host_as}
 use Rattle.farm_model.specs.State.{State, SettingsValue}
 use Rattle.case_run.specs.Cases.{TestCase}
 use Rattle.parallel_judge.specs.Working.{truth_of, AreRunnable, IsHonestRun, row_lengths}
+
+-- the names of the hosts, of which there are at most 16
+abbrev pub all_hosts : List (List ℕ)
+all_hosts =
+    codes "h1" ∷ codes "h2" ∷ codes "h3" ∷ codes "h4" ∷ codes "h5" ∷ codes "h6" ∷ codes "h7" ∷ codes "h8"
+    ∷ codes "h9" ∷ codes "h10" ∷ codes "h11" ∷ codes "h12" ∷ codes "h13" ∷ codes "h14" ∷ codes "h15" ∷ codes "h16" ∷ []
+
+-- the host of this number, from 1, has the name
+abbrev pub IsNamed : ℕ → List ℕ → Type 0
+IsNamed number name = slice_get all_hosts (number - 1) ≡ Some name
+
+-- the host of this number enters such an event: a claim or a result of its own
+abbrev pub IsOfHost : ℕ → Event → Type 0
+IsOfHost number (event.Claim host) = IsNamed number host
+IsOfHost number (event.Result host j test kind) = IsNamed number host
+IsOfHost number e = ⊥
 
 -- what a host enters: it claims, and what it gives as a task's result is the value of the task's case
 abbrev pub IsHostEvent : (Task → Option TestCase) → Event → Type 0

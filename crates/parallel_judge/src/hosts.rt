@@ -7,14 +7,13 @@ ghost use Rattle.farm_board.specs.BoardState.{BoardState};
 ghost use Rattle.farm_board.specs.Histories.{IsOpening};
 ghost use Rattle.farm_board.specs.declared.entries.Call.{Call};
 ghost use Rattle.farm_board.specs.Passes.{PassValue};
-ghost use Rattle.parallel_judge.specs.Hosts.{HostJob as HostJobValue};
-ghost use Rattle.parallel_judge.specs.Hosts.{host_names, admits_of, share, IsBeside, IsReadyJob, IsDoneJob, IsDonePass, job_numbers, pass_numbers};
+ghost use Rattle.parallel_judge.specs.Hosts.{host_names, admits_of, share, IsBeside, IsReadyPass, IsDoneFrom, IsDonePass, pass_numbers};
 ghost use Rattle.parallel_judge.specs.Journal.{KeepsJournal};
 ghost use Rattle.parallel_judge.specs.Table.{tests_for};
 ghost use Rattle.parallel_judge.specs.UnderWay.{IsUnderWay};
 
 use crate::entering::enter_contest;
-use crate::names::host_name;
+use crate::names::{host_name, host_number};
 use crate::noted::NotedFarm;
 use case_run::{Case, run_case};
 use contest_folder::Roster;
@@ -32,9 +31,6 @@ const FUEL: u64 = 1 << 32;
 
 /// How many calls of the board the pass of a host may make: a claim and a result in each turn.
 const SHARE: u64 = 1 << 33;
-
-/// The pass of a host, and the host's number.
-type HostJob<A> = (Pass<A>, u16);
 
 /// Enters the contest into a farm, lets so many hosts work at the same time, and gives the farm once all have stopped.
 pub(crate) fn run_hosts<A: Admission + Send + Sync, R: Threads + Wait + Sync, G: Gate + Sync>(
@@ -60,9 +56,9 @@ pub(crate) fn run_hosts<A: Admission + Send + Sync, R: Threads + Wait + Sync, G:
         journal,
     )?;
     enter_contest(rt, &board, &mut pass, roster, hosts)?;
-    let jobs = split_passes(rt, alloc, &board, &mut pass, hosts)?;
-    let passes = run_jobs(rt, alloc, &board, gate, jobs)?;
-    join_passes(rt, &board, &mut pass, passes);
+    let begun = split_passes(rt, alloc, &board, &mut pass, hosts)?;
+    let ended = run_passes(rt, alloc, &board, gate, begun)?;
+    join_passes(rt, &board, &mut pass, ended);
     let _ = pass.is_alone();
     let (farm, history) = board.close(pass);
     Ok(NotedFarm { farm, history })
@@ -75,64 +71,67 @@ fn split_passes<W: Wait, R: Trust + Drop, A: Admission>(
     board: &Board<R, A>,
     pass: &mut Pass<A>,
     hosts: u16,
-) -> Result<Vec<HostJob<A>>, NoMemory>
+) -> Result<Vec<Pass<A>>, NoMemory>
     requires board { pass.old.board ≡ board.now.id }
     requires hosts { hosts ≤ 16 }
     requires spare { hosts ≤ pass.old.spare }
     requires left { 16 * (share + 1) ≤ pass.old.left }
     ensures beside { (case_at : Task → Option TestCase) (start : BoardState) (calls : List Call)
-        → IsBeside case_at start calls [] [] pass.old → IfOk result (λ jobs. IsBeside case_at start calls (job_numbers jobs.items) [] pass.new) }
-    ensures jobs { IfOk result (λ jobs. All (IsReadyJob board.now.id) jobs.items) }
-    ensures len { IfOk result (λ jobs. vec_len jobs ≡ hosts) }
-    ensures spare { IfOk result (λ jobs. pass.new.spare + hosts ≡ pass.old.spare) }
+        → IsBeside case_at start calls [] [] pass.old → IfOk result (λ passes. IsBeside case_at start calls (pass_numbers passes.items) [] pass.new) }
+    ensures ready { IfOk result (λ passes. All (IsReadyPass board.now.id) passes.items) }
+    ensures len { IfOk result (λ passes. vec_len passes ≡ hosts) }
+    ensures spare { IfOk result (λ _. pass.new.spare + hosts ≡ pass.old.spare) }
     ensures left { pass.old.left ≤ pass.new.left + 16 * (share + 1) }
     ensures board { pass.new.board ≡ pass.old.board }
 {
-    let mut jobs = Vec::with_capacity(alloc, usize::from(hosts))?;
-    for host in 0..hosts {
-        jobs.push_reserved((board.split(rt, pass, SHARE), host + 1));
+    let mut passes = Vec::with_capacity(alloc, usize::from(hosts))?;
+    for _host in 0..hosts {
+        passes.push_reserved(board.split(rt, pass, SHARE));
     }
-    Ok(jobs)
+    Ok(passes)
 }
 
 /// Lets the hosts work at the same time, each in a thread of its own where one can be started.
-fn run_jobs<A: Admission + Send + Sync, R: Threads + Wait + Sync, G: Gate + Sync>(
+fn run_passes<A: Admission + Send + Sync, R: Threads + Wait + Sync, G: Gate + Sync>(
     rt: &R,
     alloc: Global,
     board: &Board<Proved<&Roster>, A>,
     gate: &G,
-    jobs: Vec<HostJob<A>>,
+    passes: Vec<Pass<A>>,
 ) -> Result<Vec<Pass<A>>, NoMemory>
-    requires jobs { All (IsReadyJob board.now.id) jobs.items }
-    ensures len { IfOk result (λ passes. vec_len passes ≡ vec_len jobs) }
-    ensures numbers { IfOk result (λ passes. (k : ℕ) (job : HostJobValue) (pass : PassValue) → k < length jobs.items
-        → (slice_index_or passes.items k pass).number ≡ (slice_index_or jobs.items k job).0.number) }
-    ensures passes { IfOk result (λ passes. All (IsDonePass (case_at board.now.trust.cases.now) board.now.id) passes.items) }
+    requires passes { All (IsReadyPass board.now.id) passes.items }
+    ensures len { IfOk result (λ ended. vec_len ended ≡ vec_len passes) }
+    ensures numbers { IfOk result (λ ended. (k : ℕ) (begun pass : PassValue) → k < length passes.items
+        → (slice_index_or ended.items k pass).number ≡ (slice_index_or passes.items k begun).number) }
+    ensures passes { IfOk result (λ ended. All (IsDonePass (case_at board.now.trust.cases.now) board.now.id) ended.items) }
 {
-    let passes = thread::map_vec(
+    let ended = thread::map_vec(
         rt,
-        jobs,
-        &|job: HostJob<A>| -> Pass<A>
-            requires { IsReadyJob board.now.id job }
-            ensures { IsDoneJob (case_at board.entry.now.trust.cases.now) board.entry.now.id job result }
-        { run_job(rt, alloc, board, gate, job) },
+        passes,
+        &|pass: Pass<A>| -> Pass<A>
+            requires { IsReadyPass board.now.id pass }
+            ensures { IsDoneFrom (case_at board.entry.now.trust.cases.now) board.entry.now.id pass result }
+        { run_pass(rt, alloc, board, gate, pass) },
     )?;
-    Ok(passes)
+    Ok(ended)
 }
 
-/// One host at work, until no task is open, its gate lets it die, or it is refused. Where there is no memory for what
-/// runs its cases, it does nothing.
-fn run_job<A: Admission, W: Wait, G: Gate>(
+/// The host of the pass's number at work, until no task is open, its gate lets it die, or it is refused. Where there is
+/// no memory for what runs its cases, it does nothing.
+fn run_pass<A: Admission, W: Wait, G: Gate>(
     rt: &W,
     alloc: Global,
     board: &Board<Proved<&Roster>, A>,
     gate: &G,
-    job: HostJob<A>,
+    pass: Pass<A>,
 ) -> Pass<A>
-    requires { IsReadyJob board.now.id job }
-    ensures { IsDoneJob (case_at board.now.trust.cases.now) board.now.id job result }
+    requires { IsReadyPass board.now.id pass }
+    ensures { IsDoneFrom (case_at board.now.trust.cases.now) board.now.id pass result }
 {
-    let (pass, number) = job;
+    // The passes of a contest's hosts have the numbers from 1 to 16.
+    let Some(number) = host_number(pass.number()) else {
+        return pass;
+    };
     let Ok(run) = Box::new(
         alloc,
         move |case: &Case<'_>| -> Result<Kind, NoMemory>
@@ -145,7 +144,7 @@ fn run_job<A: Admission, W: Wait, G: Gate>(
     let runner = Runner::new(run);
     let mut bench = LocalBench::new(rt, board, pass, host_name(number));
     // Whatever ended it, what it left is done by the caller.
-    let _ = host_loop(&runner, &mut bench, gate, number as u32, FUEL);
+    let _ = host_loop(&runner, &mut bench, gate, u32::from(number), FUEL);
     bench.end()
 }
 

@@ -1,5 +1,5 @@
-ghost use Rattle.std.specs.Prelude.{◌≡◌, ◌≤◌, ◌-◌, Some, slice_get, codes};
-ghost use Rattle.parallel_judge.specs.Hosts.{all_hosts};
+ghost use Rattle.std.specs.Prelude.{◌≡◌, ◌≤◌, ◌-◌, Some, IfSome, slice_get, codes};
+ghost use Rattle.parallel_judge.specs.UnderWay.{all_hosts};
 
 use farm_kinds::Name;
 
@@ -9,6 +9,16 @@ pub(crate) fn host_name(number: u16) -> Name
     ensures { slice_get all_hosts (number - 1) ≡ Some result }
 {
     Name::read(host_word(number)).unwrap_or(Name::jury())
+}
+
+/// The number of the host that works by the pass of this number, which is the same. There is none where no host does.
+pub(crate) fn host_number(pass: u64) -> Option<u16>
+    ensures { IfSome result (λ number. (number ≡ pass) × (1 ≤ number) × (number ≤ 16)) }
+{
+    match u16::try_from(pass) {
+        Ok(number @ 1..=16) => Some(number),
+        _ => None,
+    }
 }
 
 fn host_word(number: u16) -> &'static [u8]

@@ -1,6 +1,13 @@
-use Rattle.std.proofs.Common.{ℕ, ◌≡◌, ◌++◌, ◌∷◌, [], List, sym, ap, ◌∙◌, subst, arith}
+use Rattle.std.proofs.Common.{ℕ, ◌≡◌, ◌++◌, ◌∷◌, [], List, Option, All, map-id, sym, ap, ◌∙◌, subst, arith}
 use Rattle.std.proofs.lemmas.List.{map-append, append_assoc, length-append}
-use Rattle.farm_board.specs.Passes.{PassValue}
+use Rattle.std.proofs.lemmas.Iterator.Adapters.{YieldsList-from_vec}
+use Rattle.std.proofs.lemmas.Iterator.Consumers.{YieldsList-end}
+use Rattle.farm_kinds.specs.declared.outcomes.Task.{Task}
+use Rattle.case_run.specs.Cases.{TestCase}
+use Rattle.farm_board.specs.BoardState.{BoardState}
+use Rattle.farm_board.specs.Histories.{IsOpening}
+use Rattle.farm_board.specs.declared.entries.Call.{Call}
+use Rattle.farm_board.specs.Passes.{BoardId, PassValue}
 use Rattle.parallel_judge.specs.Hosts.{IsBeside, IsDonePass, pass_numbers}
 use Rattle.parallel_judge.proofs.Beside.{joins_beside, all_but_last, all_last}
 use Rattle.parallel_judge.proofs.hosts.join_passes.Goals as goal
@@ -29,3 +36,19 @@ loop-from-preserved g c =
       board = t.board ∙ c.loop-from.invariant.board;
       left = omega (arith, left_before, left_now, len);
     }
+
+-- these passes have been taken in
+abbrev IsJoinedBy : BoardId → PassValue → PassValue → List PassValue → Type 0
+IsJoinedBy board old new passes =
+    (case_at : Task → Option TestCase) (start : BoardState) (calls : List Call) (split joined : List ℕ) → IsOpening start → All (IsDonePass case_at board) passes
+    → IsBeside case_at start calls split joined old → IsBeside case_at start calls split (joined ++ pass_numbers passes) new
+
+pub returns-clause-beside : goal.returns-clause-beside
+returns-clause-beside g c =
+    let gives = c.into_iter-from-iterator.ensures.into_iter_gives in
+    let passes = c.args.passes.items in
+    let counted = gives.1 in
+    let len = c.args.passes.ok in
+    let end = YieldsList-end (YieldsList-from_vec passes gives.0 (omega (arith, counted, len))) c.loop-from.yielded c.loop-from.from-iterator c.loop-from.yielded_by c.next.result c.next.new.self c.in-None.is c.next.ensures.steps in
+    let all : c.loop-from.yielded ≡ passes = sym (map-id c.loop-from.yielded) ∙ end.0 in
+    subst (IsJoinedBy c.args.board.now.id c.args.pass.now c.loop-from.pass) all c.loop-from.invariant.beside

@@ -13,7 +13,7 @@ use Rattle.farm_board.specs.Passes.{BoardId, PassValue, opening_pass}
 use Rattle.farm_board.specs.declared.entries.Call.{Call}
 use Rattle.farm_board.specs.Trusts.{is_value_of}
 use Rattle.farm_board.specs.declared.trust.Proved.{Proved}
-use Rattle.parallel_judge.specs.Hosts.{HostJob, host_names, with_hosts, HasEntered, IsBeside, IsDonePass, job_numbers, pass_numbers}
+use Rattle.parallel_judge.specs.Hosts.{host_names, with_hosts, HasEntered, IsBeside, IsDonePass, pass_numbers}
 use Rattle.parallel_judge.specs.Journal.{KeepsJournal}
 use Rattle.parallel_judge.specs.Table.{tests_for, named_problem, named_submission}
 use Rattle.parallel_judge.specs.UnderWay.{IsUnderWay}
@@ -39,14 +39,14 @@ record Known (roster : RosterValue) (hosts : ℕ) (journal : Bool) (entered pass
   numbers : List ℕ
   beside : IsBeside (case_at roster) (opening_board (start roster.settings) (hosts + 1) journal) has.calls numbers numbers pass
 
-known : (roster : RosterValue) (hosts : ℕ) (journal : Bool) (board : BoardId) (farm : State) (pass0 entered split pass : PassValue) (jobs : List HostJob) (passes : List PassValue)
+known : (roster : RosterValue) (hosts : ℕ) (journal : Bool) (board : BoardId) (farm : State) (pass0 entered split pass : PassValue) (started passes : List PassValue)
     → hosts ≤ 16 → farm ≡ start roster.settings → pass0 ≡ opening_pass board (opening_board farm (hosts + 1) journal)
     → ((s : BoardState) → IsOpening s → HasEntered s [] pass0 → HasEntered s (with_hosts roster hosts) entered)
-    → ((s : BoardState) (calls : List Call) → IsBeside (case_at roster) s calls [] [] entered → IsBeside (case_at roster) s calls (job_numbers jobs) [] split)
+    → ((s : BoardState) (calls : List Call) → IsBeside (case_at roster) s calls [] [] entered → IsBeside (case_at roster) s calls (pass_numbers started) [] split)
     → ((s : BoardState) (calls : List Call) (ns joined : List ℕ) → IsOpening s → IsBeside (case_at roster) s calls ns joined split
     → IsBeside (case_at roster) s calls ns (joined ++ pass_numbers passes) pass)
-    → pass_numbers passes ≡ job_numbers jobs → Known roster hosts journal entered pass
-known roster hosts journal board farm pass0 entered split pass jobs passes few same opened enters splits joins numbers =
+    → pass_numbers passes ≡ pass_numbers started → Known roster hosts journal entered pass
+known roster hosts journal board farm pass0 entered split pass started passes few same opened enters splits joins numbers =
     let s : BoardState = opening_board (start roster.settings) (hosts + 1) journal in
     let o : IsOpening s = record { out = refl; given = refl; seats = omega (arith, few) } in
     let begun : pass0 ≡ opening_pass board s = opened ∙ ap (λ (f : State). opening_pass board (opening_board f (hosts + 1) journal)) same in
@@ -54,11 +54,11 @@ known roster hosts journal board farm pass0 entered split pass jobs passes few s
     let has = enters s o nothing in
     let alone = nothing_beside (case_at roster) s (with_hosts roster hosts) entered has in
     let out = splits s has.calls alone in
-    let back = joins s has.calls (job_numbers jobs) [] o out in
+    let back = joins s has.calls (pass_numbers started) [] o out in
     record {
       has = has;
-      numbers = job_numbers jobs;
-      beside = subst (λ (ns : List ℕ). IsBeside (case_at roster) s has.calls (job_numbers jobs) ns pass) numbers back;
+      numbers = pass_numbers started;
+      beside = subst (λ (ns : List ℕ). IsBeside (case_at roster) s has.calls (pass_numbers started) ns pass) numbers back;
     }
 
 -- ---- the calls of this function
@@ -74,16 +74,16 @@ ended g c =
     let roster = c.args.roster.now in
     let at = case_at roster in
     let done = same_cases c.in_ok-board.board.trust.cases c.args.roster (ap (λ (t : Proved (Bor RosterValue)). t.cases) c.in_ok-board.ensures.trust ∙ c.new.ensures)
-    c.in_ok-passes.passes.items c.in_ok-board.board.id c.in_ok-passes.ensures.passes in
-    let len = c.in_ok-passes.ensures.len in
-    let jobs = c.in_ok-jobs.jobs.ok in
-    let passes = c.in_ok-passes.passes.ok in
+    c.in_ok-ended.ended.items c.in_ok-board.board.id c.in_ok-ended.ensures.passes in
+    let len = c.in_ok-ended.ensures.len in
+    let begun = c.in_ok-begun.begun.ok in
+    let ended = c.in_ok-ended.ended.ok in
     known roster c.args.hosts c.args.journal c.in_ok-board.board.id c.new-farm.result c.in_ok-board.pass c.enter_contest.new.pass c.split_passes.new.pass c.join_passes.new.pass
-    c.in_ok-jobs.jobs.items c.in_ok-passes.passes.items c.requires.hosts (c.new-farm.ensures ∙ ap start (c.in_ok-copy.ensures ∙ c.settings.ensures.settings)) c.in_ok-board.ensures.pass
+    c.in_ok-begun.begun.items c.in_ok-ended.ended.items c.requires.hosts (c.new-farm.ensures ∙ ap start (c.in_ok-copy.ensures ∙ c.settings.ensures.settings)) c.in_ok-board.ensures.pass
     (λ s o h. c.in_ok-enter_contest.ensures.entered s o h)
-    (λ s calls b. c.in_ok-jobs.ensures.beside at s calls b)
+    (λ s calls b. c.in_ok-begun.ensures.beside at s calls b)
     (λ s calls ns joined o b. c.join_passes.ensures.beside at s calls ns joined o done b)
-    (same_numbers c.in_ok-passes.passes.items c.in_ok-jobs.jobs.items (omega (arith, len, jobs, passes)) c.in_ok-passes.ensures.numbers)
+    (same_numbers c.in_ok-ended.ended.items c.in_ok-begun.begun.items (omega (arith, len, begun, ended)) c.in_ok-ended.ensures.numbers)
 
 -- the same once the board is closed
 closed : (g : Over) (c : After-close-farm g) → Known c.args.roster.now c.args.hosts c.args.journal c.enter_contest.new.pass c.join_passes.new.pass
@@ -91,16 +91,16 @@ closed g c =
     let roster = c.args.roster.now in
     let at = case_at roster in
     let done = same_cases c.in_ok-board.board.trust.cases c.args.roster (ap (λ (t : Proved (Bor RosterValue)). t.cases) c.in_ok-board.ensures.trust ∙ c.new.ensures)
-    c.in_ok-passes.passes.items c.in_ok-board.board.id c.in_ok-passes.ensures.passes in
-    let len = c.in_ok-passes.ensures.len in
-    let jobs = c.in_ok-jobs.jobs.ok in
-    let passes = c.in_ok-passes.passes.ok in
+    c.in_ok-ended.ended.items c.in_ok-board.board.id c.in_ok-ended.ensures.passes in
+    let len = c.in_ok-ended.ensures.len in
+    let begun = c.in_ok-begun.begun.ok in
+    let ended = c.in_ok-ended.ended.ok in
     known roster c.args.hosts c.args.journal c.in_ok-board.board.id c.new-farm.result c.in_ok-board.pass c.enter_contest.new.pass c.split_passes.new.pass c.join_passes.new.pass
-    c.in_ok-jobs.jobs.items c.in_ok-passes.passes.items c.requires.hosts (c.new-farm.ensures ∙ ap start (c.in_ok-copy.ensures ∙ c.settings.ensures.settings)) c.in_ok-board.ensures.pass
+    c.in_ok-begun.begun.items c.in_ok-ended.ended.items c.requires.hosts (c.new-farm.ensures ∙ ap start (c.in_ok-copy.ensures ∙ c.settings.ensures.settings)) c.in_ok-board.ensures.pass
     (λ s o h. c.in_ok-enter_contest.ensures.entered s o h)
-    (λ s calls b. c.in_ok-jobs.ensures.beside at s calls b)
+    (λ s calls b. c.in_ok-begun.ensures.beside at s calls b)
     (λ s calls ns joined o b. c.join_passes.ensures.beside at s calls ns joined o done b)
-    (same_numbers c.in_ok-passes.passes.items c.in_ok-jobs.jobs.items (omega (arith, len, jobs, passes)) c.in_ok-passes.ensures.numbers)
+    (same_numbers c.in_ok-ended.ended.items c.in_ok-begun.begun.items (omega (arith, len, begun, ended)) c.in_ok-ended.ensures.numbers)
 
 no_spare : (board : BoardId) (at : Task → Option TestCase) (passes : List PassValue) → All (IsDonePass at board) passes → All (λ (p : PassValue). p.spare ≡ 0) passes
 no_spare board at passes h = all_turned (IsDonePass at board) (λ (p : PassValue). p.spare ≡ 0) (λ p d. d.spare) passes h
@@ -111,11 +111,11 @@ close-farm-requires-clause-alone g c =
     let seats : c.join_passes.new.pass.start.seats ≡ c.args.hosts + 1 = ap (λ (s : BoardState). s.seats) e.beside.begins in
     let opened : c.in_ok-board.pass.spare ≡ c.args.hosts + 1 - 1 = ap (λ (p : PassValue). p.spare) c.in_ok-board.ensures.pass in
     let entered = c.enter_contest.ensures.spare in
-    let split = c.in_ok-jobs.ensures.spare in
-    let jobs = c.in_ok-jobs.ensures.len in
-    let passes = c.in_ok-passes.ensures.len in
-    let joined = c.join_passes.ensures.spare (no_spare _ _ c.in_ok-passes.passes.items c.in_ok-passes.ensures.passes) in
-    c.is_alone.ensures.alone (c.is_alone.ensures.spare (omega (arith, seats, opened, entered, split, jobs, passes, joined)))
+    let split = c.in_ok-begun.ensures.spare in
+    let begun = c.in_ok-begun.ensures.len in
+    let ended = c.in_ok-ended.ensures.len in
+    let joined = c.join_passes.ensures.spare (no_spare _ _ c.in_ok-ended.ended.items c.in_ok-ended.ensures.passes) in
+    c.is_alone.ensures.alone (c.is_alone.ensures.spare (omega (arith, seats, opened, entered, split, begun, ended, joined)))
 
 pub returns-clause-under_way : goal.returns-clause-under_way
 returns-clause-under_way g c =

@@ -3,20 +3,15 @@ use Prim.Native.Nat.{ℕ}
 use denote.Exit.{no}
 use denote.RattleType.{RattleType}
 use denote.Param.{param}
-use denote.Param.Send.{IsSend, IsSync, sendable, param_send, param_sync, arg_send, arg_sync, recorded_send, recorded_sync, struct_send, struct_sync, shr_sync}
+use denote.Param.Send.{IsSync, sendable, param_send, param_sync, arg_send, arg_sync, recorded_sync, struct_sync, shr_sync}
 use denote.Struct.Declared as declared
-use denote.Struct.Field.{u16-field}
 use denote.Struct.Tuple.{TupleAt, type_at}
 use Rattle.std.proofs.Crossing.{crosses}
 use Rattle.std.specs.contracts.alloc.Global as heap
 use Rattle.contest_folder.specs.contracts.roster.Roster as roster
 use Rattle.farm_board.specs.contracts.trust.Proved as proved
 use Rattle.farm_board.proofs.Sending.{pass_sends, board_sync}
-use Rattle.parallel_judge.proofs.hosts.run_jobs.Goals as goal
-
--- a pass and a number go to a thread together
-pair_send : (name : List ℕ) (Q R : RattleType) → IsSend Q → IsSend R → IsSend (TupleAt name (Q ∷ R ∷ []))
-pair_send name Q R q r = recorded_send _ _ _ (type_at name (Q ∷ R ∷ [])).to_one (struct_send (declared.shape (type_at name (Q ∷ R ∷ []))) (q, (r, tt)))
+use Rattle.parallel_judge.proofs.hosts.run_passes.Goals as goal
 
 -- four things that a closure holds are shared together
 four_sync : (name : List ℕ) (P Q R S : RattleType) → IsSync P → IsSync Q → IsSync R → IsSync S → IsSync (TupleAt name (P ∷ Q ∷ R ∷ S ∷ []))
@@ -32,11 +27,8 @@ roster_sync = search (sendable, crosses) depth 60 fits 100000
 proved_sync : (C : RattleType) → IsSync C → IsSync (proved.the_row C)
 proved_sync C c = search (sendable, crosses) depth 60 fits 100000
 
-number_send : IsSend (u16-field).row
-number_send = search sendable
-
 pub map_vec-requires-send-J : goal.map_vec-requires-send-J
-map_vec-requires-send-J g c κs within = param_send 1 _ (arg_send _ no _ (pair_send _ _ _ (pass_sends (param 0 g.row.A) g.A.Admission c.type_bounds.send-A) number_send))
+map_vec-requires-send-J g c κs within = param_send 1 _ (arg_send _ no _ (pass_sends (param 0 g.row.A) g.A.Admission c.type_bounds.send-A))
 
 pub map_vec-requires-send-X : goal.map_vec-requires-send-X
 map_vec-requires-send-X g c κs within = param_send 2 _ (arg_send _ no _ (pass_sends (param 0 g.row.A) g.A.Admission c.type_bounds.send-A))
