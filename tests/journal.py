@@ -6,9 +6,9 @@
 PROGRAM is the built program, `crates/farm/out/farm` of this repository if none is given. The contests are the example, the
 realistic one, and as many as are said of those that `judge_random.py` draws, each judged by 0 to 16 hosts. A journal
 stands behind the table, which is what is written without it. Its lines are fed to `farm script`, by the contest's
-settings, whose replies must be those of the journal. And a host must have entered nothing but claims and results of the
-tests that it was handed, each once, the last verdicts must be those of the table, and no task may be open. The status is 1 where one
-of these is not so.
+settings, whose replies must be those of the journal. And pass 1 must have entered nothing but claims of host h1 and
+results of the tests that it was handed, each once, and so on; the last verdicts must be those of the table, and no task
+may be open. The status is 1 where one of these is not so.
 """
 
 import os
@@ -50,7 +50,7 @@ def calls_of(journal):
 
 def host_fault(calls, hosts):
     """What a host has entered that it should not have, or None."""
-    handed, passes = {}, {}
+    handed = {}
     for number, event, reply in calls:
         if event[0] == "claim":
             if reply[0] == "task":
@@ -62,10 +62,8 @@ def host_fault(calls, hosts):
                 return f"{event} is answered {reply}"
         elif number:
             return f"{event} by a host"
-        if number and passes.setdefault(number, event[1]) != event[1]:
-            return f"pass {number} is of two hosts"
-    if not set(passes.values()) <= {f"h{number}" for number in range(1, hosts + 1)}:
-        return f"hosts {passes}"
+        if number and (number > hosts or event[1] != f"h{number}"):
+            return f"{event} by pass {number} of {hosts}"
     return None
 
 
