@@ -1,13 +1,14 @@
-ghost use Rattle.std.specs.Prelude.{◌≡◌, ◌≢◌, ◌⊎◌, ◌≤◌, ℕ, Option, List, Ok};
+ghost use Rattle.std.specs.Prelude.{◌≡◌, ◌≢◌, ◌⊎◌, ◌≤◌, ℕ, Option, List, Ok, Err, true, false};
 ghost use Rattle.farm_io.specs.Doors.{DoesListen};
 ghost use Rattle.farm_io.specs.Streams.{Rose};
 ghost use Rattle.farm_tree.specs.declared.reads.TreeFile.{TreeFile};
 ghost use Rattle.farm_api.specs.Exchanges.{around_of};
 ghost use Rattle.contest_server.specs.Visits.{watch};
-ghost use Rattle.judge_commands.specs.Judged.{ContestIs, HasContest};
+ghost use Rattle.contest_folder.specs.Telling.{IsStop};
+ghost use Rattle.judge_commands.specs.Judged.{ContestIs, HasContest, NoContestEnds};
 ghost use Rattle.farm_cli.specs.ServedContest.{DoorUse, ServeEnds, exit_of};
 
-use contest_folder::Roster;
+use contest_folder::{ContestFault, Roster};
 use contest_notes::read_told_contest;
 use contest_server::{ServeEnd, serve_contest};
 use exit_status::Exit;
@@ -22,6 +23,9 @@ use std::thread::Threads;
 /// `farm serve`: serves the contest in the folder to at most `connections` connections that come where the door is to
 /// listen, at most `lanes` of them at the same time. A line is written for each connection, and behind them the board.
 /// The person is told what of the folder is skipped, and why it is no contest.
+///
+/// Where the tree fails while notes on the folder are looked for, they are left out; if memory for the line of its fault
+/// runs out behind that, the failure is the end, since it came first.
 pub fn serve<R: Threads + Wait + Sync, T: Tree, K: Sink, C: Clock + Sync, D: Door, P: Person>(
     rt: &R,
     alloc: Global,
@@ -48,16 +52,37 @@ where
     ensures write_fault { result ≡ Exit.WriteFault → Rose (K.faults out.old) (K.faults out.new) }
     ensures tree_fault { result ≡ Exit.TreeFault → Rose (T.faults tree.old) (T.faults tree.new) }
     ensures door_fault { result ≡ Exit.DoorFault → Rose (D.faults door.old) (D.faults door.new) }
-    // A door that cannot listen is not told as want of memory.
-    ensures first { result ≡ Exit.Memory → (D.faults door.new ≡ D.faults door.old) ⊎ DoesListen (D.state door.new) }
+    // A folder that cannot be read, and a door that cannot listen, are not told as want of memory.
+    ensures first { result ≡ Exit.Memory
+        → ((T.faults tree.new ≡ T.faults tree.old) × (D.faults door.new ≡ D.faults door.old)) ⊎ DoesListen (D.state door.new) }
     ensures complete { HasContest (T.files tree.old) folder.now
         → ¬ Rose (T.faults tree.old) (T.faults tree.new) → ¬ Rose (D.faults door.old) (D.faults door.new) → ¬ Rose (K.faults out.old) (K.faults out.new)
         → (result ≡ Exit.Done) ⊎ (result ≡ Exit.Memory) }
 {
+    let faults = tree.fault_count();
     match read_told_contest(alloc, tree, folder, "nobody was served", person) {
         Ok(roster) => serve_roster(rt, alloc, &roster, at, lanes, connections, out, clock, door),
-        Err(fault) => refuse_contest(alloc, &fault, out),
+        Err(fault) => refuse(alloc, &fault, tree.fault_count() > faults, out),
     }
+}
+
+/// Ends where the folder is no contest, or could not be read. Where its tree has failed and memory runs out behind that,
+/// the failure is the end.
+fn refuse<K: Sink>(alloc: Global, fault: &ContestFault, has_failed: bool, out: &mut K) -> Exit
+    ensures command { result ≢ Exit.Usage }
+    ensures read_fault { result ≢ Exit.ReadFault }
+    ensures door_fault { result ≢ Exit.DoorFault }
+    ensures tree { result ≡ Exit.TreeFault → (fault.now ≡ ContestFault.Tree) ⊎ (has_failed ≡ true) }
+    ensures first { result ≡ Exit.Memory → has_failed ≡ false }
+    ensures write_fault { result ≡ Exit.WriteFault → Rose (K.faults out.old) (K.faults out.new) }
+    ensures ends { (files : Option (List TreeFile)) (folder : List ℕ) → (¬ IsStop fault.now → ContestIs files folder (Err fault.now))
+        → NoContestEnds files folder (K.held out.old) (K.held out.new) (out.new ≡ out.old) result }
+{
+    let exit = refuse_contest(alloc, fault, out);
+    if exit == Exit::Memory && has_failed {
+        return Exit::TreeFault;
+    }
+    exit
 }
 
 /// Listens, and serves a contest to the connections that come.
