@@ -1,5 +1,5 @@
 -- How a job's output is checked.
-use Rattle.std.specs.Prelude.{◌≡◌, ⊤, Result, Ok, Err}
+use Rattle.std.specs.Prelude.{Result, Ok, Err}
 use Rattle.case_run.specs.Cases.{Checking, ByDefault, ByProgram}
 use Rattle.wire_job.specs.declared.job.OwnCheck.{OwnCheck}
 use Rattle.wire_job.specs.declared.job.OwnCheck.TheVariants as own

@@ -1,5 +1,5 @@
 -- The fields of a job, and which values they take.
-use Rattle.std.specs.Prelude.{◌≡◌, ⊤, ℕ, ℤ, List, codes, Bool, Option, Some, None, option_map, option_and_then, if◌then◌else◌, Result, Ok, Err}
+use Rattle.std.specs.Prelude.{◌≡◌, ⊤, ℕ, ℤ, List, codes, Option, Some, None, option_map, option_and_then, if◌then◌else◌, Result, Ok, Err}
 use Rattle.std.specs.Str.{bytes_eq}
 use Rattle.base64.specs.GeneralPurpose.{decode_of}
 use Rattle.base64.specs.Engines.{standard}
@@ -7,7 +7,6 @@ use Rattle.base64.specs.declared.decode.DecodeError.{DecodeError}
 use Rattle.serde_json.specs.Data.{Data, null, boolean, number, string, array, object}
 use Rattle.serde_json.specs.Find.{get, as_str, as_bool}
 use Rattle.default_validator.specs.declared.flags.Flags.{Flags}
-use Rattle.wire_json.specs.Fields.{whole_in, number_in}
 use Rattle.wire_job.specs.declared.faults.JobField.{JobField}
 use Rattle.wire_job.specs.declared.faults.JobField.TheVariants as field
 use Rattle.wire_job.specs.declared.faults.JobFault.{JobFault}

@@ -1,7 +1,5 @@
 -- How a job lies in memory.
-use Rattle.case_run.specs.Cases.{Checking, ByDefault, ByProgram, TestCase, CanRun}
-use Rattle.wire_job.specs.declared.job.OwnCheck.{OwnCheck}
-use Rattle.wire_job.specs.declared.job.OwnCheck.TheVariants as own
+use Rattle.case_run.specs.Cases.{TestCase, CanRun}
 use Rattle.wire_job.specs.declared.job.Job.TheInside.{Inside}
 use Rattle.wire_job.specs.JobValue.{JobValue}
 use Rattle.wire_job.specs.Checks.{own_checking}

@@ -1,11 +1,11 @@
 -- What a body says as a job. The fields are looked at in this order; others are ignored.
-use Rattle.std.specs.Prelude.{ℕ, List, Bool, true, ◌&&◌, Option, Some, None, is_none, if◌then◌else◌, codes, Result, Ok, Err}
+use Rattle.std.specs.Prelude.{ℕ, List, Bool, true, Option, Some, None, is_none, if◌then◌else◌, codes, Result, Ok, Err}
 use Rattle.serde_json.specs.Data.{Data}
 use Rattle.farm_kinds.specs.declared.outcomes.Task.{Task}
 use Rattle.farm_kinds.specs.declared.Limits.{Limits}
 use Rattle.farm_kinds.specs.Limits.{is_raw_image}
 use Rattle.default_validator.specs.Accepts.{wide_token_of}
-use Rattle.case_run.specs.Cases.{Checking, ByDefault, ByProgram, TestCase}
+use Rattle.case_run.specs.Cases.{Checking, ByDefault, ByProgram}
 use Rattle.case_run.specs.Images.{is_image}
 use Rattle.wire_json.specs.Fields.{whole_in, number_in}
 use Rattle.wire_json.specs.Bodies.{object_of}
