@@ -1,4 +1,4 @@
-ghost use Rattle.std.specs.Prelude.{◌≡◌, ◌++◌, codes, Some, IfOk, string_bytes};
+ghost use Rattle.std.specs.Prelude.{◌≡◌, ◌++◌, Some, IfOk, OnOk, string_bytes};
 ghost use Rattle.case_run.specs.Cases.{test_case, ByDefault, ByProgram};
 ghost use Rattle.wire_job.specs.Writing.{coded, quoted, units_text, switch_text, flags_with, flags_text, image_field, first_fields, number_fields, last_field, text_with, job_text};
 
@@ -9,17 +9,21 @@ use default_validator::Flags;
 use farm_kinds::{Limits, NoMemory, Task, Text};
 use std::alloc::{AllocError, Global};
 
-/// Bytes in Base64 (RFC 4648, section 4).
-fn coded(alloc: Global, bytes: &[u8]) -> Result<String, AllocError>
-    ensures { IfOk result (λ text. string_bytes text ≡ coded bytes.now) }
+/// No job's keys, numbers and punctuation take more bytes.
+const KEYS: usize = 320;
+
+/// Puts bytes in Base64 (RFC 4648, section 4) behind a text.
+fn push_coded(text: &mut String, bytes: &[u8]) -> Result<(), AllocError>
+    ensures { OnOk result (string_bytes text.new ≡ string_bytes text.old ++ coded bytes.now) }
 {
-    STANDARD.encode(alloc, bytes)
+    STANDARD.encode_string(bytes, text)
 }
 
-/// A text between quotes. It has no byte that would have to be escaped.
-fn quoted(alloc: Global, text: &str) -> Result<String, AllocError>
-    ensures { IfOk result (λ quoted_text. string_bytes quoted_text ≡ quoted text.now) }
+/// Bytes in Base64 between quotes.
+fn quoted(alloc: Global, bytes: &[u8]) -> Result<String, AllocError>
+    ensures { IfOk result (λ text. string_bytes text ≡ quoted (coded bytes.now)) }
 {
+    let text = STANDARD.encode(alloc, bytes)?;
     format!(in alloc; "\"{text}\"")
 }
 
@@ -77,64 +81,40 @@ fn flags_text(alloc: Global, flags: Flags) -> Result<String, AllocError>
     )
 }
 
-/// The field `image` of this text.
-fn image_with(alloc: Global, image: &str) -> Result<String, AllocError>
-    ensures { IfOk result (λ text. string_bytes text ≡ codes ",\"image\":\"" ++ (image.now ++ codes "\"")) }
+/// Puts the field `image` behind a text, where it is asked for.
+fn push_image(text: &mut String, part: JobPart, image: &[u8]) -> Result<(), AllocError>
+    ensures { OnOk result (string_bytes text.new ≡ string_bytes text.old ++ image_field part image.now) }
 {
-    format!(in alloc; ",\"image\":\"{image}\"")
-}
-
-/// The field `image`, where it is asked for.
-fn image_field(alloc: Global, part: JobPart, image: &[u8]) -> Result<String, AllocError>
-    ensures { IfOk result (λ text. string_bytes text ≡ image_field part image.now) }
-{
-    match part {
-        JobPart::Whole => {
-            let image = coded(alloc, image)?;
-            image_with(alloc, image.as_str())
-        }
-        JobPart::Rest => Ok(String::new(alloc)),
+    if part == JobPart::Whole {
+        text.push_str(",\"image\":\"")?;
+        push_coded(text, image)?;
+        text.push_str("\"")?;
     }
+    Ok(())
 }
 
-/// The fields from `answer` to `input`, of which `image` is the whole field.
-fn first_fields(
-    alloc: Global,
-    answer: &str,
-    check: &str,
-    flags: &str,
-    image: &str,
-    input: &str,
-) -> Result<String, AllocError>
-    ensures { IfOk result (λ text. string_bytes text ≡ first_fields answer.now check.now flags.now image.now input.now) }
-{
-    format!(in alloc;
-        "{{\"answer\":\"{answer}\",\"check\":\"{check}\",\"flags\":{flags}{image},\"input\":\"{input}\""
-    )
-}
-
-/// The same of a case, with this check and these flags.
-fn case_fields(
-    alloc: Global,
+/// Puts the fields from `answer` to `input` of a case behind a text, with this check and these flags.
+fn push_case(
+    text: &mut String,
     part: JobPart,
     case: &Case<'_>,
     check: &str,
     flags: &str,
-) -> Result<String, AllocError>
-    ensures { IfOk result (λ text. let c = test_case case.now in
-        string_bytes text ≡ first_fields (coded c.answer) check.now flags.now (image_field part c.image) (coded c.input)) }
+) -> Result<(), AllocError>
+    ensures { let c = test_case case.now in OnOk result (string_bytes text.new ≡ string_bytes text.old
+        ++ first_fields (coded c.answer) check.now flags.now (image_field part c.image) (coded c.input)) }
 {
-    let answer = coded(alloc, case.answer)?;
-    let image = image_field(alloc, part, case.image)?;
-    let input = coded(alloc, case.input)?;
-    first_fields(
-        alloc,
-        answer.as_str(),
-        check,
-        flags,
-        image.as_str(),
-        input.as_str(),
-    )
+    text.push_str("{\"answer\":\"")?;
+    push_coded(text, case.answer)?;
+    text.push_str("\",\"check\":\"")?;
+    text.push_str(check)?;
+    text.push_str("\",\"flags\":")?;
+    text.push_str(flags)?;
+    push_image(text, part, case.image)?;
+    text.push_str(",\"input\":\"")?;
+    push_coded(text, case.input)?;
+    text.push_str("\"")?;
+    Ok(())
 }
 
 /// The fields from `instructions` to `test`.
@@ -151,21 +131,32 @@ fn number_fields(alloc: Global, limits: Limits, task: Task) -> Result<String, Al
     )
 }
 
-/// The field `validator`, and the end of the object.
-fn last_field(alloc: Global, validator: &str) -> Result<String, AllocError>
-    ensures { IfOk result (λ text. string_bytes text ≡ last_field validator.now) }
+/// Puts the field `validator` and the end of the object behind a text.
+fn push_validator(text: &mut String, validator: &[u8]) -> Result<(), AllocError>
+    ensures { OnOk result (string_bytes text.new ≡ string_bytes text.old ++ last_field (coded validator.now)) }
 {
-    format!(in alloc; ",\"validator\":\"{validator}\"}}")
+    text.push_str(",\"validator\":\"")?;
+    push_coded(text, validator)?;
+    text.push_str("\"}")?;
+    Ok(())
 }
 
-/// The three texts, one behind the other.
-fn joined(first: String, second: &str, third: &str) -> Result<Vec<u8>, AllocError>
-    ensures { IfOk result (λ text. text.items ≡ string_bytes first ++ (second.now ++ third.now)) }
-{
-    let mut text = first.into_bytes();
-    text.extend_from_slice(second.as_bytes())?;
-    text.extend_from_slice(third.as_bytes())?;
-    Ok(text)
+/// At least as many bytes as these take in Base64.
+fn coded_len(bytes: &[u8]) -> usize {
+    bytes.len() / 3 * 4 + 4
+}
+
+/// At least as many bytes as a job takes, but for its validator.
+fn job_len(part: JobPart, case: &Case<'_>, flags: &str) -> usize {
+    let image = match part {
+        JobPart::Whole => coded_len(case.image),
+        JobPart::Rest => 0,
+    };
+    coded_len(case.answer)
+        .saturating_add(coded_len(case.input))
+        .saturating_add(image)
+        .saturating_add(flags.len())
+        .saturating_add(KEYS)
 }
 
 /// A job whose output is checked by the default output validator.
@@ -179,9 +170,12 @@ fn default_text(
     ensures { IfOk result (λ text. text.items ≡ text_with (ByDefault flags) part task (test_case case.now)) }
 {
     let flags = flags_text(alloc, flags)?;
-    let first = case_fields(alloc, part, case, "default", flags.as_str())?;
     let numbers = number_fields(alloc, case.limits, task)?;
-    joined(first, numbers.as_str(), "}")
+    let mut text = String::with_capacity(alloc, job_len(part, case, flags.as_str()))?;
+    push_case(&mut text, part, case, "default", flags.as_str())?;
+    text.push_str(numbers.as_str())?;
+    text.push_str("}")?;
+    Ok(text.into_bytes())
 }
 
 /// A job whose output is checked by a program.
@@ -195,13 +189,14 @@ fn custom_text(
 ) -> Result<Vec<u8>, AllocError>
     ensures { IfOk result (λ text. text.items ≡ text_with (ByProgram validator.now flags.now) part task (test_case case.now)) }
 {
-    let flags = coded(alloc, flags)?;
-    let flags = quoted(alloc, flags.as_str())?;
-    let first = case_fields(alloc, part, case, "custom", flags.as_str())?;
+    let flags = quoted(alloc, flags)?;
     let numbers = number_fields(alloc, case.limits, task)?;
-    let validator = coded(alloc, validator)?;
-    let last = last_field(alloc, validator.as_str())?;
-    joined(first, numbers.as_str(), last.as_str())
+    let len = job_len(part, case, flags.as_str()).saturating_add(coded_len(validator));
+    let mut text = String::with_capacity(alloc, len)?;
+    push_case(&mut text, part, case, "custom", flags.as_str())?;
+    text.push_str(numbers.as_str())?;
+    push_validator(&mut text, validator)?;
+    Ok(text.into_bytes())
 }
 
 /// The bytes of so much of a job.
