@@ -44,6 +44,8 @@ pub fn judge<R: Threads + Wait + Sync, T: Tree, K: Sink, G: Gate + Sync, P: Pers
     ensures ends { JudgeEnds (T.files tree.old) folder.now hosts journal (K.held out.old) (K.held out.new) (out.new ≡ out.old) result }
     ensures files { T.files tree.new ≡ T.files tree.old }
     ensures write_fault { result ≡ Exit.WriteFault → Rose (K.faults out.old) (K.faults out.new) }
+    // An output that failed is told as nothing else.
+    ensures output { result ≢ Exit.WriteFault → K.faults out.new ≡ K.faults out.old }
     ensures tree_fault { result ≡ Exit.TreeFault → Rose (T.faults tree.old) (T.faults tree.new) }
     ensures first { result ≡ Exit.Memory → T.faults tree.new ≡ T.faults tree.old }
     ensures complete { HasContest (T.files tree.old) folder.now
@@ -78,6 +80,7 @@ fn judge_told<R: Threads + Wait + Sync, T: Tree, K: Sink, G: Gate + Sync, P: Per
     ensures files { T.files tree.new ≡ T.files tree.old }
     ensures later { T.faults tree.old ≤ T.faults tree.new }
     ensures write_fault { result ≡ Exit.WriteFault → Rose (K.faults out.old) (K.faults out.new) }
+    ensures output { result ≢ Exit.WriteFault → K.faults out.new ≡ K.faults out.old }
     ensures tree_fault { result ≡ Exit.TreeFault → Rose (T.faults tree.old) (T.faults tree.new) }
     ensures complete { HasContest (T.files tree.old) folder.now
         → ¬ Rose (T.faults tree.old) (T.faults tree.new) → ¬ Rose (K.faults out.old) (K.faults out.new)
@@ -104,6 +107,7 @@ fn judge_roster<R: Threads + Wait + Sync, K: Sink, G: Gate + Sync, P: Person>(
     ensures ends { (files : Option (List TreeFile)) (folder : List ℕ) → ContestIs files folder (Ok roster.now)
         → JudgeEnds files folder hosts journal (K.held out.old) (K.held out.new) (out.new ≡ out.old) result }
     ensures write_fault { result ≡ Exit.WriteFault → Rose (K.faults out.old) (K.faults out.new) }
+    ensures output { result ≢ Exit.WriteFault → K.faults out.new ≡ K.faults out.old }
     ensures all { (result ≡ Exit.Done) ⊎ (result ≡ Exit.WriteFault) ⊎ (result ≡ Exit.Memory) }
 {
     match report(rt, alloc, roster, hosts, journal, gate, person) {
@@ -154,6 +158,7 @@ pub fn refuse_contest<K: Sink>(alloc: Global, fault: &ContestFault, out: &mut K)
     ensures first { fault.now ≡ ContestFault.Tree → result ≡ Exit.TreeFault }
     ensures memory { fault.now ≡ ContestFault.NoMemory → result ≡ Exit.Memory }
     ensures write_fault { result ≡ Exit.WriteFault → Rose (K.faults out.old) (K.faults out.new) }
+    ensures output { result ≢ Exit.WriteFault → K.faults out.new ≡ K.faults out.old }
     ensures ends { (files : Option (List TreeFile)) (folder : List ℕ) → (¬ IsStop fault.now → ContestIs files folder (Err fault.now))
         → NoContestEnds files folder (K.held out.old) (K.held out.new) (out.new ≡ out.old) result }
 {
@@ -169,6 +174,7 @@ fn write_fault<K: Sink>(alloc: Global, fault: &ContestFault, out: &mut K) -> Exi
     ensures ends { (files : Option (List TreeFile)) (folder : List ℕ) → ContestIs files folder (Err fault.now)
         → NoContestEnds files folder (K.held out.old) (K.held out.new) (out.new ≡ out.old) result }
     ensures write_fault { result ≡ Exit.WriteFault → Rose (K.faults out.old) (K.faults out.new) }
+    ensures output { result ≢ Exit.WriteFault → K.faults out.new ≡ K.faults out.old }
     ensures all { (result ≡ Exit.BadContest) ⊎ (result ≡ Exit.WriteFault) ⊎ (result ≡ Exit.Memory) }
 {
     match line_of(alloc, fault) {

@@ -42,6 +42,8 @@ pub fn make<R: Threads + Wait + Sync, K: Sink, G: Gate + Sync, P: Person>(
     ensures read_fault { result ≢ Exit.ReadFault }
     ensures tree_fault { result ≢ Exit.TreeFault }
     ensures write_fault { result ≡ Exit.WriteFault → Rose (K.faults out.old) (K.faults out.new) }
+    // An output that failed is told as nothing else.
+    ensures output { result ≢ Exit.WriteFault → K.faults out.new ≡ K.faults out.old }
     ensures all { (result ≡ Exit.Done) ⊎ (result ≡ Exit.WriteFault) ⊎ (result ≡ Exit.Memory) }
 {
     match summarize(rt, alloc, number, size, gate, person) {
