@@ -1,5 +1,5 @@
 -- What was served, once the last `board` was asked for, or was not.
-use Rattle.std.proofs.Common.{◌≡◌, ◌≢◌, ℕ, ◌⊎◌, ⊎_elim, inr, true, List, [], ◌++◌, Option, None, Some, refl, sym, ap, subst, arith, append-nil}
+use Rattle.std.proofs.Common.{◌≡◌, ◌≢◌, ◌∙◌, ℕ, ◌⊎◌, ⊎_elim, inr, true, List, [], ◌++◌, Option, None, Some, refl, sym, ap, subst, arith, append-nil}
 use Rattle.std.proofs.lemmas.List.Elements.{All-nil}
 use Rattle.std.specs.Io.KnownBytes.{Appends}
 use Rattle.std.proofs.KnownBytes.{Appends-nil, Appends-trans}
@@ -124,9 +124,12 @@ finished {N} w start events door door' pass own pass' from held held' held'' fau
     subst (λ (z : ServeEnd × Option (List ℕ)). HasServed w start events door door' held z.1 most z.0) (λ i. (sym t.1 i, sym t.2 i))
     (served_without w start events door door' pass own pass' from f.whole held held' most e t.0 o h r number looks f.takes)) f.ends
 
-shown_cause : (door door' out out' out'' : ℕ) (whole last : PassValue) (held' held'' : Option (List ℕ)) (e result : ServeEnd) → HasCauseEnd door door' out out' e → ShowsBoard whole last held' held'' out' out'' result
+done_is_no_fault : (e : ServeEnd) → e ≡ end.Done → e ≢ end.WriteFault
+done_is_no_fault e is fault = let both : end.Done ≡ end.WriteFault = sym is ∙ fault in cc
+
+shown_cause : (door door' out out' out'' : ℕ) (whole last : PassValue) (held' held'' : Option (List ℕ)) (e result : ServeEnd) → e ≡ end.Done → HasCauseEnd door door' out out' e → ShowsBoard whole last held' held'' out' out'' result
     → HasCauseEnd door door' out out'' result
-shown_cause door door' out out' out'' whole last held' held'' e result cause s =
+shown_cause door door' out out' out'' whole last held' held'' e result is cause s =
     let before = cause.out_later in
     let later = s.later in
     record {
@@ -134,12 +137,13 @@ shown_cause door door' out out' out'' whole last held' held'' e result cause s =
       out_later = omega (arith, before, later);
       door_failed = λ is. absurd (s.other is);
       out_failed = λ is. rose_since out out' out'' before (s.failed is);
+      out_kept = λ other. s.kept other ∙ cause.out_kept (done_is_no_fault e is);
     }
 
 pub finished_cause : (door door' out out' out'' : ℕ) (pass from : PassValue) (held' held'' : Option (List ℕ)) (e result : ServeEnd) → HasCauseEnd door door' out out' e → Finishes pass from held' held'' out' out'' e result
     → HasCauseEnd door door' out out'' result
 finished_cause door door' out out' out'' pass from held' held'' e result cause f =
-    ⊎_elim (λ (t : (e ≡ end.Done) × ((last : PassValue) × ShowsBoard f.whole last held' held'' out' out'' result)). shown_cause door door' out out' out'' f.whole t.1.0 held' held'' e result cause t.1.1)
+    ⊎_elim (λ (t : (e ≡ end.Done) × ((last : PassValue) × ShowsBoard f.whole last held' held'' out' out'' result)). shown_cause door door' out out' out'' f.whole t.1.0 held' held'' e result t.0 cause t.1.1)
     (λ (t : (e ≢ end.Done) × (result ≡ e) × (held'' ≡ held') × (out'' ≡ out')). subst (λ (z : ServeEnd × ℕ). HasCauseEnd door door' out z.1 z.0) (λ i. (sym t.1 i, sym t.3 i)) cause) f.ends
 
 pub serves : {N : Type 0} (w : Watch N) (start : BoardState) (events : List Event) (door door' : DoorState N) (held held' : Option (List ℕ)) (most : ℕ) (e : ServeEnd) → HasServed w start events door door' held held' most e

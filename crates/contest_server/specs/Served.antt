@@ -88,6 +88,7 @@ pub record ShowsBoard (old new : PassValue) (held held' : Option (List ℕ)) (fa
   pub other : e ≢ end.DoorFault
   pub later : faults ≤ faults'
   pub failed : e ≡ end.WriteFault → Rose faults faults'
+  pub kept : e ≢ end.WriteFault → faults' ≡ faults
 
 -- the last `board` was asked for where all was done, and else nothing was written
 abbrev pub HasShown : PassValue → Option (List ℕ) → Option (List ℕ) → ℕ → ℕ → ServeEnd → ServeEnd → Type 0

@@ -1,5 +1,5 @@
 -- Where the serving of a contest stands.
-use Rattle.std.specs.Prelude.{◌≡◌, ℕ, ◌+◌, ◌<◌, ◌≤◌, ◌^◌, ◌⊎◌, List, [], ◌∷◌, ◌++◌, length, map, All, Option, None, Some, Result, Ok, Err}
+use Rattle.std.specs.Prelude.{◌≡◌, ◌≢◌, ℕ, ◌+◌, ◌<◌, ◌≤◌, ◌^◌, ◌⊎◌, List, [], ◌∷◌, ◌++◌, length, map, All, Option, None, Some, Result, Ok, Err}
 use Rattle.std.specs.Io.KnownBytes.{Appends}
 use Rattle.farm_io.specs.Doors.{DoorState, DoesListen, IsFresh, IsEmpty}
 use Rattle.farm_io.specs.Streams.{Rose}
@@ -223,12 +223,13 @@ pub record ServesNext {N : Type 0} (w : Watch N) (board : BoardId) (old new : De
   pub told : (o : Opening N) → Tells w o old held n → ToldNext w o new held' n result
 
 -- The count of the door's faults never falls, and rises where it failed. The count of the sink's faults never falls,
--- and rises where a text could not be put.
+-- and rises where a text could not be put, and at nothing else.
 pub record HasCauseNext (door door' out out' : ℕ) (result : Result Coming TextFault) : Type 0 where
   pub door_later : door ≤ door'
   pub out_later : out ≤ out'
   pub door_failed : result ≡ Ok coming.Failed → Rose door door'
   pub out_failed : result ≡ Err fault.WriteFault → Rose out out'
+  pub out_kept : result ≢ Err fault.WriteFault → out' ≡ out
 
 -- n connections came since the desk `first`
 pub record IsUnderWay {N : Type 0} (w : Watch N) (board : BoardId) (first now : DeskValue N) (held held' : Option (List ℕ))
@@ -292,9 +293,11 @@ pub record ServesLanes {N : Type 0} (w : Watch N) (board : BoardId) (old new : D
   pub orderly : IsOrderly w board new
   pub rests : (o : Opening N) → Tells w o old held 0 → Rests w o new held' most e
 
--- the count of the door's faults never falls, and rises where it failed; so does that of the sink
+-- The count of the door's faults never falls, and rises where it failed. That of the sink's never falls, and rises where a
+-- text could not be put, and at nothing else.
 pub record HasCauseEnd (door door' out out' : ℕ) (e : ServeEnd) : Type 0 where
   pub door_later : door ≤ door'
   pub out_later : out ≤ out'
   pub door_failed : e ≡ end.DoorFault → Rose door door'
   pub out_failed : e ≡ end.WriteFault → Rose out out'
+  pub out_kept : e ≢ end.WriteFault → out' ≡ out

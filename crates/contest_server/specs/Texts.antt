@@ -1,5 +1,5 @@
 -- Texts that are written whole, or in part.
-use Rattle.std.specs.Prelude.{◌≡◌, ℕ, ◌≤◌, List, Option, Result, Ok, Err}
+use Rattle.std.specs.Prelude.{◌≡◌, ◌≢◌, ℕ, ◌≤◌, List, Option, Result, Ok, Err}
 use Rattle.std.specs.Io.KnownBytes.{Appends}
 use mathlib.Core.List.{IsPrefix}
 use Rattle.farm_io.specs.Streams.{Rose}
@@ -17,7 +17,8 @@ abbrev pub PutsText : Option (List ℕ) → Option (List ℕ) → List ℕ → R
 PutsText old new text (Ok u) = Appends old new text
 PutsText old new text (Err why) = WritesPrefix old new text
 
--- the count of faults never falls, and rises where a text could not be put
+-- the count of faults never falls, and rises where a text could not be put, and at nothing else
 pub record HasCauseTold (before now : ℕ) (result : Result (Unit {0}) TextFault) : Type 0 where
   pub later : before ≤ now
   pub failed : result ≡ Err fault.WriteFault → Rose before now
+  pub kept : result ≢ Err fault.WriteFault → now ≡ before

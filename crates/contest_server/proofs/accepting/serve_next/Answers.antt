@@ -37,4 +37,5 @@ returns-clause-cause g c =
       out_later = omega (arith, same, out_later);
       door_failed = λ is. rose_since _ _ _ (omega (arith, before, between)) (cause.door_failed is);
       out_failed = λ is. rose_since _ _ _ (omega (arith, same)) (cause.out_failed is);
+      out_kept = λ other. cause.out_kept other ∙ same;
     }

@@ -12,6 +12,6 @@ invariant-loop-i g l = record {
       (g.K.Sink.held l.initial.desk.out.now) (g.K.Sink.held l.desk.out.now) l.i;
   lanes : AreLanes (on_board g.J.Naming.start (g.Q.Cases.case_at l.service.cases.now) (g.Q.Shows.shown l.service.cases.now) (watch g.D.Conn.Source.left g.D.Conn.Sink.held g.D.Conn.Source.faults g.D.Conn.Sink.faults (around_of (g.C.Clock.shows l.service.clock.now) g.D.Conn.Peer.asks))) l.service.clock.now l.service.cases.now l.desk.lanes.items;
   later : g.D.Door.faults l.initial.desk.door.now ≤ g.D.Door.faults l.desk.door.now;
-  put : g.K.Sink.faults l.initial.desk.out.now ≤ g.K.Sink.faults l.desk.out.now;
+  put : g.K.Sink.faults l.desk.out.now ≡ g.K.Sink.faults l.initial.desk.out.now;
   same : (l.desk.door.ghost_name ≡ l.initial.desk.door.ghost_name) × (l.desk.out.ghost_name ≡ l.initial.desk.out.ghost_name) × (l.desk.pass.ghost_name ≡ l.initial.desk.pass.ghost_name);
 }

@@ -1,4 +1,4 @@
-use Rattle.std.proofs.Common.{ℕ, List, [], Option, ap, sym, subst, arith}
+use Rattle.std.proofs.Common.{ℕ, List, [], Option, ap, sym, ◌∙◌, subst, arith}
 use Rattle.farm_api.specs.Exchanges.{around_of}
 use Rattle.contest_server.specs.Visits.{watch, on_board}
 use Rattle.contest_server.specs.Lanes.{starts_of}
@@ -34,4 +34,5 @@ returns-clause-cause g c =
       out_later = omega (arith, same, out_later);
       door_failed = λ is. rose_until _ _ _ (cause.door_failed is) later;
       out_failed = λ is. rose_until _ _ _ (cause.out_failed is) (omega (arith, same));
+      out_kept = λ other. same ∙ cause.out_kept other;
     }
