@@ -146,7 +146,7 @@ fault_told name claims posts wrong end faults held held' unwritten exit.Usage h 
 fault_told name claims posts wrong end faults held held' unwritten exit.BadContest h same = h
 fault_told name claims posts wrong end faults held held' unwritten exit.ReadFault h same = h
 fault_told name claims posts wrong end faults held held' unwritten exit.WriteFault h same = absurd h
-fault_told name claims posts wrong end faults held held' unwritten exit.Memory h same = same
+fault_told name claims posts wrong end faults held held' unwritten exit.Memory h same = (same, h)
 fault_told name claims posts wrong end faults held held' unwritten exit.TreeFault h same = h
 fault_told name claims posts wrong end faults held held' unwritten exit.DoorFault h same = h
 fault_told name claims posts wrong end faults held held' unwritten exit.InputLimit h same = h

@@ -1,5 +1,5 @@
 -- A contest's serving among the commands.
-use Rattle.std.proofs.Common.{◌≡◌, ◌≤◌, ℕ, List, Option, Some, None, Ok, Err, inl, inr, refl, sym, ◌∙◌, subst, arith}
+use Rattle.std.proofs.Common.{◌≡◌, ◌≢◌, ◌≤◌, ℕ, List, Option, Some, None, Ok, Err, inl, inr, refl, sym, ap, ◌∙◌, subst, arith}
 use Rattle.std.specs.Prelude.{◌⊎◌, Bool, false, IfSome, IsSome}
 use Rattle.std.specs.declared.net.ip_addr.IpAddr.{IpAddr}
 use Rattle.farm_tree.specs.declared.reads.TreeFile.{TreeFile}
@@ -136,6 +136,9 @@ write_failed door door' out out' end.Done h is = let both : exit.Done ≡ exit.W
 write_failed door door' out out' end.DoorFault h is = let both : exit.DoorFault ≡ exit.WriteFault = is in cc
 write_failed door door' out out' end.WriteFault h is = h.out_failed refl
 write_failed door door' out out' end.NoMemory h is = let both : exit.Memory ≡ exit.WriteFault = is in cc
+
+pub output_kept : (door door' out out' : ℕ) (ended : ServeEnd) → HasCauseEnd door door' out out' ended → exit_of ended ≢ exit.WriteFault → out' ≡ out
+output_kept door door' out out' ended h other = h.out_kept (λ is. other (ap exit_of is))
 
 pub door_failed : (first door door' out out' : ℕ) (ended : ServeEnd) → first ≤ door → HasCauseEnd door door' out out' ended → exit_of ended ≡ exit.DoorFault → Rose first door'
 door_failed first door door' out out' end.Done later h is = let both : exit.Done ≡ exit.DoorFault = is in cc

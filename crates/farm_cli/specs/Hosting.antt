@@ -1,5 +1,5 @@
 -- How the work of a judgehost over a link ends.
-use Rattle.std.specs.Prelude.{◌≡◌, ◌≤◌, ◌⊎◌, ℕ, List, [], ◌++◌, length, nat_le, if◌then◌else◌, codes, Option, Some, None, IfSome, is_some, Result, Ok, Err, Bool, true, ⊤}
+use Rattle.std.specs.Prelude.{◌≡◌, ◌≢◌, ◌≤◌, ◌⊎◌, ℕ, List, [], ◌++◌, length, nat_le, if◌then◌else◌, codes, Option, Some, None, IfSome, is_some, Result, Ok, Err, Bool, true, ⊤}
 use Rattle.std.specs.Option.{IsSomeAnd}
 use Rattle.std.specs.Fmt.{decimal}
 use Rattle.farm_io.specs.Streams.{Rose}
@@ -119,14 +119,15 @@ pub record IsMisled (wrong : Option Wrong) (end : HostEnd) (answer : Wrong) : Ty
   pub ended : end ≡ host.Bench fault.Link
   pub kept : wrong ≡ Some answer
 
--- how a command ends whose host did not come to an end that has a line
+-- How a command ends whose host did not come to an end that has a line. A connection that failed and a wrong answer are not
+-- told as want of memory.
 abbrev pub FaultEnds : Option Wrong → HostEnd → (faults : ℕ) → Exit → Type 0
 FaultEnds wrong end faults exit.Done = ⊥
 FaultEnds wrong end faults exit.Usage = ⊥
 FaultEnds wrong end faults exit.BadContest = ⊥
 FaultEnds wrong end faults exit.ReadFault = ⊥
 FaultEnds wrong end faults exit.WriteFault = ⊥
-FaultEnds wrong end faults exit.Memory = ⊤
+FaultEnds wrong end faults exit.Memory = end ≢ host.Bench fault.Link
 FaultEnds wrong end faults exit.TreeFault = ⊥
 FaultEnds wrong end faults exit.DoorFault = ⊥
 FaultEnds wrong end faults exit.InputLimit = ⊥
@@ -147,7 +148,7 @@ ToldEnds name claims posts wrong end faults held held' unwritten exit.BadContest
 ToldEnds name claims posts wrong end faults held held' unwritten exit.ReadFault = ⊥
 ToldEnds name claims posts wrong end faults held held' unwritten exit.WriteFault =
     WritesPrefix (IsHostLine name claims posts end) held held'
-ToldEnds name claims posts wrong end faults held held' unwritten exit.Memory = unwritten
+ToldEnds name claims posts wrong end faults held held' unwritten exit.Memory = unwritten × (end ≢ host.Bench fault.Link)
 ToldEnds name claims posts wrong end faults held held' unwritten exit.TreeFault = ⊥
 ToldEnds name claims posts wrong end faults held held' unwritten exit.DoorFault = ⊥
 ToldEnds name claims posts wrong end faults held held' unwritten exit.InputLimit = ⊥

@@ -1,4 +1,4 @@
-ghost use Rattle.std.specs.Prelude.{◌≡◌, ◌≢◌, ◌≤◌, ◌+◌, ◌++◌, ℕ, List, Option, None, Ok, Err, IfOk, OnOk, option_map};
+ghost use Rattle.std.specs.Prelude.{◌≡◌, ◌≢◌, ◌<◌, ◌≤◌, ◌⊎◌, ◌+◌, ◌++◌, ℕ, List, Option, None, Ok, Err, IfOk, OnOk, option_map};
 ghost use Rattle.farm_io.specs.Streams.{Rose};
 ghost use Rattle.farm_tree.specs.declared.reads.TreeFile.{TreeFile};
 ghost use Rattle.command_line.specs.CommandLine.{login_value};
@@ -47,6 +47,11 @@ pub fn host<T: Tree, K: Sink, G: Gate, N: Link, Q: Pause, P: Person>(
     ensures files { T.files tree.new ≡ T.files tree.old }
     ensures tree_fault { result ≡ Exit.TreeFault → Rose (T.faults tree.old) (T.faults tree.new) }
     ensures write_fault { result ≡ Exit.WriteFault → Rose (K.faults out.old) (K.faults out.new) }
+    // An output that failed is told as nothing else.
+    ensures output { result ≢ Exit.WriteFault → K.faults out.new ≡ K.faults out.old }
+    // A password that cannot be read, and a connection that cannot be made, are not told as want of memory.
+    ensures first { result ≡ Exit.Memory → (T.faults tree.new ≡ T.faults tree.old)
+        × ((N.faults link.new ≡ N.faults link.old) ⊎ ((N.state link.old).accepted < (N.state link.new).accepted)) }
 {
     let Some(login) = login else {
         let caller = caller_of(name, wait, Text::new(alloc));
@@ -84,6 +89,7 @@ fn read_login<T: Tree>(alloc: Global, tree: &mut T, login: Login<'_>) -> Result<
         × (line ≡ authorization login.entry.user.now password)) }
     ensures bad { (fault : BadPassword) → result ≡ Err (LoginEnd.Bad fault) → PasswordIs (T.files tree.old) login.entry.password_file.now (Err fault) }
     ensures cause { result ≡ Err LoginEnd.TreeFault → Rose (T.faults tree.old) (T.faults tree.new) }
+    ensures first { result ≢ Err LoginEnd.TreeFault → T.faults tree.new ≡ T.faults tree.old }
     ensures files { T.files tree.new ≡ T.files tree.old }
 {
     match tree.read(login.password_file) {
@@ -116,6 +122,7 @@ fn refuse<K: Sink>(bad: BadPassword, out: &mut K) -> Exit
         → NoPasswordEnds files path (K.held out.old) (K.held out.new) (out.new ≡ out.old) result }
     ensures tree_fault { result ≢ Exit.TreeFault }
     ensures write_fault { result ≡ Exit.WriteFault → Rose (K.faults out.old) (K.faults out.new) }
+    ensures output { result ≢ Exit.WriteFault → K.faults out.new ≡ K.faults out.old }
 {
     match out.put(bad_password_line(bad)) {
         PutEnd::Done => Exit::BadContest,
@@ -155,6 +162,8 @@ fn work<K: Sink, G: Gate, N: Link, Q: Pause, P: Person>(
         caller fuel (K.held out.old) (K.held out.new) (out.new ≡ out.old) result }
     ensures tree_fault { result ≢ Exit.TreeFault }
     ensures write_fault { result ≡ Exit.WriteFault → Rose (K.faults out.old) (K.faults out.new) }
+    ensures output { result ≢ Exit.WriteFault → K.faults out.new ≡ K.faults out.old }
+    ensures first { result ≡ Exit.Memory → (N.faults link.new ≡ N.faults link.old) ⊎ ((N.state link.old).accepted < (N.state link.new).accepted) }
 {
     let name = caller.name;
     let has_login = !caller.lines.as_slice().is_empty();
@@ -209,6 +218,7 @@ fn tell<K: Sink>(
         → ToldEnds name claims posts wrong end faults (K.held out.old) (K.held out.new) (out.new ≡ out.old) result }
     ensures tree_fault { result ≢ Exit.TreeFault }
     ensures write_fault { result ≡ Exit.WriteFault → Rose (K.faults out.old) (K.faults out.new) }
+    ensures output { result ≢ Exit.WriteFault → K.faults out.new ≡ K.faults out.old }
 {
     let Some(word) = end_word(end) else {
         return fault_of(end, wrong);

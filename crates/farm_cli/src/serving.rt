@@ -50,6 +50,8 @@ where
         (K.held out.old) (K.held out.new) (out.new ≡ out.old) result }
     ensures files { T.files tree.new ≡ T.files tree.old }
     ensures write_fault { result ≡ Exit.WriteFault → Rose (K.faults out.old) (K.faults out.new) }
+    // An output that failed is told as nothing else, so as no want of memory behind it.
+    ensures output { result ≢ Exit.WriteFault → K.faults out.new ≡ K.faults out.old }
     ensures tree_fault { result ≡ Exit.TreeFault → Rose (T.faults tree.old) (T.faults tree.new) }
     ensures door_fault { result ≡ Exit.DoorFault → Rose (D.faults door.old) (D.faults door.new) }
     // A folder that cannot be read, and a door that cannot listen, are not told as want of memory.
@@ -75,6 +77,7 @@ fn refuse<K: Sink>(alloc: Global, fault: &ContestFault, has_failed: bool, out: &
     ensures tree { result ≡ Exit.TreeFault → (fault.now ≡ ContestFault.Tree) ⊎ (has_failed ≡ true) }
     ensures first { result ≡ Exit.Memory → has_failed ≡ false }
     ensures write_fault { result ≡ Exit.WriteFault → Rose (K.faults out.old) (K.faults out.new) }
+    ensures output { result ≢ Exit.WriteFault → K.faults out.new ≡ K.faults out.old }
     ensures ends { (files : Option (List TreeFile)) (folder : List ℕ) → (¬ IsStop fault.now → ContestIs files folder (Err fault.now))
         → NoContestEnds files folder (K.held out.old) (K.held out.new) (out.new ≡ out.old) result }
 {
@@ -106,6 +109,7 @@ where
         (record { watch = watch D.Conn.left D.Conn.held D.Conn.Source.faults D.Conn.Sink.faults (around_of (C.shows clock.now) D.Conn.Peer.asks); old = D.state door.old; new = D.state door.new })
         (K.held out.old) (K.held out.new) (out.new ≡ out.old) result }
     ensures write_fault { result ≡ Exit.WriteFault → Rose (K.faults out.old) (K.faults out.new) }
+    ensures output { result ≢ Exit.WriteFault → K.faults out.new ≡ K.faults out.old }
     ensures door_fault { result ≡ Exit.DoorFault → Rose (D.faults door.old) (D.faults door.new) }
     ensures first { result ≡ Exit.Memory → DoesListen (D.state door.new) }
     ensures all { (result ≡ Exit.Done) ⊎ (result ≡ Exit.DoorFault) ⊎ (result ≡ Exit.WriteFault) ⊎ (result ≡ Exit.Memory) }

@@ -1,4 +1,4 @@
-use Rattle.std.proofs.Common.{◌+◌, arith, refl}
+use Rattle.std.proofs.Common.{◌+◌, arith, inr, refl}
 use Rattle.judgehost.specs.declared.gate.Go.TheVariants as go
 use Rattle.farm_cli.specs.Hosting.{LinkUse}
 use Rattle.farm_cli.proofs.Hostings.{hosted_ends}
@@ -21,3 +21,9 @@ returns-clause-ends g c =
     hosted_ends link c.args.caller c.args.caller c.args.fuel c.from.result (g.N.Link.state c.connect.new.self) c.in-Ok-connect.conn c.work_over-conn.result.conn w.worked.0 _ _ _ _ _ _ _ c.tell.result
     refl (omega (arith, c.from.ensures)) c.in-Ok-connect.ensures.connects fresh.none (omega (arith, fresh.reads, fresh.writes)) c.give_back.ensures.back
     w.worked.1 w.died (c.tell.ensures.ends _ w.failed)
+
+pub returns-clause-first : goal.returns-clause-first
+returns-clause-first g c = λ memory.
+    let came = c.in-Ok-connect.ensures.connects.accepted in
+    let went = c.give_back.ensures.back.accepted in
+    inr (omega (arith, came, went))

@@ -2,7 +2,7 @@ use Rattle.std.proofs.Common.{◌∙◌, sym, subst}
 use Rattle.std.specs.Prelude.{◌≡◌, ◌⊎◌}
 use Rattle.exit_status.specs.declared.exit.Exit.{Exit}
 use Rattle.exit_status.specs.declared.exit.Exit.TheVariants as exit
-use Rattle.farm_cli.proofs.Servings.{does_listen, listens_first, served, write_failed, door_failed, ends_of_serving}
+use Rattle.farm_cli.proofs.Servings.{does_listen, listens_first, served, write_failed, output_kept, door_failed, ends_of_serving}
 use Rattle.farm_cli.proofs.serving.serve_roster.Goals as goal
 
 pub serve_contest-requires-clause-listens : goal.serve_contest-requires-clause-listens
@@ -15,6 +15,9 @@ returns-clause-ends g c files folder read =
 
 pub returns-clause-write_fault : goal.returns-clause-write_fault
 returns-clause-write_fault g c = λ q. write_failed _ _ _ _ c.serve_contest.result c.serve_contest.ensures.cause (sym c.exit_of.ensures ∙ q)
+
+pub returns-clause-output : goal.returns-clause-output
+returns-clause-output g c = λ other. output_kept _ _ _ _ c.serve_contest.result c.serve_contest.ensures.cause (λ is. other (c.exit_of.ensures ∙ is))
 
 pub returns-clause-door_fault : goal.returns-clause-door_fault
 returns-clause-door_fault g c = λ q. door_failed _ _ _ _ _ c.serve_contest.result c.listen.ensures.cause.later c.serve_contest.ensures.cause (sym c.exit_of.ensures ∙ q)
