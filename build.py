@@ -38,7 +38,9 @@ USAGE = "usage: ./farm --build [--jobs N] [NAME ..], where NAME is one of " + ",
 
 
 def say(text):
-    print(f"farm: {text}", file=sys.stderr, flush=True)
+    # (where nobody reads it any more, the build goes on)
+    with contextlib.suppress(OSError):
+        print(f"farm: {text}", file=sys.stderr, flush=True)
 
 
 def stop(text):
