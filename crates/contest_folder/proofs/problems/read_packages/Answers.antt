@@ -1,4 +1,5 @@
-use Rattle.std.proofs.Common.{◌≡◌, ◌+◌, ◌∷◌, ◌++◌, [], List, ℕ, Result, Ok, Err, All, Contains, drop, take, string_bytes, sym, ap, subst, ◌∙◌, rules, add-one}
+use Rattle.std.proofs.Common.{◌≡◌, ◌+◌, ◌∷◌, ◌++◌, [], List, ℕ, Result, Ok, Err, All, Contains, drop, take, string_bytes, sym, ap, subst, ◌∙◌, rules, add-one, arith}
+use Rattle.std.proofs.lemmas.Grind.{common_steps}
 use Rattle.std.proofs.lemmas.List.{map-append}
 use Rattle.std.proofs.lemmas.List.Elements.{All-push}
 use Rattle.package_folder.specs.Package.{IsPackage}
@@ -66,3 +67,9 @@ loop-short-preserved g c =
       same = c.in_ok-problem.ensures.same ∙ c.loop-short.invariant.same;
       first = c.in_ok-problem.ensures.first (λ e. cc) ∙ c.loop-short.invariant.first;
     }
+
+pub returns-clause-problems : goal.returns-clause-problems
+returns-clause-problems g c = grind (arith, common_steps)
+
+pub returns-clause-named : goal.returns-clause-named
+returns-clause-named g c = grind (arith, common_steps)

@@ -1,3 +1,5 @@
+use Rattle.std.proofs.Common.{arith}
+use Rattle.std.proofs.lemmas.Grind.{common_steps}
 use Rattle.contest_folder.proofs.texts.push_package_fault.Goals as goal
 
 pub returns-in-Ini : goal.returns-in-Ini
@@ -11,3 +13,6 @@ returns-in-SourceValidator c = rw c.in-SourceValidator.is (rw c.as_slice-in-Sour
 
 pub returns-in-BadValidator : goal.returns-in-BadValidator
 returns-in-BadValidator c = rw c.in-BadValidator.is (rw c.as_slice-in-BadValidator.ensures at c.push_named-in-BadValidator.ensures)
+
+pub returns-in-NoYaml : goal.returns-in-NoYaml
+returns-in-NoYaml c = grind (arith, common_steps)

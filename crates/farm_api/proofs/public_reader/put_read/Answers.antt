@@ -1,4 +1,5 @@
-use Rattle.std.proofs.Common.{rules, ◌∙◌}
+use Rattle.std.proofs.Common.{rules, ◌∙◌, arith}
+use Rattle.std.proofs.lemmas.Grind.{common_steps}
 use Rattle.farm_api.proofs.Kept.{read_put, kept_put, unread_put}
 use Rattle.farm_api.proofs.public_reader.put_read.Goals as goal
 
@@ -17,3 +18,9 @@ returns-in-Ok-renew-clause-puts g c =
 
 pub returns-in-Err-renew-clause-puts : goal.returns-in-Err-renew-clause-puts
 returns-in-Err-renew-clause-puts g c = unread_put g.J.Naming.start c.args.closing c.args.reader.now c.renew.new.reader _ c.in-Err-renew.ensures.reads
+
+pub returns-in-Ok-clause-kept : goal.returns-in-Ok-clause-kept
+returns-in-Ok-clause-kept g c = grind (arith, common_steps)
+
+pub returns-in-Err-clause-kept : goal.returns-in-Err-clause-kept
+returns-in-Err-clause-kept g c = grind (arith, common_steps)

@@ -1,4 +1,5 @@
 use Rattle.std.proofs.Common.{◌∙◌, List, ℕ, None, refl, sym, ap, subst, arith, length, drop}
+use Rattle.std.proofs.lemmas.Grind.{common_steps}
 use Rattle.farm_io.specs.Lines.{HasFeed}
 use Rattle.http_door.specs.Finding.{IsLooked}
 use Rattle.http_door.proofs.Holding.{lacks_more}
@@ -57,3 +58,6 @@ loop-stop-preserved g c =
       later = omega (arith, i.later, c.ask.ensures.cause.later);
       beside = c.ask.ensures.beside ∙ i.beside;
     }
+
+pub glance-requires : goal.glance-requires
+glance-requires g c = grind (arith, common_steps)

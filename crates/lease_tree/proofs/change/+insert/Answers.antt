@@ -1,4 +1,5 @@
-use Rattle.std.proofs.Common.{◌≡◌, List, ◌∷◌, ◌++◌, true, false, rules, sym, subst}
+use Rattle.std.proofs.Common.{◌≡◌, List, ◌∷◌, ◌++◌, true, false, rules, sym, subst, arith}
+use Rattle.std.proofs.lemmas.Grind.{common_steps}
 use Rattle.farm_model.specs.declared.records.Lease.{Lease}
 use Rattle.lease_tree.specs.declared.keys.Order.{Order}
 use Rattle.lease_tree.specs.Keys.{key_of, is_key_before, Rising, IsAdded}
@@ -67,3 +68,33 @@ returns-else-is_heavy-2-clause-added t c =
     let root = c.deref_mut-else-is_before.result.now in
     let all : leases_of c.args.tree.now ≡ leases_of root.left ++ root.lease ∷ leases_of root.right = search rules in
     rw all (added_right (leases_of root.left) root.lease (leases_of root.right) (leases_of c.insert-else-is_before.new.tree) c.args.node.value.lease c.insert-else-is_before.ensures.added)
+
+pub returns-then-is_heavy-clause-added : goal.returns-then-is_heavy-clause-added
+returns-then-is_heavy-clause-added t c = grind (arith, common_steps)
+
+pub returns-then-is_heavy-clause-sized : goal.returns-then-is_heavy-clause-sized
+returns-then-is_heavy-clause-sized t c = grind (arith, common_steps)
+
+pub returns-then-is_heavy-clause-balanced : goal.returns-then-is_heavy-clause-balanced
+returns-then-is_heavy-clause-balanced t c = grind (arith, common_steps)
+
+pub returns-else-is_heavy-clause-added : goal.returns-else-is_heavy-clause-added
+returns-else-is_heavy-clause-added t c = grind (arith, common_steps)
+
+pub returns-else-is_heavy-clause-sized : goal.returns-else-is_heavy-clause-sized
+returns-else-is_heavy-clause-sized t c = grind (arith, common_steps)
+
+pub returns-else-is_heavy-clause-balanced : goal.returns-else-is_heavy-clause-balanced
+returns-else-is_heavy-clause-balanced t c = grind (arith, common_steps)
+
+pub returns-then-is_heavy-2-clause-sized : goal.returns-then-is_heavy-2-clause-sized
+returns-then-is_heavy-2-clause-sized t c = grind (arith, common_steps)
+
+pub returns-then-is_heavy-2-clause-balanced : goal.returns-then-is_heavy-2-clause-balanced
+returns-then-is_heavy-2-clause-balanced t c = grind (arith, common_steps)
+
+pub returns-else-is_heavy-2-clause-sized : goal.returns-else-is_heavy-2-clause-sized
+returns-else-is_heavy-2-clause-sized t c = grind (arith, common_steps)
+
+pub returns-else-is_heavy-2-clause-balanced : goal.returns-else-is_heavy-2-clause-balanced
+returns-else-is_heavy-2-clause-balanced t c = grind (arith, common_steps)

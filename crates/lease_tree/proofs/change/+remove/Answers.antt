@@ -80,3 +80,33 @@ returns-then-is_before-clause-balanced t c = grind (arith, common_steps)
 
 pub returns-clause-taken : goal.returns-clause-taken
 returns-clause-taken t c = search rules
+
+pub returns-in_err-taken-clause-sized : goal.returns-in_err-taken-clause-sized
+returns-in_err-taken-clause-sized t c = grind (arith, common_steps)
+
+pub returns-in_err-taken-clause-balanced : goal.returns-in_err-taken-clause-balanced
+returns-in_err-taken-clause-balanced t c = grind (arith, common_steps)
+
+pub returns-then-is_before-clause-taken : goal.returns-then-is_before-clause-taken
+returns-then-is_before-clause-taken t c = grind (arith, common_steps)
+
+pub returns-then-is_before-clause-sized : goal.returns-then-is_before-clause-sized
+returns-then-is_before-clause-sized t c = grind (arith, common_steps)
+
+pub returns-in_err-taken-2-clause-sized : goal.returns-in_err-taken-2-clause-sized
+returns-in_err-taken-2-clause-sized t c = grind (arith, common_steps)
+
+pub returns-in_err-taken-2-clause-balanced : goal.returns-in_err-taken-2-clause-balanced
+returns-in_err-taken-2-clause-balanced t c = grind (arith, common_steps)
+
+pub returns-then-is_before-2-clause-sized : goal.returns-then-is_before-2-clause-sized
+returns-then-is_before-2-clause-sized t c = grind (arith, common_steps)
+
+pub returns-then-is_before-2-clause-balanced : goal.returns-then-is_before-2-clause-balanced
+returns-then-is_before-2-clause-balanced t c = grind (arith, common_steps)
+
+pub returns-clause-sized : goal.returns-clause-sized
+returns-clause-sized t c = grind (arith, common_steps)
+
+pub returns-clause-balanced : goal.returns-clause-balanced
+returns-clause-balanced t c = grind (arith, common_steps)

@@ -1,4 +1,5 @@
-use Rattle.std.proofs.Common.{◌≡◌, List, ℕ, Result, Ok, Err, refl, sym, ap, subst, subst₂, ◌∙◌, rules}
+use Rattle.std.proofs.Common.{◌≡◌, List, ℕ, Result, Ok, Err, refl, sym, ap, subst, subst₂, ◌∙◌, rules, arith}
+use Rattle.std.proofs.lemmas.Grind.{common_steps}
 use Rattle.farm_tree.specs.declared.reads.TreeFile.{TreeFile}
 use Rattle.package_folder.specs.declared.package.Test.{Test}
 use Rattle.package_folder.specs.declared.package.PackageFault.{PackageFault}
@@ -32,3 +33,9 @@ returns-clause-tests g c = λ files told.
     let tests = subst (λ (ts : List (List ℕ)). Answers {A = List Test} c.read_tests.result (tests_in files c.args.path.now ts)) c.as_slice.ensures
     (c.read_tests.ensures.tests files (c.in_ok-paths.ensures.same ∙ told)) in
     ok_then found (stems_of below (paths_below below files)) (tests_in files c.args.path.now) c.read_tests.result stems tests
+
+pub returns-clause-some : goal.returns-clause-some
+returns-clause-some g c = grind (arith, common_steps)
+
+pub returns-clause-few : goal.returns-clause-few
+returns-clause-few g c = grind (arith, common_steps)

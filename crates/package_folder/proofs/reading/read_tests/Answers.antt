@@ -1,4 +1,5 @@
 use Rattle.std.proofs.Common.{◌≡◌, ◌+◌, ◌∷◌, ◌++◌, [], List, ℕ, Option, Some, None, Result, Ok, Err, drop, take, map, length, string_bytes, refl, sym, ap, subst, ◌∙◌, arith, rules, add-one, suc, length-append}
+use Rattle.std.proofs.lemmas.Grind.{common_steps}
 use Rattle.package_folder.specs.Told.{Answers}
 use Rattle.package_folder.specs.Paths.{texts}
 use Rattle.package_folder.specs.Reading.{and_then, total_from, total_with_test, test_at}
@@ -52,3 +53,6 @@ loop-stem-preserved g c =
       same = c.in_ok-test.ensures.same ∙ c.loop-stem.invariant.same;
       first = c.in_ok-test.ensures.first (λ e. cc) ∙ c.loop-stem.invariant.first;
     }
+
+pub returns-clause-tests : goal.returns-clause-tests
+returns-clause-tests g c = grind (arith, common_steps)

@@ -1,10 +1,11 @@
-use Rattle.std.proofs.Common.{◌≡◌, ◌++◌, ◌∷◌, ◌+◌, [], List, ℕ, Some, None, Bool, codes, string_bytes, filter_map, take, append-nil, sym, ap, ◌∙◌, rules}
+use Rattle.std.proofs.Common.{◌≡◌, ◌++◌, ◌∷◌, ◌+◌, [], List, ℕ, Some, None, Bool, codes, string_bytes, filter_map, take, append-nil, sym, ap, ◌∙◌, rules, arith}
+use Rattle.std.proofs.lemmas.Grind.{common_steps}
 use Rattle.farm_tree.specs.Listing.{in_folder}
 use Rattle.package_folder.specs.Paths.{texts}
 use Rattle.package_folder.specs.Names.{stem_of}
 use Rattle.package_folder.proofs.Strings.{filter_map_step}
-use Rattle.package_folder.proofs.stems.stems_among.Goals as goal
 use Rattle.package_folder.proofs.stems.stems_among.Goals.{in-Some+in_ok-from_str+in_ok-push, in_default}
+use Rattle.package_folder.proofs.stems.stems_among.Goals as goal
 
 pub loop-path-preserved : goal.loop-path-preserved
 loop-path-preserved c =
@@ -26,3 +27,6 @@ loop-path-preserved c =
           w.stems-is ∙ c.loop-path.invariant ∙ sym (append-nil (filter_map (stem_of folder) (take at (texts paths))))
           ∙ sym (filter_map_step (stem_of folder) paths at item None c.loop-path-test.true c.path-item.is none)
     ]
+
+pub returns : goal.returns
+returns c = grind (arith, common_steps)

@@ -1,4 +1,5 @@
-use Rattle.std.proofs.Common.{◌≡◌, ◌+◌, ◌++◌, ◌∷◌, List, ℕ, [], drop, string_bytes, Contains, sym, subst, ◌∙◌, add-one, suc}
+use Rattle.std.proofs.Common.{◌≡◌, ◌+◌, ◌++◌, ◌∷◌, List, ℕ, [], drop, string_bytes, Contains, sym, subst, ◌∙◌, add-one, suc, arith}
+use Rattle.std.proofs.lemmas.Grind.{common_steps}
 use Rattle.package_folder.specs.Paths.{texts}
 use Rattle.package_folder.specs.Walk.{Reaches}
 use Rattle.package_folder.proofs.Strings.{drop_text, text_among}
@@ -28,3 +29,6 @@ loop-folder-preserved g c =
       same = c.in_ok-list_folder.ensures.same ∙ c.loop-folder.invariant.same;
       first = c.in_ok-list_folder.ensures.first (λ e. cc) ∙ c.loop-folder.invariant.first;
     }
+
+pub returns-clause-reaches : goal.returns-clause-reaches
+returns-clause-reaches g c = grind (arith, common_steps)

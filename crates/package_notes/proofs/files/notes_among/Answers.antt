@@ -1,4 +1,5 @@
-use Rattle.std.proofs.Common.{◌≡◌, ◌++◌, [], string_bytes, sym, ap, ◌∙◌, List, rules}
+use Rattle.std.proofs.Common.{◌≡◌, ◌++◌, [], string_bytes, sym, ap, ◌∙◌, List, rules, arith}
+use Rattle.std.proofs.lemmas.Grind.{common_steps}
 use Rattle.std.specs.List.{cons_option}
 use Rattle.package_notes.specs.declared.notes.Note.{Note}
 use Rattle.package_notes.specs.Files.{file_note}
@@ -15,3 +16,6 @@ loop-path-preserved c =
     let is : c.push_some.new.notes.items ≡ c.loop-path.notes.items ++ cons_option note [] = search rules in
     is ∙ ap (λ (ns : List Note). ns ++ cons_option note []) c.loop-path.invariant
     ∙ sym (note_step f c.args.paths.now c.loop-path.path-index item note c.loop-path-test.true c.path-item.is found)
+
+pub returns : goal.returns
+returns c = grind (arith, common_steps)

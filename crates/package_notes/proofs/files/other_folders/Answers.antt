@@ -1,4 +1,5 @@
-use Rattle.std.proofs.Common.{◌≡◌, ◌+◌, List, ℕ, drop, string_bytes, sym, ap, ◌∙◌, rules}
+use Rattle.std.proofs.Common.{◌≡◌, ◌+◌, List, ℕ, drop, string_bytes, sym, ap, ◌∙◌, rules, arith}
+use Rattle.std.proofs.lemmas.Grind.{common_steps}
 use Rattle.package_folder.specs.Paths.{texts}
 use Rattle.package_notes.specs.Files.{other_folder, other_folders_from, with_name}
 use Rattle.package_notes.proofs.Paths.{folder_step}
@@ -14,3 +15,6 @@ loop-path-preserved c =
     ap (λ (ns : List (List ℕ)). other_folders_from root ns rest) (is ∙ ap (λ (path : List ℕ). with_name c.loop-path.names.items (other_folder root path)) named)
     ∙ sym (folder_step root c.loop-path.names.items c.args.paths.now c.loop-path.path-index item c.loop-path-test.true c.path-item.is)
     ∙ c.loop-path.invariant
+
+pub returns : goal.returns
+returns c = grind (arith, common_steps)

@@ -1,4 +1,5 @@
 use Rattle.std.proofs.Common.{◌≡◌, ◌++◌, [], List, string_bytes, sym, ap, ◌∙◌, arith, rules}
+use Rattle.std.proofs.lemmas.Grind.{common_steps}
 use Rattle.std.specs.List.{cons_option}
 use Rattle.package_notes.specs.declared.notes.Note.{Note}
 use Rattle.package_notes.specs.Package.{elf_note}
@@ -21,3 +22,6 @@ loop-file-preserved g c =
       same = c.in_ok-note.ensures.same ∙ c.loop-file.invariant.same;
       later = let a = c.loop-file.invariant.later in let b = c.in_ok-note.ensures.later in omega (arith, a, b);
     }
+
+pub returns-clause-notes : goal.returns-clause-notes
+returns-clause-notes g c = grind (arith, common_steps)

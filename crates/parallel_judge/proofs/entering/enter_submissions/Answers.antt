@@ -1,4 +1,5 @@
 use Rattle.std.proofs.Common.{◌++◌, ◌∷◌, [], List, map, take, sym, ap, ◌∙◌, subst, arith, append_assoc}
+use Rattle.std.proofs.lemmas.Grind.{common_steps}
 use Rattle.farm_kinds.specs.declared.outcomes.Class.TheVariants.{Normal}
 use Rattle.farm_kinds.specs.declared.events.Event.{Event}
 use Rattle.farm_kinds.specs.declared.events.Event.TheVariants as event
@@ -24,3 +25,6 @@ loop-i-preserved g c =
       board = c.enter.ensures.board ∙ c.loop-i.invariant.board;
       spare = c.enter.ensures.spare ∙ c.loop-i.invariant.spare;
     }
+
+pub returns-clause-entered : goal.returns-clause-entered
+returns-clause-entered g c = grind (arith, common_steps)

@@ -1,10 +1,10 @@
-use Rattle.std.proofs.Common.{◌≡◌, ◌∷◌, ◌∙◌, sym, ap, subst, Option}
+use Rattle.std.proofs.Common.{◌≡◌, ◌∷◌, ◌∙◌, sym, ap, subst, Option, arith}
 use Rattle.std.specs.Prelude.{IfSome}
 use Rattle.problem_settings.specs.declared.lines.Line.{Line}
 use Rattle.problem_settings.specs.Entries.{entries}
 use Rattle.problem_settings.specs.ProblemYaml.{said_from, belongs}
 use Rattle.problem_settings.specs.Views.{said_value, line_value, lines_at}
-use Rattle.problem_settings.proofs.EntryLemmas.{said_stop}
+use Rattle.problem_settings.proofs.EntryLemmas.{said_stop, said_step}
 use Rattle.problem_settings.proofs.reading.said_in.Goals as goal
 
 pub returns-in-Err-clause-cases : goal.returns-in-Err-clause-cases
@@ -16,3 +16,6 @@ returns-in-Err-clause-cases c =
     sym c.loop-left.invariant.said
     ∙ ap (λ lines. said_from said (entries belongs lines)) cut
     ∙ said_stop said c.in-Err.bad (line_value c.in-Some.head) behind c.in-Err.ensures.cases
+
+pub loop-left-preserved : goal.loop-left-preserved
+loop-left-preserved c = grind (arith, said_step, said_stop)

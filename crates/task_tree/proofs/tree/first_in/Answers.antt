@@ -1,4 +1,5 @@
-use Rattle.std.proofs.Common.{sym, subst, ap, ◌∙◌}
+use Rattle.std.proofs.Common.{sym, subst, ap, ◌∙◌, arith}
+use Rattle.std.proofs.lemmas.Grind.{common_steps}
 use Rattle.std.specs.Prelude.{◌==◌}
 use Rattle.std.proofs.lemmas.List.{get_or_read}
 use Rattle.task_tree.specs.Bits.{IsLeast}
@@ -38,3 +39,18 @@ returns-in-Some-first-clause-shown g c =
     let read = get_or_read ks c.in-Some.place c.index.result.now there c.index.ensures no_tasks in
     let here = subst (λ (x : KeptTasks). IsLeast x.shown c.in-Some-first.number) read c.in-Some-first.ensures.least in
     is_shown_at ks c.in-Some.place c.in-Some-first.number there ((c.requires.sized.each c.in-Some.place there).bound c.in-Some-first.number here.here) ∙ ap (λ m. m == 1) here.here
+
+pub overflow_cast-result-in-Some-first : goal.overflow_cast-result-in-Some-first
+overflow_cast-result-in-Some-first g c = grind (arith, common_steps)
+
+pub overflow_add-result-in-Some-first : goal.overflow_add-result-in-Some-first
+overflow_add-result-in-Some-first g c = grind (arith, common_steps)
+
+pub returns-in-None-clause-first : goal.returns-in-None-clause-first
+returns-in-None-clause-first g c = grind (arith, common_steps)
+
+pub returns-in-None-clause-none : goal.returns-in-None-clause-none
+returns-in-None-clause-none g c = grind (arith, common_steps)
+
+pub returns-in-Some-first-clause-some : goal.returns-in-Some-first-clause-some
+returns-in-Some-first-clause-some g c = grind (arith, common_steps)

@@ -1,4 +1,5 @@
 use Rattle.std.proofs.Common.{ℕ, ◌≡◌, sym, ap, ◌∙◌, subst, arith, length}
+use Rattle.std.proofs.lemmas.Grind.{common_steps}
 use Rattle.std.specs.Vec.{with_items}
 use Rattle.std.proofs.lemmas.List.{with_items_is}
 use Rattle.farm_kinds.specs.declared.outcomes.How.TheVariants as how
@@ -31,3 +32,6 @@ invariant_of-self c =
       booked = ap (λ b. b.submissions) c.close_open.ensures ∙ c.self.invariant.booked ∙ sym all;
       rejudgings = subst (λ (n : ℕ). AreKept n judgings c.close_open.new.self.rejudgings) (sym all) kept;
     }
+
+pub returns-clause-done : goal.returns-clause-done
+returns-clause-done c = grind (arith, common_steps)

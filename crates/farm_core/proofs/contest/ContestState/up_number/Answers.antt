@@ -1,4 +1,5 @@
-use Rattle.std.proofs.Common.{◌≡◌, ◌+◌, Some, None, true, false, rules, sym, ap, ◌∙◌, get_or}
+use Rattle.std.proofs.Common.{◌≡◌, ◌+◌, Some, None, true, false, rules, sym, ap, ◌∙◌, get_or, arith}
+use Rattle.std.proofs.lemmas.Grind.{common_steps}
 use Rattle.farm_model.specs.State.{up_number}
 use Rattle.farm_core.proofs.Named.{none_up, number_up, number_down}
 use Rattle.farm_core.proofs.contest.ContestState.up_number.Goals as goal
@@ -22,3 +23,15 @@ returns-clause-number c =
     let up : c.index.result.now.up ≡ true = search rules in
     let some : up_number c.self.inside.hosts.items c.args.name.now ≡ Some (c.in_ok-place.place + 1) = number_up c.args.name.now c.self.inside.hosts.items _ c.in_ok-place.place c.index.result.now c.find.ensures.once c.self.invariant.host_names (sym c.find.ensures.place ∙ c.in_ok-place.was) here up in
     sym some ∙ ap (λ s. up_number s.hosts c.args.name.now) c.self.view_is
+
+pub index-requires : goal.index-requires
+index-requires c = grind (arith, common_steps)
+
+pub overflow_cast-result : goal.overflow_cast-result
+overflow_cast-result c = grind (arith, common_steps)
+
+pub overflow_add-result : goal.overflow_add-result
+overflow_add-result c = grind (arith, common_steps)
+
+pub returns-clause-known : goal.returns-clause-known
+returns-clause-known c = grind (arith, common_steps)

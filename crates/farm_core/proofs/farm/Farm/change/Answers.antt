@@ -1,4 +1,5 @@
-use Rattle.std.proofs.Common.{◌≡◌, List, ℕ, [], ◌∷◌, ◌++◌, sym, ap, ◌∙◌}
+use Rattle.std.proofs.Common.{◌≡◌, List, ℕ, [], ◌∷◌, ◌++◌, sym, ap, ◌∙◌, arith}
+use Rattle.std.proofs.lemmas.Grind.{common_steps}
 use Rattle.farm_model.specs.Chain.{audit_text}
 use Rattle.farm_model.specs.Texts.{logged_text}
 use Rattle.farm_model.specs.State.{State}
@@ -19,3 +20,6 @@ returns-clause-done c =
     ap (λ (s : State). accepted s e) (sym c.self.view_is)
     ∙ entered c.self.inside.contest c.change.new.self held e c.in_ok-reply.reply c.requires.jurys c.in_ok-reply.ensures.done
     ∙ ap (λ (t : List (List ℕ)). (with_texts c.change.new.self t, c.in_ok-reply.reply)) (sym texts)
+
+pub invariant_of-self-2 : goal.invariant_of-self-2
+invariant_of-self-2 c = grind (arith, common_steps)

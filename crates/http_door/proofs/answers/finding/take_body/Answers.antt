@@ -1,4 +1,5 @@
 use Rattle.std.proofs.Common.{refl, ap, arith, length}
+use Rattle.std.proofs.lemmas.Grind.{common_steps}
 use Rattle.http_door.proofs.Windows.{Fills-refl, Fills-more, Fills-trans}
 use Rattle.http_door.proofs.AnswerFindings.{no_memory, shown_whole, shown_more_whole}
 use Rattle.http_door.proofs.answers.finding.take_body.Goals as goal
@@ -36,3 +37,9 @@ returns-in-Some-clause-held g c = λ q. absurd (omega (arith, q, c.if-ahead-need
 
 pub returns-clause-held : goal.returns-clause-held
 returns-clause-held g c = λ q. absurd (omega (arith, q, c.if-ahead-need.false, ap length c.ahead.ensures))
+
+pub ended_by-requires : goal.ended_by-requires
+ended_by-requires g c = grind (arith, common_steps)
+
+pub returns-in-Some-clause-err : goal.returns-in-Some-clause-err
+returns-in-Some-clause-err g c = grind (arith, common_steps)

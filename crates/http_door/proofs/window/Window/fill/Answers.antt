@@ -1,4 +1,5 @@
 use Rattle.std.proofs.Common.{◌≡◌, refl, sym, ap, ◌∙◌, ◌+◌, ◌-◌, List, ℕ, arith, length, slice_range}
+use Rattle.std.proofs.lemmas.Grind.{common_steps}
 use Rattle.std.specs.Vec.{with_items}
 use Rattle.std.proofs.lemmas.List.{with_items_is}
 use Rattle.http_door.proofs.Windows.{Fills-refl, Fills-none, filled, same_window}
@@ -49,3 +50,21 @@ returns-in-Failed-clause-kept g c =
 
 pub returns-in-Failed-clause-fills : goal.returns-in-Failed-clause-fills
 returns-in-Failed-clause-fills g c = Fills-none _ _ _ _ c.in-Failed.ensures.refills.0 (returns-in-Failed-clause-kept g c refl)
+
+pub invariant_of-self : goal.invariant_of-self
+invariant_of-self g c = grind (arith, common_steps)
+
+pub invariant_of-self-in-End : goal.invariant_of-self-in-End
+invariant_of-self-in-End g c = grind (arith, common_steps)
+
+pub invariant_of-self-in-Failed : goal.invariant_of-self-in-Failed
+invariant_of-self-in-Failed g c = grind (arith, common_steps)
+
+pub returns-in-Bytes-clause-size : goal.returns-in-Bytes-clause-size
+returns-in-Bytes-clause-size g c = grind (arith, common_steps)
+
+pub returns-in-End-clause-size : goal.returns-in-End-clause-size
+returns-in-End-clause-size g c = grind (arith, common_steps)
+
+pub returns-in-Failed-clause-size : goal.returns-in-Failed-clause-size
+returns-in-Failed-clause-size g c = grind (arith, common_steps)

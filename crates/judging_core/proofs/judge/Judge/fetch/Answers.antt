@@ -1,4 +1,5 @@
 use Rattle.std.proofs.Common.{ℕ, ◌≡◌, ◌<◌, ◌-◌, ◌∙◌, ◌++◌, ◌∷◌, List, Some, suc, sym, ap, subst, arith, take}
+use Rattle.std.proofs.lemmas.Grind.{common_steps}
 use Rattle.farm_kinds.specs.declared.outcomes.Fetched.{Fetched}
 use Rattle.farm_kinds.specs.declared.outcomes.Fetched.TheVariants as fetch
 use Rattle.farm_model.specs.Leases.{held_count}
@@ -54,3 +55,6 @@ returns-clause-answer g c =
 pub returns-clause-cost : goal.returns-clause-cost
 returns-clause-cost g c =
     omega (arith, c.first_open.ensures.cost, c.hand_out_more.ensures.cost, c.batch_size-more.ensures.some, c.batch_size-more.ensures.few)
+
+pub hand_out_more-requires-clause-held : goal.hand_out_more-requires-clause-held
+hand_out_more-requires-clause-held g c = grind (arith, common_steps)

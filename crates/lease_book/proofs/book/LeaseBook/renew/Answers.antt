@@ -1,4 +1,5 @@
 use Rattle.std.proofs.Common.{◌≡◌, ◌∙◌, Some, None, sym, ap, subst, arith}
+use Rattle.std.proofs.lemmas.Grind.{common_steps}
 use Rattle.farm_model.specs.Leases.{lease_on, with_lease, without_task, renewed}
 use Rattle.lease_tree.specs.declared.keys.Order.TheVariants as order
 use Rattle.lease_book.specs.Book.{Book}
@@ -33,3 +34,6 @@ invariant_of-self c =
     (index_same order.Host (renewed old task until) moved c.self-2.inside.spare c.self-2.inside.by_host same there.hosts)
     (index_same order.End (renewed old task until) moved c.self-2.inside.spare c.self-2.inside.by_end same there.ends)
     (omega (arith, len, there.room))
+
+pub returns-clause-room : goal.returns-clause-room
+returns-clause-room c = grind (arith, common_steps)

@@ -1,4 +1,5 @@
 use Rattle.std.proofs.Common.{rules, arith}
+use Rattle.std.proofs.lemmas.Grind.{common_steps}
 use Rattle.rv_memory.specs.Paged as memory
 use Rattle.rv_machine.proofs.Outputs.{output_fits}
 use Rattle.rv_machine.proofs.machine.Machine.write_output.Goals as goal
@@ -12,3 +13,6 @@ invariant_of-self-in-Ok-touch c = (
 
 pub returns-then-len-n-clause-gives : goal.returns-then-len-n-clause-gives
 returns-then-len-n-clause-gives c = search rules
+
+pub returns-in-Err-touch-clause-unchanged : goal.returns-in-Err-touch-clause-unchanged
+returns-in-Err-touch-clause-unchanged c = grind (arith, common_steps)

@@ -1,4 +1,5 @@
 use Rattle.std.proofs.Common.{arith, rules, sym, ap, ◌∙◌, ◌≡◌, ◌++◌, ◌∷◌, [], ◌≤◌, ◌<◌, ◌+◌, subst, length, List}
+use Rattle.std.proofs.lemmas.Grind.{common_steps}
 use Rattle.std.proofs.lemmas.List.{length_push, length-map}
 use Rattle.task_tree.specs.Shown.{JudgingTasks, hidden}
 use Rattle.task_tree.specs.TreeLayout.{tasks_value, tasks_values, AreSized, IsIndexed}
@@ -33,3 +34,6 @@ returns-clause-added c =
     ap tasks_values (c.push_reserved.ensures.items ∙ ap (λ (xs : List KeptTasks). xs ++ y ∷ []) c.reserve.ensures.items)
     ∙ value_pushed ks c.args.class c.args.tests c.in_ok-shown.shown c.in_ok-shown.ensures
     ∙ ap (λ (v : List JudgingTasks). v ++ hidden c.args.class c.args.tests ∷ []) c.self.view_is
+
+pub returns-clause-number : goal.returns-clause-number
+returns-clause-number c = grind (arith, common_steps)

@@ -1,4 +1,5 @@
 use Rattle.std.proofs.Common.{ℕ, rules, subst, sym, ap, ◌∙◌, ◌≡◌, ◌≢◌, ◌-◌, ◌<◌, ◌≤◌, arith, length, List, length-set, false}
+use Rattle.std.proofs.lemmas.Grind.{common_steps}
 use Rattle.std.proofs.lemmas.List.{length-map, get_or_read}
 use Rattle.farm_model.specs.Judgings.{task_of}
 use Rattle.task_tree.specs.Bits.{bit}
@@ -58,3 +59,9 @@ returns-clause-widened c =
     let none : (k : ℕ) → bit x.shown k ≢ 1 = subst (λ (z : KeptTasks). (k : ℕ) → bit z.shown k ≢ 1) (sym read) (none_set ks c.args.self.now n c.self.view_is low high c.self.invariant.sized c.requires.hidden) in
     room_made ks n x c.args.tests c.in_ok-shown.shown low high c.index_mut-kept.ensures.value fewer none c.in_ok-shown.ensures
     ∙ ap (λ (v : List JudgingTasks). with_room v n c.args.tests) c.self.view_is
+
+pub index-requires : goal.index-requires
+index-requires c = grind (arith, common_steps)
+
+pub index_mut-kept-requires : goal.index_mut-kept-requires
+index_mut-kept-requires c = grind (arith, common_steps)

@@ -1,0 +1,13 @@
+use Rattle.std.proofs.Common.{arith}
+use Rattle.std.proofs.lemmas.Grind.{common_steps}
+use Rattle.wire_json.proofs.NumberLists.{number_missing, number_more}
+use Rattle.wire_json.proofs.fields.each_number.Goals as goal
+
+pub returns-in_default : goal.returns-in_default
+returns-in_default c = grind (arith, number_missing, number_more)
+
+pub loop-value-preserved : goal.loop-value-preserved
+loop-value-preserved c = grind (arith, common_steps)
+
+pub returns : goal.returns
+returns c = grind (arith, common_steps)
