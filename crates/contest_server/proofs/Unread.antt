@@ -32,6 +32,8 @@ unread {N} w came back pass e left held reads writes is =
         write_later = omega (arith, writes);
         read_failed = λ q. absurd (let both : Some how.NoMemory ≡ Some how.ReadFault = sym (ap (λ (h : ConnHow). Some h) how_is) ∙ q in cc both);
         write_failed = λ q. absurd (let both : Some how.NoMemory ≡ Some how.WriteFault = sym (ap (λ (h : ConnHow). Some h) how_is) ∙ q in cc both);
+        read_kept = λ _ _ _. reads;
+        write_kept = λ _. writes;
       };
       complete = λ bytes rs told sound r s. inr (inl how_is);
     }

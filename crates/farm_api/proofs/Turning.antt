@@ -1,5 +1,5 @@
 -- What one turn of a connection does.
-use Rattle.std.proofs.Common.{ℕ, ◌≡◌, ◌+◌, ◌≤◌, inl, inr, List, [], ◌∷◌, ◌++◌, false, Option, Some, None, Ok, Err, refl, sym, ap, ◌∙◌, subst, arith, length, take, append_assoc, IsUtf8}
+use Rattle.std.proofs.Common.{ℕ, ◌≡◌, ◌≢◌, ◌+◌, ◌≤◌, inl, inr, List, [], ◌∷◌, ◌++◌, Bool, false, Option, Some, None, Result, Ok, Err, refl, sym, ap, ◌∙◌, subst, arith, length, take, append_assoc, IsUtf8}
 use Rattle.std.specs.Io.KnownBytes.{Appends}
 use Rattle.std.proofs.lemmas.List.{append-nil, length-append, map-append}
 use Rattle.std.proofs.lemmas.List.Elements.{All-push, All-nil}
@@ -10,16 +10,18 @@ use Rattle.farm_io.specs.Beside.{Side, side}
 use Rattle.http_door.specs.declared.ending.Ending.{Ending}
 use Rattle.http_door.specs.declared.ending.Ending.TheVariants as ending
 use Rattle.http_door.specs.declared.reader.Head.{Head}
+use Rattle.http_door.specs.declared.responses.ResponseFault.{ResponseFault}
 use Rattle.http_door.specs.Requests.{Request, IsRequest, AreRequests, EndsAs}
 use Rattle.http_door.specs.Finding.{IsEndOf}
 use Rattle.http_door.specs.ReaderValue.{ReaderValue}
 use Rattle.http_door.specs.Reading.{request_with, Reads, IsEndFor, HasCauseNext}
+use Rattle.http_door.specs.Responses.{HasCauseWritten}
 use Rattle.http_door.proofs.Cutting.{requests_more, requests_then}
 use Rattle.farm_api.specs.declared.ends.ConnHow.{ConnHow}
 use Rattle.farm_api.specs.declared.ends.ConnHow.TheVariants as how
 use Rattle.farm_api.specs.Entering.{Entered, AreEntered}
 use Rattle.farm_api.specs.Exchanges.{Exchange, Around, IsWhole, entered_in, text_of, requests_of, all_entered, all_text}
-use Rattle.farm_api.specs.Serving.{IsStaying, OneAnswered, end_response, PutsEnd, Standing, untaken, IsUnderWay, EndsOf, IsServed, answered_count, Turned, HasCauseServed}
+use Rattle.farm_api.specs.Serving.{IsStaying, how_after, OneAnswered, end_response, PutsEnd, Standing, untaken, IsUnderWay, EndsOf, IsServed, answered_count, Turned, HasCauseServed}
 use Rattle.farm_api.proofs.Enterings.{entered_then}
 
 -- one more exchange
@@ -169,7 +171,7 @@ wrote_end start held held' text e how.BadRequest z x = Appends-trans start held 
 wrote_end start held held' text e how.ReadFault z x = with_none start held' text (Appends-kept start held held' text x z.1)
 wrote_end start held held' text e how.WriteFault z x = Appends-trans start held held' text (take z.1.0 (end_response e)) x z.1.1
 wrote_end start held held' text e how.InputLimit z x = with_none start held' text (Appends-kept start held held' text x z.1)
-wrote_end start held held' text e how.NoMemory z x = with_none start held' text (Appends-kept start held held' text x z)
+wrote_end start held held' text e how.NoMemory z x = with_none start held' text (Appends-kept start held held' text x z.1)
 
 -- what stands at an end
 ends_of : (around : Around) (xs : List Exchange) (rest : List ℕ) (bytes : ℕ) (left held held' : Option (List ℕ)) (e : Ending) (h : ConnHow) (z : PutsEnd held held' e h)
@@ -270,24 +272,50 @@ no_fault : {A : Type 0} (step : A → Entered → A → Type 0) (around : Around
 no_fault step around a b r held held' out y is = subst (λ (z : Option ConnHow). OneAnswered step around a b r held held' z) is y
 
 pub cause_request : {A : Type 0} (step : A → Entered → A → Type 0) (around : Around) (a b : A) (r : Request) (held held' : Option (List ℕ)) (out : Option ConnHow) (read0 read1 read2 write0 write1 write2 : ℕ)
-    → OneAnswered step around a b r held held' out → read0 ≤ read1 → read2 ≡ read1 → write1 ≡ write0 → write1 ≤ write2 → (out ≡ Some how.WriteFault → Rose write1 write2)
+    → OneAnswered step around a b r held held' out → read1 ≡ read0 → read2 ≡ read1 → write1 ≡ write0 → write1 ≤ write2 → (out ≡ Some how.WriteFault → Rose write1 write2) → (out ≢ Some how.WriteFault → write2 ≡ write1)
     → HasCauseServed read0 read2 write0 write2 out
-cause_request step around a b r held held' out read0 read1 read2 write0 write1 write2 y later same kept more rose = record {
-  read_later = omega (arith, later, same);
+cause_request step around a b r held held' out read0 read1 read2 write0 write1 write2 y whole same kept more rose still = record {
+  read_later = omega (arith, whole, same);
   write_later = omega (arith, kept, more);
   read_failed = λ is. absurd (no_fault step around a b r held held' out y is);
   write_failed = λ is. subst (λ (n : ℕ). Rose n write2) kept (rose is);
+  read_kept = λ _ _ _. same ∙ whole;
+  write_kept = λ other. still other ∙ kept;
 }
 
+err_is : (e f : Ending) → ◌≡◌ {A = Result Head Ending} (Err e) (Err f) → e ≡ f
+err_is e f q = cc
+
+-- a connection that ends with no fault and no refusal, by the end of its requests
+end_of_none : (held held' : Option (List ℕ)) (e : Ending) (h : ConnHow) → PutsEnd held held' e h → Some h ≢ Some how.ReadFault → Some h ≢ Some how.BadRequest → Some h ≢ Some how.WriteFault → (e ≢ ending.ReadFault) × (e ≢ ending.BadHead)
+end_of_none held held' e how.End y sound fit put = (λ q. (let bad : ending.End ≡ ending.ReadFault = sym y.0 ∙ q in cc), λ q. (let bad : ending.End ≡ ending.BadHead = sym y.0 ∙ q in cc))
+end_of_none held held' e how.Closed y sound fit put = absurd y
+end_of_none held held' e how.Cut y sound fit put = (λ q. (let bad : ending.Cut ≡ ending.ReadFault = sym y.0 ∙ q in cc), λ q. (let bad : ending.Cut ≡ ending.BadHead = sym y.0 ∙ q in cc))
+end_of_none held held' e how.BadRequest y sound fit put = absurd (fit refl)
+end_of_none held held' e how.ReadFault y sound fit put = absurd (sound refl)
+end_of_none held held' e how.WriteFault y sound fit put = absurd (put refl)
+end_of_none held held' e how.InputLimit y sound fit put = (λ q. (let bad : ending.InputLimit ≡ ending.ReadFault = sym y.0 ∙ q in cc), λ q. (let bad : ending.InputLimit ≡ ending.BadHead = sym y.0 ∙ q in cc))
+end_of_none held held' e how.NoMemory y sound fit put = (λ q. (let bad : ending.NoMemory ≡ ending.ReadFault = sym y.0 ∙ q in cc), λ q. (let bad : ending.NoMemory ≡ ending.BadHead = sym y.0 ∙ q in cc))
+
 pub cause_end : (held held' : Option (List ℕ)) (e : Ending) (h : ConnHow) (was : Option Ending) (read0 read1 read2 write0 write1 write2 : ℕ)
-    → PutsEnd held held' e h → was ≡ None → HasCauseNext was read0 read1 (Err e) → read2 ≡ read1 → write1 ≡ write0 → write1 ≤ write2 → (h ≡ how.WriteFault → Rose write1 write2)
+    → PutsEnd held held' e h → was ≡ None → HasCauseNext was read0 read1 (Err e) → read2 ≡ read1 → write1 ≡ write0 → write1 ≤ write2 → (h ≡ how.WriteFault → Rose write1 write2) → (h ≢ how.WriteFault → write2 ≡ write1)
     → HasCauseServed read0 read2 write0 write2 (Some h)
-cause_end held held' e h was read0 read1 read2 write0 write1 write2 y going cause same kept more rose = record {
+cause_end held held' e h was read0 read1 read2 write0 write1 write2 y going cause same kept more rose still = record {
   read_later = omega (arith, cause.later, same);
   write_later = omega (arith, kept, more);
   read_failed = λ q. subst (λ (z : ℕ). Rose read0 z) (sym same) (cause.failed going (ap Err (fault_of held held' e h y q)));
   write_failed = λ q. subst (λ (z : ℕ). Rose z write2) kept (rose (some_how h how.WriteFault q));
+  read_kept = λ sound fit put. (let other = end_of_none held held' e h y sound fit put in same ∙ cause.kept (λ q. other.0 (err_is e ending.ReadFault q)) (λ q. other.1 (err_is e ending.BadHead q)));
+  write_kept = λ other. still (λ q. other (ap Some q)) ∙ kept;
 }
+
+-- what came before a fault, of a connection that has not failed yet
+pub cause_since : (read0 read1 read2 write0 write1 write2 : ℕ) (out : Option ConnHow) → read1 ≡ read0 → write1 ≡ write0 → HasCauseServed read1 read2 write1 write2 out → HasCauseServed read0 read2 write0 write2 out
+cause_since read0 read1 read2 write0 write1 write2 out read write c = subst (λ (z : ℕ × ℕ). HasCauseServed z.0 read2 z.1 write2 out) (λ i. (read i, write i)) c
+
+-- the sink failed only where the response's put did
+pub how_kept : (written : Result (Unit {0}) ResponseFault) (close : Bool) (before now : ℕ) (how' : Option ConnHow) → how' ≡ how_after written close → HasCauseWritten before now written → how' ≢ Some how.WriteFault → now ≡ before
+how_kept written close before now how' is c other = c.kept (λ q. other (is ∙ ap (λ (z : Result (Unit {0}) ResponseFault). how_after z close) q))
 
 -- nothing was read and nothing put
 pub served_none : {A : Type 0} (step : A → Entered → A → Type 0) (around : Around) (a : A) (left held : Option (List ℕ))

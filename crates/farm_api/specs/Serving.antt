@@ -11,8 +11,7 @@ use Rattle.http_door.specs.declared.refusals.Refusal.{Refusal}
 use Rattle.http_door.specs.declared.responses.ResponseFault.{ResponseFault}
 use Rattle.http_door.specs.declared.responses.ResponseFault.TheVariants as fault
 use Rattle.http_door.specs.Requests.{Request, IsRequest, AreRequests, EndsAs, IsRefusal}
-use Rattle.http_door.specs.Refusals.{refusal_of, refusal_status, refusal_body}
-use Rattle.http_door.specs.Responses.{response_text}
+use Rattle.http_door.specs.Refusals.{refusal_of, refusal_response}
 use Rattle.wire_job.specs.declared.parts.JobPart.{JobPart}
 use Rattle.farm_api.specs.declared.asking.Asked.{Asked}
 use Rattle.farm_api.specs.declared.ends.ConnHow.{ConnHow}
@@ -101,10 +100,6 @@ OneAnswered step around a b r held held' (Some how.InputLimit) = ⊥
 
 -- The end of the requests
 
--- the fixed response of a refusal
-unfoldable pub refusal_response : Refusal → List ℕ
-refusal_response q = response_text (refusal_status q) (refusal_body q)
-
 abbrev pub response_at : Option Refusal → List ℕ
 response_at None = []
 response_at (Some q) = refusal_response q
@@ -113,11 +108,11 @@ response_at (Some q) = refusal_response q
 abbrev pub end_response : Ending → List ℕ
 end_response e = response_at (refusal_of e)
 
--- a refusal was put, or a prefix of it, or nothing
+-- a refusal was put, or a prefix of it
 abbrev pub Refuses : Option (List ℕ) → Option (List ℕ) → List ℕ → ConnHow → Type 0
 Refuses held held' text how.BadRequest = Appends held held' text
 Refuses held held' text how.WriteFault = (n : ℕ) × Appends held held' (take n text)
-Refuses held held' text how.NoMemory = Keeps held held'
+Refuses held held' text how.NoMemory = ⊥
 Refuses held held' text how.End = ⊥
 Refuses held held' text how.Closed = ⊥
 Refuses held held' text how.Cut = ⊥
@@ -133,7 +128,7 @@ PutsEnd held held' e how.BadRequest = IsRefusal e × Appends held held' (end_res
 PutsEnd held held' e how.ReadFault = (e ≡ ending.ReadFault) × Keeps held held'
 PutsEnd held held' e how.WriteFault = IsRefusal e × ((n : ℕ) × Appends held held' (take n (end_response e)))
 PutsEnd held held' e how.InputLimit = (e ≡ ending.InputLimit) × Keeps held held'
-PutsEnd held held' e how.NoMemory = Keeps held held'
+PutsEnd held held' e how.NoMemory = (e ≡ ending.NoMemory) × Keeps held held'
 
 -- A connection
 
@@ -260,12 +255,16 @@ Turned {A} step around old new (Some h) =
     (b : Standing A) (n : ℕ) → IsUnderWay step around b old n
     → IsServed (AreEntered step) around b new (answered_count n h) h
 
--- the counts of both sides never fall, and that of the side rises whose fault ended the connection
+-- The counts of both sides never fall, and that of the side rises whose fault ended the connection, and at nothing
+-- else. Where the source failed behind bytes that no head begins with, the connection ends with their refusal.
 pub record HasCauseServed (read read' write write' : ℕ) (result : Option ConnHow) : Type 0 where
   pub read_later : read ≤ read'
   pub write_later : write ≤ write'
   pub read_failed : result ≡ Some how.ReadFault → Rose read read'
   pub write_failed : result ≡ Some how.WriteFault → Rose write write'
+  pub read_kept : result ≢ Some how.ReadFault → result ≢ Some how.BadRequest → result ≢ Some how.WriteFault
+      → read' ≡ read
+  pub write_kept : result ≢ Some how.WriteFault → write' ≡ write
 
 -- these requests are all of the bytes, which are fewer than may be taken, and none asks to close
 pub record AreSound (bytes : List ℕ) (rs : List Request) : Type 0 where

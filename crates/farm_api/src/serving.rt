@@ -1,12 +1,13 @@
 ghost use Rattle.std.specs.Prelude.{◌≡◌, ◌≢◌, ◌+◌, ◌*◌, ◌<◌, ◌≤◌, ◌^◌, true, Bool, IsNone, None, Some, IsUtf8};
 ghost use Rattle.farm_io.specs.Streams.{Rose};
 ghost use Rattle.farm_io.specs.Beside.{side};
-ghost use Rattle.http_door.specs.Responses.{Writes, HasCauseWritten};
+ghost use Rattle.http_door.specs.Refusals.{refusal_response};
+ghost use Rattle.http_door.specs.Responses.{HasCauseWritten};
 ghost use Rattle.http_door.specs.Reading.{request_with};
 ghost use Rattle.http_door.specs.ReaderValue.{budget};
 ghost use Rattle.farm_api.specs.Entering.{AreEntered};
 ghost use Rattle.farm_api.specs.Exchanges.{around_of, giving};
-ghost use Rattle.farm_api.specs.Serving.{PutsAnswer, close_or, how_after, OneAnswered, refusal_response, Refuses, PutsEnd, untaken, Turned, IsServed, answered_count, HasCauseServed};
+ghost use Rattle.farm_api.specs.Serving.{PutsAnswer, close_or, how_after, OneAnswered, Refuses, PutsEnd, untaken, Turned, IsServed, answered_count, HasCauseServed};
 
 use crate::answering::{answer_fault, answer_reply};
 use crate::asking::{Asked, RequestFault, read_request};
@@ -15,8 +16,8 @@ use crate::jobs::answer_job;
 use crate::paths::Paths;
 use crate::replier::{Replier, enter};
 use crate::showing::{answer_contest, answer_page};
-use farm_io::{Clock, Peer, Sink, Source};
-use http_door::{Ending, Head, HttpReader, Refusal, ResponseFault, write_response};
+use farm_io::{Clock, Peer, PutEnd, Sink, Source};
+use http_door::{Ending, Head, HttpReader, Refusal, ResponseFault};
 use std::alloc::Global;
 use wire_json::BodyFault;
 
@@ -100,6 +101,7 @@ fn answer_one<A: Replier, C: Clock, K: Sink>(
         state.old state.new (request_with head.now body.now) (K.held sink.old) (K.held sink.new) result }
     ensures later { K.faults sink.old ≤ K.faults sink.new }
     ensures write { result ≡ Some ConnHow.WriteFault → Rose (K.faults sink.old) (K.faults sink.new) }
+    ensures kept { result ≢ Some ConnHow.WriteFault → K.faults sink.new ≡ K.faults sink.old }
     ensures beside { K.beside sink.new ≡ K.beside sink.old }
     ensures left { A.left state.old ≤ A.left state.new + 3 }
     ensures suits { A.suits replier.now state.new }
@@ -114,34 +116,26 @@ fn answer_one<A: Replier, C: Clock, K: Sink>(
     }
 }
 
-/// The fixed response of a refusal.
-fn put_refusal<K: Sink>(alloc: Global, sink: &mut K, refusal: Refusal) -> Result<(), ResponseFault>
-    ensures writes { Writes (K.held sink.old) (K.held sink.new) (refusal_response refusal) result }
-    ensures cause { HasCauseWritten (K.faults sink.old) (K.faults sink.new) result }
-    ensures beside { K.beside sink.new ≡ K.beside sink.old }
-{
-    write_response(alloc, sink, false, refusal.status(), refusal.body())
-}
-
 /// Puts the fixed response of a refusal, and says how the connection ends.
-fn refuse<K: Sink>(alloc: Global, sink: &mut K, refusal: Refusal) -> ConnHow
+fn refuse<K: Sink>(sink: &mut K, refusal: Refusal) -> ConnHow
     ensures puts { Refuses (K.held sink.old) (K.held sink.new) (refusal_response refusal) result }
     ensures later { K.faults sink.old ≤ K.faults sink.new }
     ensures write { result ≡ ConnHow.WriteFault → Rose (K.faults sink.old) (K.faults sink.new) }
+    ensures kept { result ≢ ConnHow.WriteFault → K.faults sink.new ≡ K.faults sink.old }
     ensures beside { K.beside sink.new ≡ K.beside sink.old }
 {
-    match put_refusal(alloc, sink, refusal) {
-        Ok(()) => ConnHow::BadRequest,
-        Err(ResponseFault::WriteFault) => ConnHow::WriteFault,
-        Err(ResponseFault::NoMemory) => ConnHow::NoMemory,
+    match sink.put(refusal.response().as_bytes()) {
+        PutEnd::Done => ConnHow::BadRequest,
+        PutEnd::Failed => ConnHow::WriteFault,
     }
 }
 
 /// Puts what belongs to the end of the requests, and says how the connection ends.
-fn end_with<K: Sink>(alloc: Global, sink: &mut K, ending: Ending) -> ConnHow
+fn end_with<K: Sink>(sink: &mut K, ending: Ending) -> ConnHow
     ensures puts { PutsEnd (K.held sink.old) (K.held sink.new) ending result }
     ensures later { K.faults sink.old ≤ K.faults sink.new }
     ensures write { result ≡ ConnHow.WriteFault → Rose (K.faults sink.old) (K.faults sink.new) }
+    ensures kept { result ≢ ConnHow.WriteFault → K.faults sink.new ≡ K.faults sink.old }
     ensures beside { K.beside sink.new ≡ K.beside sink.old }
 {
     match ending {
@@ -150,10 +144,10 @@ fn end_with<K: Sink>(alloc: Global, sink: &mut K, ending: Ending) -> ConnHow
         Ending::ReadFault => ConnHow::ReadFault,
         Ending::InputLimit => ConnHow::InputLimit,
         Ending::NoMemory => ConnHow::NoMemory,
-        Ending::BadHead => refuse(alloc, sink, Refusal::BadHead),
-        Ending::HeadTooLong { len: _ } => refuse(alloc, sink, Refusal::HeadTooLong),
-        Ending::BodyTooLong { len: _ } => refuse(alloc, sink, Refusal::BodyTooLong),
-        Ending::NoLength => refuse(alloc, sink, Refusal::NoLength),
+        Ending::BadHead => refuse(sink, Refusal::BadHead),
+        Ending::HeadTooLong { len: _ } => refuse(sink, Refusal::HeadTooLong),
+        Ending::BodyTooLong { len: _ } => refuse(sink, Refusal::BodyTooLong),
+        Ending::NoLength => refuse(sink, Refusal::NoLength),
     }
 }
 
@@ -198,7 +192,7 @@ fn serve_request<A: Replier, C: Clock, N: Source + Sink + Peer>(
                 conn,
             )
         }
-        Err(ending) => Some(end_with(alloc, conn, ending)),
+        Err(ending) => Some(end_with(conn, ending)),
     }
 }
 

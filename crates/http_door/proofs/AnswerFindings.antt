@@ -4,7 +4,7 @@ use Rattle.std.proofs.lemmas.List.{take_all, take-append-drop, drop-append-le, l
 use Rattle.httparse.specs.Grammar.{ResponseHead, HasNoResponse, MayBecomeResponse}
 use Rattle.farm_io.specs.declared.block.Stop.{Stop}
 use Rattle.farm_io.specs.declared.block.Stop.TheVariants as stop
-use Rattle.farm_io.specs.BlockValue.{IsEnded, HasCauseStop}
+use Rattle.farm_io.specs.BlockValue.{IsEnded}
 use Rattle.http_door.specs.declared.answers.heads.Seen.{Seen}
 use Rattle.http_door.specs.declared.answers.ending.AnswerEnding.{AnswerEnding}
 use Rattle.http_door.specs.declared.answers.ending.AnswerEnding.TheVariants as ending
@@ -14,7 +14,6 @@ use Rattle.http_door.specs.Heads.{head_limit}
 use Rattle.http_door.specs.AnswerHeads.{framing_of, Shows}
 use Rattle.http_door.specs.Answers.{IsHead, IsWithinHead, IsWithinBody, IsLongHead, EndsAs, IsFault}
 use Rattle.http_door.specs.AnswerFinding.{ShowsHead, HasShown, IsLooked, Stops, StopsOrShows, ended_by, IsSized, HasWhole}
-use Rattle.http_door.proofs.Findings.{rose_from}
 use Rattle.http_door.proofs.AnswerCutting.{head_more}
 
 pub looked_more : (bytes prefix : List ℕ) → prefix ≡ take head_limit bytes → length bytes < head_limit → HasNoResponse prefix × MayBecomeResponse prefix → IsWithinHead bytes
@@ -55,56 +54,50 @@ looked_head bytes prefix h s is x =
 fault_cut : (e : AnswerEnding) → IsFault e → ¬ (e ≡ ending.Cut)
 fault_cut e h is = subst IsFault is h
 
-fault_read : (e : AnswerEnding) → IsFault e → ¬ (e ≡ ending.ReadFault)
-fault_read e h is = subst IsFault is h
-
 -- a fault of the bytes stops the reader
-pub refused : (left : Option (List ℕ)) (before now : ℕ) (ahead : List ℕ) (e : AnswerEnding) → EndsAs e ahead → IsFault e → Stops left before now ahead e
-refused left before now ahead e h r = record {
+pub refused : (left : Option (List ℕ)) (ahead : List ℕ) (e : AnswerEnding) → EndsAs e ahead → IsFault e → Stops left ahead e
+refused left ahead e h r = record {
   ends = h;
   end = λ is. absurd (fault_cut e r is);
-  fault = λ is. absurd (fault_read e r is);
 }
 
-pub looked_err : (left : Option (List ℕ)) (before now : ℕ) (ahead bytes : List ℕ) (r : Result Seen AnswerEnding) → bytes ≡ ahead → IsLooked bytes (Some r) → IfErr r (Stops left before now ahead)
-looked_err left before now ahead bytes (Ok s) e h = tt
-looked_err left before now ahead bytes (Err end) e h = refused left before now ahead end (subst (EndsAs end) e h.0) h.1
+pub looked_err : (left : Option (List ℕ)) (ahead bytes : List ℕ) (r : Result Seen AnswerEnding) → bytes ≡ ahead → IsLooked bytes (Some r) → IfErr r (Stops left ahead)
+looked_err left ahead bytes (Ok s) e h = tt
+looked_err left ahead bytes (Err end) e h = refused left ahead end (subst (EndsAs end) e h.0) h.1
 
 pub looked_ok : (ahead bytes : List ℕ) (r : Result Seen AnswerEnding) → bytes ≡ ahead → IsLooked bytes (Some r) → IfOk r (HasShown ahead)
 looked_ok ahead bytes (Ok s) e h = subst (λ (z : List ℕ). HasShown z s) e h
 looked_ok ahead bytes (Err end) e h = tt
 
 -- the bytes stop within a head
-pub stopped_head : (left : Option (List ℕ)) (before was now : ℕ) (ahead : List ℕ) (s : Stop) → IsWithinHead ahead → before ≤ was
-    → IsEnded (Some s) left → HasCauseStop was now (Some s) → s ≢ stop.InputLimit → Stops left before now ahead (ended_by s)
-stopped_head left before was now ahead stop.End h le end cause limit = record { ends = inl h; end = λ e. end refl; fault = λ e. cc }
-stopped_head left before was now ahead stop.ReadFault h le end cause limit =
-    record { ends = inl h; end = λ e. cc; fault = λ e. rose_from before was now le (cause.failed refl) }
-stopped_head left before was now ahead stop.InputLimit h le end cause limit = absurd (limit refl)
+pub stopped_head : (left : Option (List ℕ)) (ahead : List ℕ) (s : Stop) → IsWithinHead ahead
+    → IsEnded (Some s) left → s ≢ stop.InputLimit → Stops left ahead (ended_by s)
+stopped_head left ahead stop.End h end limit = record { ends = inl h; end = λ e. end refl }
+stopped_head left ahead stop.ReadFault h end limit = record { ends = inl h; end = λ e. cc }
+stopped_head left ahead stop.InputLimit h end limit = absurd (limit refl)
 
 -- a head or a fault that stands at the front where the bytes stop, or neither
 pub last_ok : (ahead bytes : List ℕ) (s : Stop) (r : Result Seen AnswerEnding) → bytes ≡ ahead → StopsOrShows bytes s r → IfOk r (HasShown ahead)
 last_ok ahead bytes s r e (inl h) = looked_ok ahead bytes r e h
 last_ok ahead bytes s r e (inr h) = subst (λ (z : Result Seen AnswerEnding). IfOk z (HasShown ahead)) (sym h.1) tt
 
-pub last_err : (left : Option (List ℕ)) (before was now : ℕ) (ahead bytes : List ℕ) (s : Stop) (r : Result Seen AnswerEnding) → bytes ≡ ahead → StopsOrShows bytes s r → before ≤ was
-    → IsEnded (Some s) left → HasCauseStop was now (Some s) → s ≢ stop.InputLimit → IfErr r (Stops left before now ahead)
-last_err left before was now ahead bytes s r e (inl h) le end cause limit = looked_err left before now ahead bytes r e h
-last_err left before was now ahead bytes s r e (inr h) le end cause limit =
-    subst (λ (z : Result Seen AnswerEnding). IfErr z (Stops left before now ahead)) (sym h.1)
-    (stopped_head left before was now ahead s (subst IsWithinHead e h.0) le end cause limit)
+pub last_err : (left : Option (List ℕ)) (ahead bytes : List ℕ) (s : Stop) (r : Result Seen AnswerEnding) → bytes ≡ ahead → StopsOrShows bytes s r
+    → IsEnded (Some s) left → s ≢ stop.InputLimit → IfErr r (Stops left ahead)
+last_err left ahead bytes s r e (inl h) end limit = looked_err left ahead bytes r e h
+last_err left ahead bytes s r e (inr h) end limit =
+    subst (λ (z : Result Seen AnswerEnding). IfErr z (Stops left ahead)) (sym h.1)
+    (stopped_head left ahead s (subst IsWithinHead e h.0) end limit)
 
 -- want of memory may come at any time
-pub no_memory : (left : Option (List ℕ)) (before now : ℕ) (ahead : List ℕ) → Stops left before now ahead ending.NoMemory
-no_memory left before now ahead = record { ends = tt; end = λ e. cc; fault = λ e. cc }
+pub no_memory : (left : Option (List ℕ)) (ahead : List ℕ) → Stops left ahead ending.NoMemory
+no_memory left ahead = record { ends = tt; end = λ e. cc }
 
 -- the bytes stop within a body
-pub stopped_body : (left : Option (List ℕ)) (before was now : ℕ) (ahead : List ℕ) (s : Stop) → IsWithinBody ahead → before ≤ was
-    → IsEnded (Some s) left → HasCauseStop was now (Some s) → s ≢ stop.InputLimit → Stops left before now ahead (ended_by s)
-stopped_body left before was now ahead stop.End h le end cause limit = record { ends = inr h; end = λ e. end refl; fault = λ e. cc }
-stopped_body left before was now ahead stop.ReadFault h le end cause limit =
-    record { ends = inr h; end = λ e. cc; fault = λ e. rose_from before was now le (cause.failed refl) }
-stopped_body left before was now ahead stop.InputLimit h le end cause limit = absurd (limit refl)
+pub stopped_body : (left : Option (List ℕ)) (ahead : List ℕ) (s : Stop) → IsWithinBody ahead
+    → IsEnded (Some s) left → s ≢ stop.InputLimit → Stops left ahead (ended_by s)
+stopped_body left ahead stop.End h end limit = record { ends = inr h; end = λ e. end refl }
+stopped_body left ahead stop.ReadFault h end limit = record { ends = inr h; end = λ e. cc }
+stopped_body left ahead stop.InputLimit h end limit = absurd (limit refl)
 
 err_is : (e f : AnswerEnding) (r : Result ℕ AnswerEnding) → r ≡ Err e → r ≡ Err f → e ≡ f
 err_is e f r h k = cc
@@ -122,10 +115,10 @@ sized_err_at bytes h rest e (framing.TooLong n) is x s = fault_at bytes e (endin
 sized_err_at bytes h rest e (framing.Status c) is x s = fault_at bytes e (ending.Status c) (err_is e _ (Err e) refl s) ((h, rest, x, sym is), tt)
 
 -- a head that says no fit length stops the reader
-pub sized_err : (left : Option (List ℕ)) (before now : ℕ) (ahead : List ℕ) (s : Seen) (e : AnswerEnding) → HasShown ahead s → IsSized s.framing (Err e) → Stops left before now ahead e
-sized_err left before now ahead s e x h =
+pub sized_err : (left : Option (List ℕ)) (ahead : List ℕ) (s : Seen) (e : AnswerEnding) → HasShown ahead s → IsSized s.framing (Err e) → Stops left ahead e
+sized_err left ahead s e x h =
     let r = sized_err_at ahead x.0 (drop s.len ahead) e s.framing x.1.framing x.1.is_head h in
-    refused left before now ahead e r.0 r.1
+    refused left ahead e r.0 r.1
 
 -- a head and its body, where enough bytes stand behind the head
 pub shown_whole : (bytes : List ℕ) (s : Seen) (n : ℕ) → (h : ResponseHead) × ShowsHead bytes h s × (framing_of h ≡ framing.Sized n) → s.len + n ≤ length bytes → HasWhole bytes (record { seen = s; len = n })

@@ -41,8 +41,8 @@ reads_answer l1 l2 old w new whole f x n =
     })
 
 -- no response stands there
-pub reads_end : (l1 l2 : Option (List ℕ)) (before now : ℕ) (old new : WindowValue) (e : AnswerEnding) → Fills l1 l2 old new → Stops l2 before now new.ahead e → ReadsIn l1 l2 old new (Err e)
-reads_end l1 l2 before now old new e f s = record {
+pub reads_end : (l1 l2 : Option (List ℕ)) (old new : WindowValue) (e : AnswerEnding) → Fills l1 l2 old new → Stops l2 new.ahead e → ReadsIn l1 l2 old new (Err e)
+reads_end l1 l2 old new e f s = record {
   prefix = f.prefix;
   took = f.took;
   gives = (subst (EndsAs e) f.whole s.ends, f.whole);

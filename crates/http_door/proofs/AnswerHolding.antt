@@ -1,9 +1,11 @@
 -- A whole response that stands in a window already.
-use Rattle.std.proofs.Common.{ℕ, ◌≡◌, ◌+◌, ◌≤◌, List, ◌∷◌, ◌++◌, Some, None, Result, Ok, Err, IsOk, refl, sym, ap, ◌∙◌, subst, arith, length, drop}
+use Rattle.std.proofs.Common.{ℕ, ◌≡◌, ◌+◌, ◌≤◌, ◌<◌, ◌⊎◌, inl, inr, List, [], ◌∷◌, ◌++◌, Some, None, Result, Ok, Err, IsOk, refl, sym, ap, ◌∙◌, subst, arith, length, drop, append_assoc}
+use Rattle.std.specs.Prelude.{flat_map}
+use Rattle.std.proofs.lemmas.Bool.{cases_lt}
 use Rattle.std.proofs.lemmas.List.{length-append, length-drop}
 use Rattle.std.proofs.lemmas.List.Elements.{Contains-append_left, Contains-append_right}
 use Rattle.httparse.specs.Ascii.{space}
-use Rattle.httparse.specs.Grammar.{print_end, print_blank, print_version, print_reason, print_section, ResponseHead, print_response}
+use Rattle.httparse.specs.Grammar.{print_end, print_blank, print_version, print_reason, print_field, print_section, ResponseHead, print_response}
 use Rattle.farm_io.specs.Lines.{HasFeed, line_feed}
 use Rattle.http_door.specs.declared.answers.heads.Seen.{Seen}
 use Rattle.http_door.specs.declared.answers.fields.AnswerFraming.{AnswerFraming}
@@ -11,11 +13,11 @@ use Rattle.http_door.specs.declared.answers.fields.AnswerFraming.TheVariants as 
 use Rattle.http_door.specs.declared.answers.ending.AnswerEnding.{AnswerEnding}
 use Rattle.http_door.specs.declared.answers.ending.AnswerEnding.TheVariants as end
 use Rattle.http_door.specs.AnswerHeads.{framing_of}
-use Rattle.http_door.specs.Answers.{HoldsAnswer, EndsAs, IsFault, IsOfBytes}
+use Rattle.http_door.specs.Answers.{IsHead, HoldsHead, HoldsAnswer, EndsAs, IsFault, IsOfBytes}
 use Rattle.http_door.specs.AnswerFinding.{HasShown, IsLooked, IsSized}
 use Rattle.http_door.proofs.AnswerCutting.{head_unique, sized_same, answer_apart}
 use Rattle.http_door.proofs.AnswerFindings.{sized_err_at, no_ok}
-use Rattle.http_door.proofs.Holding.{line_end_feed}
+use Rattle.http_door.proofs.Holding.{line_end_feed, last_feed, feed_came, stood_before}
 
 head_feed : (h : ResponseHead) → HasFeed (print_response h)
 unfolding print_response
@@ -24,11 +26,34 @@ head_feed h =
     Contains-append_left (prefix ++ print_end h.line_end) (print_section h.fields h.last) line_feed
     (Contains-append_right prefix (print_end h.line_end) line_feed (line_end_feed h.line_end))
 
--- none stands in bytes that were looked at, since it has a line feed
+-- no whole head stands in bytes that were looked at, since it has a line feed
+pub lacks_looked : (bytes : List ℕ) → (HasFeed bytes → IsLooked bytes None) → ¬ HoldsHead bytes
+lacks_looked bytes fed (h, rest, x) =
+    (fed (subst HasFeed (sym x.reads.1) (Contains-append_left (print_response h) rest line_feed (head_feed h)))).none h rest x.reads
+
+-- a head ends in a line feed
+head_last : (h : ResponseHead) → (before : List ℕ) × (print_response h ≡ before ++ line_feed ∷ [])
+unfolding print_response
+head_last h =
+    let prefix : List ℕ = print_blank h.blank ++ print_version h.minor ++ space ∷ h.digits ++ print_reason h.reason ++ print_end h.line_end in
+    let fields : List ℕ = flat_map print_field h.fields in
+    let last = last_feed (prefix ++ fields) h.last in
+    (last.0, sym (append_assoc prefix fields (print_end h.last)) ∙ last.1)
+
+lacks_at : (old prefix new : List ℕ) (h : ResponseHead) (rest : List ℕ) → new ≡ old ++ prefix → ¬ HoldsHead old → (HasFeed (drop (length old) new) → IsLooked new None) → IsHead new h rest
+    → (length old < length (print_response h)) ⊎ (length (print_response h) ≤ length old) → ⊥
+lacks_at old prefix new h rest e none fed x (inl longer) = (fed (feed_came old new (print_response h) rest x.reads.1 (head_last h) longer)).none h rest x.reads
+lacks_at old prefix new h rest e none fed x (inr shorter) =
+    none (h, _, record { reads = (x.reads.0, stood_before old prefix new (print_response h) rest e x.reads.1 shorter); short = x.short; few = x.few })
+
+-- nor in more bytes, where those that came were looked at
+pub lacks_more : (old prefix new : List ℕ) → new ≡ old ++ prefix → ¬ HoldsHead old → (HasFeed (drop (length old) new) → IsLooked new None) → ¬ HoldsHead new
+lacks_more old prefix new e none fed (h, rest, x) =
+    lacks_at old prefix new h rest e none fed x (cases_lt (length old) (length (print_response h)))
+
+-- no whole response stands there
 pub held_looked : (bytes : List ℕ) → (HasFeed bytes → IsLooked bytes None) → HoldsAnswer bytes → ⊥
-held_looked bytes fed (a, rest, x) =
-    let r = x.is_head.reads in
-    (fed (subst HasFeed (sym r.1) (Contains-append_left (print_response x.head) (a.body ++ rest) line_feed (head_feed x.head)))).none x.head (a.body ++ rest) r
+held_looked bytes fed (a, rest, x) = lacks_looked bytes fed (x.head, a.body ++ rest, x.is_head)
 
 fault_bytes : (e : AnswerEnding) → IsFault e → IsOfBytes e
 fault_bytes end.Cut h = absurd h

@@ -10,7 +10,7 @@ use Rattle.farm_io.specs.declared.block.Stop.{Stop}
 use Rattle.farm_io.specs.declared.block.Stop.TheVariants as stop
 use Rattle.farm_io.specs.Lines.{input_limit}
 use Rattle.farm_io.specs.Streams.{Rose}
-use Rattle.farm_io.specs.BlockValue.{IsEnded, HasCauseStop}
+use Rattle.farm_io.specs.BlockValue.{IsEnded}
 use Rattle.http_door.specs.declared.heads.Seen.{Seen}
 use Rattle.http_door.specs.declared.ending.Ending.{Ending}
 use Rattle.http_door.specs.declared.ending.Ending.TheVariants as ending
@@ -91,24 +91,20 @@ refusal_end ending.ReadFault left h = absurd h
 refusal_end ending.InputLimit left h = absurd h
 refusal_end ending.NoMemory left h = absurd h
 
-refusal_fault : (e : Ending) → IsRefusal e → ¬ (e ≡ ending.ReadFault)
-refusal_fault e h is = subst IsRefusal is h
-
 refusal_limit : (e : Ending) → IsRefusal e → ¬ (e ≡ ending.InputLimit)
 refusal_limit e h is = subst IsRefusal is h
 
 -- a refusal stops the reader
-pub refused : (left : Option (List ℕ)) (before now : ℕ) (w : WindowValue) (e : Ending) → EndsAs e w.ahead → IsRefusal e → Stops left before now w e
-refused left before now w e h r = record {
+pub refused : (left : Option (List ℕ)) (w : WindowValue) (e : Ending) → EndsAs e w.ahead → IsRefusal e → Stops left w e
+refused left w e h r = record {
   ends = h;
   end = refusal_end e left r;
-  fault = λ is. absurd (refusal_fault e r is);
   limit = λ is. absurd (refusal_limit e r is);
 }
 
-pub looked_err : (left : Option (List ℕ)) (before now : ℕ) (w : WindowValue) (bytes : List ℕ) (r : Result Seen Ending) → bytes ≡ w.ahead → IsLooked bytes (Some r) → IfErr r (Stops left before now w)
-looked_err left before now w bytes (Ok s) e h = tt
-looked_err left before now w bytes (Err end) e h = refused left before now w end (subst (EndsAs end) e h.0) h.1
+pub looked_err : (left : Option (List ℕ)) (w : WindowValue) (bytes : List ℕ) (r : Result Seen Ending) → bytes ≡ w.ahead → IsLooked bytes (Some r) → IfErr r (Stops left w)
+looked_err left w bytes (Ok s) e h = tt
+looked_err left w bytes (Err end) e h = refused left w end (subst (EndsAs end) e h.0) h.1
 
 pub looked_ok : (w : WindowValue) (bytes : List ℕ) (r : Result Seen Ending) → bytes ≡ w.ahead → IsLooked bytes (Some r) → IfOk r (HasShown w.ahead)
 looked_ok w bytes (Ok s) e h = subst (λ (z : List ℕ). HasShown z s) e h
@@ -126,42 +122,42 @@ pub rose_from : (before was now : ℕ) → before ≤ was → Rose was now → R
 rose_from before was now le h = omega (arith, le, h)
 
 -- the bytes stop within a head, or between requests
-pub stopped_head : (left : Option (List ℕ)) (before was now : ℕ) (w : WindowValue) (s : Stop) (empty : Bool) → empty ≡ eqb (length w.ahead) 0 → IsWithinHead w.ahead → before ≤ was
-    → IsEnded (Some s) left → HasCauseStop was now (Some s) → (Some s ≡ Some stop.InputLimit → w.taken ≡ input_limit) → Stops left before now w (ended_by s empty)
-stopped_head left before was now w stop.End true is h le end cause limit =
-    record { ends = empty_is w.ahead (sym is); end = (λ e. end refl, λ e. cc); fault = λ e. cc; limit = λ e. cc }
-stopped_head left before was now w stop.End false is h le end cause limit =
-    record { ends = (some_is w.ahead (sym is), inl h); end = (λ e. cc, λ e. end refl); fault = λ e. cc; limit = λ e. cc }
-stopped_head left before was now w stop.ReadFault empty is h le end cause limit =
-    record { ends = inl h; end = (λ e. cc, λ e. cc); fault = λ e. rose_from before was now le (cause.failed refl); limit = λ e. cc }
-stopped_head left before was now w stop.InputLimit empty is h le end cause limit =
-    record { ends = inl h; end = (λ e. cc, λ e. cc); fault = λ e. cc; limit = λ e. limit refl }
+pub stopped_head : (left : Option (List ℕ)) (w : WindowValue) (s : Stop) (empty : Bool) → empty ≡ eqb (length w.ahead) 0 → IsWithinHead w.ahead
+    → IsEnded (Some s) left → (Some s ≡ Some stop.InputLimit → w.taken ≡ input_limit) → Stops left w (ended_by s empty)
+stopped_head left w stop.End true is h end limit =
+    record { ends = empty_is w.ahead (sym is); end = (λ e. end refl, λ e. cc); limit = λ e. cc }
+stopped_head left w stop.End false is h end limit =
+    record { ends = (some_is w.ahead (sym is), inl h); end = (λ e. cc, λ e. end refl); limit = λ e. cc }
+stopped_head left w stop.ReadFault empty is h end limit =
+    record { ends = inl h; end = (λ e. cc, λ e. cc); limit = λ e. cc }
+stopped_head left w stop.InputLimit empty is h end limit =
+    record { ends = inl h; end = (λ e. cc, λ e. cc); limit = λ e. limit refl }
 
 -- a head or a refusal that stands at the front where the bytes stop, or neither
 pub last_ok : (w : WindowValue) (bytes : List ℕ) (s : Stop) (r : Result Seen Ending) → bytes ≡ w.ahead → StopsOrShows bytes s r → IfOk r (HasShown w.ahead)
 last_ok w bytes s r e (inl h) = looked_ok w bytes r e h
 last_ok w bytes s r e (inr h) = subst (λ (z : Result Seen Ending). IfOk z (HasShown w.ahead)) (sym h.1) tt
 
-pub last_err : (left : Option (List ℕ)) (before was now : ℕ) (w : WindowValue) (bytes : List ℕ) (s : Stop) (r : Result Seen Ending) → bytes ≡ w.ahead → StopsOrShows bytes s r → before ≤ was
-    → IsEnded (Some s) left → HasCauseStop was now (Some s) → (Some s ≡ Some stop.InputLimit → w.taken ≡ input_limit) → IfErr r (Stops left before now w)
-last_err left before was now w bytes s r e (inl h) le end cause limit = looked_err left before now w bytes r e h
-last_err left before was now w bytes s r e (inr h) le end cause limit =
-    subst (λ (z : Result Seen Ending). IfErr z (Stops left before now w)) (sym h.1)
-    (stopped_head left before was now w s (eqb (length bytes) 0) (ap (λ z. eqb (length z) 0) e) (subst IsWithinHead e h.0) le end cause limit)
+pub last_err : (left : Option (List ℕ)) (w : WindowValue) (bytes : List ℕ) (s : Stop) (r : Result Seen Ending) → bytes ≡ w.ahead → StopsOrShows bytes s r
+    → IsEnded (Some s) left → (Some s ≡ Some stop.InputLimit → w.taken ≡ input_limit) → IfErr r (Stops left w)
+last_err left w bytes s r e (inl h) end limit = looked_err left w bytes r e h
+last_err left w bytes s r e (inr h) end limit =
+    subst (λ (z : Result Seen Ending). IfErr z (Stops left w)) (sym h.1)
+    (stopped_head left w s (eqb (length bytes) 0) (ap (λ z. eqb (length z) 0) e) (subst IsWithinHead e h.0) end limit)
 
 -- want of memory may come at any time
-pub no_memory : (left : Option (List ℕ)) (before now : ℕ) (w : WindowValue) → Stops left before now w ending.NoMemory
-no_memory left before now w = record { ends = tt; end = (λ e. cc, λ e. cc); fault = λ e. cc; limit = λ e. cc }
+pub no_memory : (left : Option (List ℕ)) (w : WindowValue) → Stops left w ending.NoMemory
+no_memory left w = record { ends = tt; end = (λ e. cc, λ e. cc); limit = λ e. cc }
 
 -- the bytes stop within a body
-pub stopped_body : (left : Option (List ℕ)) (before was now : ℕ) (w : WindowValue) (s : Stop) → IsWithinBody w.ahead → 0 < length w.ahead → before ≤ was
-    → IsEnded (Some s) left → HasCauseStop was now (Some s) → (Some s ≡ Some stop.InputLimit → w.taken ≡ input_limit) → Stops left before now w (ended_by s false)
-stopped_body left before was now w stop.End h some le end cause limit =
-    record { ends = (some, inr h); end = (λ e. cc, λ e. end refl); fault = λ e. cc; limit = λ e. cc }
-stopped_body left before was now w stop.ReadFault h some le end cause limit =
-    record { ends = inr h; end = (λ e. cc, λ e. cc); fault = λ e. rose_from before was now le (cause.failed refl); limit = λ e. cc }
-stopped_body left before was now w stop.InputLimit h some le end cause limit =
-    record { ends = inr h; end = (λ e. cc, λ e. cc); fault = λ e. cc; limit = λ e. limit refl }
+pub stopped_body : (left : Option (List ℕ)) (w : WindowValue) (s : Stop) → IsWithinBody w.ahead → 0 < length w.ahead
+    → IsEnded (Some s) left → (Some s ≡ Some stop.InputLimit → w.taken ≡ input_limit) → Stops left w (ended_by s false)
+stopped_body left w stop.End h some end limit =
+    record { ends = (some, inr h); end = (λ e. cc, λ e. end refl); limit = λ e. cc }
+stopped_body left w stop.ReadFault h some end limit =
+    record { ends = inr h; end = (λ e. cc, λ e. cc); limit = λ e. cc }
+stopped_body left w stop.InputLimit h some end limit =
+    record { ends = inr h; end = (λ e. cc, λ e. cc); limit = λ e. limit refl }
 
 err_is : (e f : Ending) (r : Result ℕ Ending) → r ≡ Err e → r ≡ Err f → e ≡ f
 err_is e f r h k = cc
@@ -179,10 +175,10 @@ sized_err_at bytes h rest e framing.NoLength is x s = refusal_at bytes e ending.
 sized_err_at bytes h rest e (framing.TooLong n) is x s = refusal_at bytes e (ending.BodyTooLong n) (err_is e _ (Err e) refl s) ((h, rest, x, sym is), tt)
 
 -- a head that says no fit length stops the reader
-pub sized_err : (left : Option (List ℕ)) (before now : ℕ) (w : WindowValue) (s : Seen) (e : Ending) → HasShown w.ahead s → IsSized s.framing (Err e) → Stops left before now w e
-sized_err left before now w s e x h =
+pub sized_err : (left : Option (List ℕ)) (w : WindowValue) (s : Seen) (e : Ending) → HasShown w.ahead s → IsSized s.framing (Err e) → Stops left w e
+sized_err left w s e x h =
     let r = sized_err_at w.ahead x.0 (drop s.len w.ahead) e s.framing x.1.framing x.1.is_head h in
-    refused left before now w e r.0 r.1
+    refused left w e r.0 r.1
 
 -- a head and its body, where enough bytes stand behind the head
 pub shown_whole : (bytes : List ℕ) (s : Seen) (n : ℕ) → (h : RequestHead) × ShowsHead bytes h s × (framing_of h ≡ framing.Sized n) → s.len + n ≤ length bytes → HasWhole bytes (record { seen = s; len = n })

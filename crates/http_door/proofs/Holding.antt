@@ -36,7 +36,7 @@ pub lacks_looked : (bytes : List ℕ) → (HasFeed bytes → IsLooked bytes None
 lacks_looked bytes fed (h, rest, x) =
     (fed (subst HasFeed (sym x.reads.1) (Contains-append_left (print_request h) rest line_feed (head_feed h)))).none h rest x.reads
 
-last_feed : (prefix : List ℕ) (e : LineEnd) → (before : List ℕ) × (prefix ++ print_end e ≡ before ++ line_feed ∷ [])
+pub last_feed : (prefix : List ℕ) (e : LineEnd) → (before : List ℕ) × (prefix ++ print_end e ≡ before ++ line_feed ∷ [])
 last_feed prefix crlf = (prefix ++ 13 ∷ [], sym (append_assoc prefix (13 ∷ []) (line_feed ∷ [])))
 last_feed prefix lf = (prefix, refl)
 
@@ -53,24 +53,26 @@ feed_behind : (n : ℕ) (before rest : List ℕ) → n ≤ length before → Has
 feed_behind n before rest le =
     subst HasFeed (sym (drop-append-le n before (line_feed ∷ rest) le)) (Contains-append_right (drop n before) (line_feed ∷ rest) line_feed (0, omega arith, refl))
 
--- a head that is no longer than the bytes held stood there before more came
-head_before : (old prefix new : List ℕ) (h : RequestHead) (rest : List ℕ) → new ≡ old ++ prefix → IsHead new h rest → length (print_request h) ≤ length old → HoldsHead old
-head_before old prefix new h rest e x le =
-    let P = print_request h in
-    let d = length old - length P in
-    let sum : length P + d ≡ length old = omega arith in
+-- a text that stands at the front of the bytes, and is longer than those that were held, ends in a line feed that came
+pub feed_came : (old new text rest : List ℕ) → new ≡ text ++ rest → (before : List ℕ) × (text ≡ before ++ line_feed ∷ []) → length old < length text → HasFeed (drop (length old) new)
+feed_came old new text rest e last longer =
+    let all : new ≡ last.0 ++ line_feed ∷ rest = e ∙ ap (λ z. z ++ rest) last.1 ∙ append_assoc last.0 (line_feed ∷ []) rest in
+    let le : length old ≤ length last.0 = omega (arith, longer, ap length last.1, length-append last.0 (line_feed ∷ [])) in
+    subst (λ (z : List ℕ). HasFeed (drop (length old) z)) (sym all) (feed_behind (length old) last.0 rest le)
+
+-- one that is no longer stood there before more came
+pub stood_before : (old prefix new text rest : List ℕ) → new ≡ old ++ prefix → new ≡ text ++ rest → length text ≤ length old → old ≡ text ++ take (length old - length text) rest
+stood_before old prefix new text rest e is le =
+    let d = length old - length text in
+    let sum : length text + d ≡ length old = omega arith in
     let cut : take (length old) new ≡ old = ap (take (length old)) e ∙ take-append-le (length old) old prefix (omega arith) ∙ take_all (length old) old (omega arith) in
-    let head : take (length old) new ≡ P ++ take d rest = ap (take (length old)) x.reads.1 ∙ subst (λ (z : ℕ). take z (P ++ rest) ≡ P ++ take d rest) sum (take-append-add P rest d) in
-    (h, take d rest, record { reads = (x.reads.0, sym cut ∙ head); short = x.short; few = x.few })
+    sym cut ∙ ap (take (length old)) is ∙ subst (λ (z : ℕ). take z (text ++ rest) ≡ text ++ take d rest) sum (take-append-add text rest d)
 
 lacks_at : (old prefix new : List ℕ) (h : RequestHead) (rest : List ℕ) → new ≡ old ++ prefix → ¬ HoldsHead old → (HasFeed (drop (length old) new) → IsLooked new None) → IsHead new h rest
     → (length old < length (print_request h)) ⊎ (length (print_request h) ≤ length old) → ⊥
-lacks_at old prefix new h rest e none fed x (inl longer) =
-    let last = head_last h in
-    let all : new ≡ last.0 ++ line_feed ∷ rest = x.reads.1 ∙ ap (λ z. z ++ rest) last.1 ∙ append_assoc last.0 (line_feed ∷ []) rest in
-    let le : length old ≤ length last.0 = omega (arith, longer, ap length last.1, length-append last.0 (line_feed ∷ [])) in
-    (fed (subst (λ (z : List ℕ). HasFeed (drop (length old) z)) (sym all) (feed_behind (length old) last.0 rest le))).none h rest x.reads
-lacks_at old prefix new h rest e none fed x (inr shorter) = none (head_before old prefix new h rest e x shorter)
+lacks_at old prefix new h rest e none fed x (inl longer) = (fed (feed_came old new (print_request h) rest x.reads.1 (head_last h) longer)).none h rest x.reads
+lacks_at old prefix new h rest e none fed x (inr shorter) =
+    none (h, _, record { reads = (x.reads.0, stood_before old prefix new (print_request h) rest e x.reads.1 shorter); short = x.short; few = x.few })
 
 -- nor in more bytes, where those that came were looked at
 pub lacks_more : (old prefix new : List ℕ) → new ≡ old ++ prefix → ¬ HoldsHead old → (HasFeed (drop (length old) new) → IsLooked new None) → ¬ HoldsHead new

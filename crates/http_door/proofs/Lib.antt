@@ -5,9 +5,11 @@ pub mod Between
 pub mod Windows
 pub mod Findings
 pub mod Holding
+pub mod Causes
 pub mod Giving
 pub mod Writing
 pub mod AnswerCutting
 pub mod AnswerFindings
 pub mod AnswerHolding
+pub mod AnswerCauses
 pub mod AnswerGiving

@@ -4,7 +4,6 @@ use Rattle.std.specs.Io.KnownBytes.{IsAtEnd}
 use Rattle.httparse.specs.Grammar.{ResponseHead, status_code}
 use Rattle.farm_io.specs.declared.block.Stop.{Stop}
 use Rattle.farm_io.specs.declared.block.Stop.TheVariants as stop
-use Rattle.farm_io.specs.Streams.{Rose}
 use Rattle.http_door.specs.declared.answers.fields.AnswerFraming.{AnswerFraming}
 use Rattle.http_door.specs.declared.answers.fields.AnswerFraming.TheVariants as framing
 use Rattle.http_door.specs.declared.answers.heads.Seen.{Seen}
@@ -48,10 +47,9 @@ abbrev pub StopsOrShows : List ℕ → Stop → Result Seen AnswerEnding → Typ
 StopsOrShows bytes halt r = IsLooked bytes (Some r) ⊎ (IsWithinHead bytes × (r ≡ Err (ended_by halt)))
 
 -- no response comes, and why; where the bytes were cut, the source has nothing left
-pub record Stops (left : Option (List ℕ)) (before now : ℕ) (ahead : List ℕ) (e : AnswerEnding) : Type 0 where
+pub record Stops (left : Option (List ℕ)) (ahead : List ℕ) (e : AnswerEnding) : Type 0 where
   pub ends : EndsAs e ahead
   pub end : e ≡ ending.Cut → IsAtEnd left
-  pub fault : e ≡ ending.ReadFault → Rose before now
 
 -- the head says this length
 abbrev pub IsSized : AnswerFraming → Result ℕ AnswerEnding → Type 0

@@ -1,5 +1,5 @@
 -- What one call of a reader of responses reads.
-use Rattle.std.specs.Prelude.{◌≡◌, ℕ, ◌≤◌, List, ◌++◌, length, take, drop, Option, Result, Ok, Err}
+use Rattle.std.specs.Prelude.{◌≡◌, ◌≢◌, ℕ, ◌≤◌, List, ◌++◌, length, take, drop, Option, Result, Ok, Err}
 use Rattle.std.specs.Io.KnownBytes.{Consumes, IsAtEnd}
 use Rattle.farm_io.specs.Streams.{Rose}
 use Rattle.http_door.specs.declared.answers.ending.AnswerEnding.{AnswerEnding}
@@ -37,7 +37,9 @@ pub record ReadsIn (left left' : Option (List ℕ)) (old new : WindowValue) (res
   pub gives : GivesIn (old.ahead ++ prefix) new.ahead result
   pub end : result ≡ Err ending.Cut → IsAtEnd left'
 
--- the count of the source's faults never falls, and rises where the source failed
-pub record HasCauseRead (before now : ℕ) (result : Result ℕ AnswerEnding) : Type 0 where
+-- The count of the source's faults never falls, and rises where the source failed and at nothing else. Where it failed
+-- behind bytes that no head begins with, these are told.
+pub record HasCauseRead {X : Type 0} (before now : ℕ) (result : Result X AnswerEnding) : Type 0 where
   pub later : before ≤ now
   pub failed : result ≡ Err ending.ReadFault → Rose before now
+  pub kept : result ≢ Err ending.ReadFault → result ≢ Err ending.BadHead → now ≡ before

@@ -26,6 +26,10 @@ pub record IsAnswer (bytes : List ℕ) (a : Answer) (rest : List ℕ) : Type 0 w
   pub framing : framing_of head ≡ framing.Sized (length a.body)
   pub code : a.code ≡ status_code head
 
+-- a whole head that keeps to the limits stands at the front of the bytes
+abbrev pub HoldsHead : List ℕ → Type 0
+HoldsHead bytes = (h : ResponseHead) × (rest : List ℕ) × IsHead bytes h rest
+
 -- a whole response stands at the front of the bytes
 abbrev pub HoldsAnswer : List ℕ → Type 0
 HoldsAnswer bytes = (a : Answer) × (rest : List ℕ) × IsAnswer bytes a rest

@@ -6,7 +6,6 @@ use Rattle.httparse.specs.Spans.{span_bytes, IsWithin}
 use Rattle.farm_io.specs.declared.block.Stop.{Stop}
 use Rattle.farm_io.specs.declared.block.Stop.TheVariants as stop
 use Rattle.farm_io.specs.Lines.{input_limit}
-use Rattle.farm_io.specs.Streams.{Rose}
 use Rattle.http_door.specs.declared.fields.Framing.{Framing}
 use Rattle.http_door.specs.declared.fields.Framing.TheVariants as framing
 use Rattle.http_door.specs.declared.heads.Seen.{Seen}
@@ -56,10 +55,9 @@ StopsOrShows bytes halt r =
     IsLooked bytes (Some r) ⊎ (IsWithinHead bytes × (r ≡ Err (ended_by halt (length bytes == 0))))
 
 -- no request comes, and why
-pub record Stops (left : Option (List ℕ)) (before now : ℕ) (w : WindowValue) (e : Ending) : Type 0 where
+pub record Stops (left : Option (List ℕ)) (w : WindowValue) (e : Ending) : Type 0 where
   pub ends : EndsAs e w.ahead
   pub end : IsEndOf e left
-  pub fault : e ≡ ending.ReadFault → Rose before now
   pub limit : e ≡ ending.InputLimit → w.taken ≡ input_limit
 
 -- the head says this length

@@ -1,5 +1,5 @@
 -- What one call of a reader of requests reads.
-use Rattle.std.specs.Prelude.{◌≡◌, ℕ, ◌+◌, ◌≤◌, List, ◌++◌, length, take, drop, Option, Some, None, Result, Ok, Err, ⊤}
+use Rattle.std.specs.Prelude.{◌≡◌, ◌≢◌, ℕ, ◌+◌, ◌≤◌, List, ◌++◌, length, take, drop, Option, Some, None, Result, Ok, Err, ⊤}
 use Rattle.std.specs.Io.KnownBytes.{Consumes}
 use Rattle.farm_io.specs.Lines.{input_limit}
 use Rattle.farm_io.specs.Streams.{Rose}
@@ -54,13 +54,20 @@ abbrev pub IsEndFor : Option Ending → Option (List ℕ) → Type 0
 IsEndFor None left = ⊤
 IsEndFor (Some e) left = IsEndOf e left
 
--- The count of the source's faults never falls, and rises in the call that first answers a fault.
+-- The count of the source's faults never falls, and rises where the source failed and at nothing else. Where it failed
+-- behind bytes that no head begins with, these are refused.
+pub record HasCauseGiven {X : Type 0} (before now : ℕ) (result : Result X Ending) : Type 0 where
+  pub later : before ≤ now
+  pub failed : result ≡ Err ending.ReadFault → Rose before now
+  pub kept : result ≢ Err ending.ReadFault → result ≢ Err ending.BadHead → now ≡ before
+
+-- the same, where the call that first answers a fault is the one in which the source failed
 pub record HasCauseNext (was : Option Ending) (before now : ℕ) (result : Result Head Ending) : Type 0 where
   pub later : before ≤ now
   pub failed : was ≡ None → result ≡ Err ending.ReadFault → Rose before now
+  pub kept : result ≢ Err ending.ReadFault → result ≢ Err ending.BadHead → now ≡ before
 
--- the same over a window
-pub record HasCauseGiven (left : Option (List ℕ)) (before now : ℕ) (w : WindowValue) (e : Ending) : Type 0 where
+-- where the bytes have ended, the source has nothing left, and at the limit as many were taken
+pub record IsStopped (left : Option (List ℕ)) (w : WindowValue) (e : Ending) : Type 0 where
   pub end : IsEndOf e left
-  pub fault : e ≡ ending.ReadFault → Rose before now
   pub limit : e ≡ ending.InputLimit → w.taken ≡ input_limit

@@ -1,5 +1,5 @@
 -- The four refusals, and their fixed responses.
-use Rattle.std.specs.Prelude.{ℕ, List, codes, Option, Some, None}
+use Rattle.std.specs.Prelude.{ℕ, List, ◌++◌, codes, Option, Some, None}
 use Rattle.http_door.specs.declared.ending.Ending.{Ending}
 use Rattle.http_door.specs.declared.ending.Ending.TheVariants as ending
 use Rattle.http_door.specs.declared.refusals.Refusal.{Refusal}
@@ -17,15 +17,17 @@ refusal_of ending.ReadFault = None
 refusal_of ending.InputLimit = None
 refusal_of ending.NoMemory = None
 
--- Bad Request, Request Header Fields Too Large, Content Too Large, Length Required
-abbrev pub refusal_status : Refusal → ℕ
-refusal_status refusal.BadHead = 400
-refusal_status refusal.HeadTooLong = 431
-refusal_status refusal.BodyTooLong = 413
-refusal_status refusal.NoLength = 411
-
-abbrev pub refusal_body : Refusal → List ℕ
-refusal_body refusal.BadHead = codes "{\"reply\":\"bad-head\"}"
-refusal_body refusal.HeadTooLong = codes "{\"reply\":\"head-too-long\"}"
-refusal_body refusal.BodyTooLong = codes "{\"reply\":\"body-too-long\"}"
-refusal_body refusal.NoLength = codes "{\"reply\":\"no-length\"}"
+-- the bytes of the responses: Bad Request, Request Header Fields Too Large, Content Too Large, Length Required
+unfoldable pub refusal_response : Refusal → List ℕ
+refusal_response refusal.BadHead =
+    codes "HTTP/1.1 400 Bad Request\r\ncontent-length: 20\r\n"
+    ++ codes "content-type: application/json\r\n\r\n{\"reply\":\"bad-head\"}"
+refusal_response refusal.HeadTooLong =
+    codes "HTTP/1.1 431 Request Header Fields Too Large\r\ncontent-length: 25\r\n"
+    ++ codes "content-type: application/json\r\n\r\n{\"reply\":\"head-too-long\"}"
+refusal_response refusal.BodyTooLong =
+    codes "HTTP/1.1 413 Payload Too Large\r\ncontent-length: 25\r\n"
+    ++ codes "content-type: application/json\r\n\r\n{\"reply\":\"body-too-long\"}"
+refusal_response refusal.NoLength =
+    codes "HTTP/1.1 411 Length Required\r\ncontent-length: 21\r\n"
+    ++ codes "content-type: application/json\r\n\r\n{\"reply\":\"no-length\"}"

@@ -1,5 +1,5 @@
 -- The bytes of a response, and what a call puts of them.
-use Rattle.std.specs.Prelude.{◌≡◌, ℕ, ◌≤◌, List, [], ◌++◌, length, take, codes, Bool, true, false, Option, Result, Ok, Err}
+use Rattle.std.specs.Prelude.{◌≡◌, ◌≢◌, ℕ, ◌≤◌, List, [], ◌++◌, length, take, codes, Bool, true, false, Option, Result, Ok, Err}
 use Rattle.std.specs.Option.{unwrap_or}
 use Rattle.std.specs.Fmt.{decimal}
 use Rattle.std.specs.Io.KnownBytes.{Keeps, Appends}
@@ -62,7 +62,8 @@ Writes held held' text (Ok u) = Appends held held' text
 Writes held held' text (Err fault.WriteFault) = (n : ℕ) × (n ≤ length text) × Appends held held' (take n text)
 Writes held held' text (Err fault.NoMemory) = Keeps held held'
 
--- the count of faults never falls, and rises where the sink failed
+-- the count of faults never falls, and rises where the sink failed and at nothing else
 pub record HasCauseWritten (before now : ℕ) (result : Result (Unit {0}) ResponseFault) : Type 0 where
   pub later : before ≤ now
   pub failed : result ≡ Err fault.WriteFault → Rose before now
+  pub kept : result ≢ Err fault.WriteFault → now ≡ before

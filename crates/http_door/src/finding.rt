@@ -1,12 +1,13 @@
 ghost use Rattle.std.specs.Prelude.{◌≡◌, ◌≢◌, ◌+◌, ◌<◌, ◌≤◌, ◌↔◌, ℕ, length, take, drop, Some, IfOk, IfErr, IfSome, IsNone, IsSome, IsOk, IsTrue, IsFalse};
 ghost use Rattle.httparse.specs.Grammar.{RequestHead};
 ghost use Rattle.farm_io.specs.Lines.{HasFeed, input_limit};
-ghost use Rattle.farm_io.specs.BlockValue.{IsEnded, HasCauseStop};
+ghost use Rattle.farm_io.specs.BlockValue.{IsEnded};
 ghost use Rattle.http_door.specs.Fields.{body_limit};
 ghost use Rattle.http_door.specs.Heads.{head_limit, framing_of};
 ghost use Rattle.http_door.specs.Requests.{HoldsHead, HoldsRequest};
-ghost use Rattle.http_door.specs.WindowValue.{Fills};
+ghost use Rattle.http_door.specs.WindowValue.{Fills, HasCauseFill};
 ghost use Rattle.http_door.specs.ReaderValue.{room_limit};
+ghost use Rattle.http_door.specs.Reading.{HasCauseGiven};
 ghost use Rattle.http_door.specs.Finding.{IsLooked, ShowsHead, HasShown, Stops, StopsOrShows, ended_by, IsSized, HasWhole};
 
 use crate::ending::Ending;
@@ -112,10 +113,11 @@ fn ask<S: Source>(window: &mut Window, source: &mut S) -> Option<Stop>
     ensures fills { Fills (S.left source.old) (S.left source.new) window.old window.new }
     ensures size { window.new.size ≡ window.old.size }
     ensures grows { IsNone result → window.old.taken < window.new.taken }
+    ensures kept { IsSome result → window.new ≡ window.old }
     ensures few { window.new.taken ≤ input_limit }
     ensures end { IsEnded result (S.left source.new) }
     ensures limit { result ≡ Some Stop.InputLimit → window.new.taken ≡ input_limit }
-    ensures cause { HasCauseStop (S.faults source.old) (S.faults source.new) result }
+    ensures cause { HasCauseFill (S.faults source.old) (S.faults source.new) result }
     ensures beside { S.beside source.new ≡ S.beside source.old }
 {
     window.fill(source)
@@ -129,10 +131,10 @@ fn seek<S: Source>(window: &mut Window, source: &mut S) -> Result<Seen, Ending>
     requires few { window.old.taken ≤ input_limit }
     ensures fills { Fills (S.left source.old) (S.left source.new) window.old window.new }
     ensures ok { IfOk result (HasShown window.new.ahead) }
-    ensures err { IfErr result (Stops (S.left source.new) (S.faults source.old) (S.faults source.new) window.new) }
+    ensures err { IfErr result (Stops (S.left source.new) window.new) }
     ensures size { window.new.size ≡ window.old.size }
     ensures few { window.new.taken ≤ input_limit }
-    ensures later { S.faults source.old ≤ S.faults source.new }
+    ensures cause { HasCauseGiven (S.faults source.old) (S.faults source.new) result }
     ensures beside { S.beside source.new ≡ S.beside source.old }
 {
     loop {
@@ -152,10 +154,10 @@ fn find_head<S: Source>(window: &mut Window, source: &mut S) -> Result<Seen, End
     requires few { window.old.taken ≤ input_limit }
     ensures fills { Fills (S.left source.old) (S.left source.new) window.old window.new }
     ensures ok { IfOk result (HasShown window.new.ahead) }
-    ensures err { IfErr result (Stops (S.left source.new) (S.faults source.old) (S.faults source.new) window.new) }
+    ensures err { IfErr result (Stops (S.left source.new) window.new) }
     ensures size { window.new.size ≡ window.old.size }
     ensures few { window.new.taken ≤ input_limit }
-    ensures later { S.faults source.old ≤ S.faults source.new }
+    ensures cause { HasCauseGiven (S.faults source.old) (S.faults source.new) result }
     ensures beside { S.beside source.new ≡ S.beside source.old }
 
     // The head of a request that is held whole is found without asking the source.
@@ -178,7 +180,7 @@ pub fn wait_for<S: Source>(window: &mut Window, source: &mut S, need: usize) -> 
     ensures few { window.new.taken ≤ input_limit }
     ensures end { IsEnded result (S.left source.new) }
     ensures limit { result ≡ Some Stop.InputLimit → window.new.taken ≡ input_limit }
-    ensures cause { HasCauseStop (S.faults source.old) (S.faults source.new) result }
+    ensures cause { HasCauseFill (S.faults source.old) (S.faults source.new) result }
     ensures beside { S.beside source.new ≡ S.beside source.old }
 {
     loop {
@@ -215,10 +217,10 @@ fn take_body<S: Source>(
     requires small { len ≤ body_limit }
     ensures fills { Fills (S.left source.old) (S.left source.new) window.old window.new }
     ensures ok { IfOk result (HasWhole window.new.ahead) }
-    ensures err { IfErr result (Stops (S.left source.new) (S.faults source.old) (S.faults source.new) window.new) }
+    ensures err { IfErr result (Stops (S.left source.new) window.new) }
     ensures few { window.new.taken ≤ input_limit }
     ensures small { window.old.size ≤ room_limit → window.new.size ≤ room_limit }
-    ensures later { S.faults source.old ≤ S.faults source.new }
+    ensures cause { HasCauseGiven (S.faults source.old) (S.faults source.new) result }
     ensures beside { S.beside source.new ≡ S.beside source.old }
     ensures held { seen.len + len ≤ length window.old.ahead → (source.new ≡ source.old) × IsOk result }
 {
@@ -241,10 +243,10 @@ pub fn take_request<S: Source>(window: &mut Window, source: &mut S) -> Result<Wh
     requires few { window.old.taken ≤ input_limit }
     ensures fills { Fills (S.left source.old) (S.left source.new) window.old window.new }
     ensures ok { IfOk result (HasWhole window.new.ahead) }
-    ensures err { IfErr result (Stops (S.left source.new) (S.faults source.old) (S.faults source.new) window.new) }
+    ensures err { IfErr result (Stops (S.left source.new) window.new) }
     ensures few { window.new.taken ≤ input_limit }
     ensures small { window.old.size ≤ room_limit → window.new.size ≤ room_limit }
-    ensures later { S.faults source.old ≤ S.faults source.new }
+    ensures cause { HasCauseGiven (S.faults source.old) (S.faults source.new) result }
     ensures beside { S.beside source.new ≡ S.beside source.old }
     ensures held { HoldsRequest window.old.ahead → (source.new ≡ source.old) × IsOk result }
 {

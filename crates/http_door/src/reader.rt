@@ -6,7 +6,7 @@ ghost use Rattle.http_door.specs.Heads.{head_limit};
 ghost use Rattle.http_door.specs.Requests.{HoldsRequest};
 ghost use Rattle.http_door.specs.Finding.{HasWhole, HasParts};
 ghost use Rattle.http_door.specs.ReaderValue.{budget, room_limit, IsReadable};
-ghost use Rattle.http_door.specs.Reading.{Reads, ReadsIn, EndsWith, IsEndFor, HasCauseNext, HasCauseGiven};
+ghost use Rattle.http_door.specs.Reading.{Reads, ReadsIn, EndsWith, IsEndFor, HasCauseNext, HasCauseGiven, IsStopped};
 
 use crate::ending::Ending;
 use crate::finding::{HEAD_LIMIT, Whole, take_request};
@@ -150,10 +150,9 @@ fn give_next<S: Source>(
     ensures reads { ReadsIn (S.left source.old) (S.left source.new) window.old window.new result }
     ensures few { window.new.taken ≤ input_limit }
     ensures small { window.old.size ≤ room_limit → window.new.size ≤ room_limit }
-    ensures later { S.faults source.old ≤ S.faults source.new }
     ensures beside { S.beside source.new ≡ S.beside source.old }
-    ensures cause { IfErr result
-        (HasCauseGiven (S.left source.new) (S.faults source.old) (S.faults source.new) window.new) }
+    ensures stopped { IfErr result (IsStopped (S.left source.new) window.new) }
+    ensures cause { HasCauseGiven (S.faults source.old) (S.faults source.new) result }
     ensures held { HoldsRequest window.old.ahead
         → (source.new ≡ source.old) × IfErr result (λ e. e ≡ Ending.NoMemory) }
 {

@@ -1,8 +1,7 @@
 ghost use Rattle.std.specs.Prelude.{◌≡◌};
-ghost use Rattle.http_door.specs.Refusals.{refusal_of, refusal_status, refusal_body};
+ghost use Rattle.http_door.specs.Refusals.{refusal_of, refusal_response};
 
 use crate::ending::Ending;
-use http::StatusCode;
 
 /// What a server refuses before it knows the request. Behind the response the connection ends.
 #[derive(Clone, Copy, Debug, PartialEq, Eq)]
@@ -27,27 +26,29 @@ impl Refusal {
         }
     }
 
-    /// The status of its response: 400, 431 (RFC 6585, section 5), 413 or 411 (RFC 9110, section 15.5).
-    pub fn status(self) -> StatusCode
-        ensures { result ≡ refusal_status self }
+    /// The bytes of its response, whose body is a JSON object. Its status is 400, 431 (RFC 6585, section 5), 413 or 411
+    /// (RFC 9110, section 15.5). They stand in the program, so that a refusal wants no memory.
+    #[tactic(auto, unfolding(crate::specs::Refusals::refusal_response))]
+    pub fn response(self) -> &'static str
+        ensures { result.now ≡ refusal_response self }
     {
         match self {
-            Refusal::BadHead => StatusCode::BAD_REQUEST,
-            Refusal::HeadTooLong => StatusCode::REQUEST_HEADER_FIELDS_TOO_LARGE,
-            Refusal::BodyTooLong => StatusCode::PAYLOAD_TOO_LARGE,
-            Refusal::NoLength => StatusCode::LENGTH_REQUIRED,
-        }
-    }
-
-    /// The body of its response, a JSON object.
-    pub fn body(self) -> &'static [u8]
-        ensures { result.now ≡ refusal_body self }
-    {
-        match self {
-            Refusal::BadHead => b"{\"reply\":\"bad-head\"}",
-            Refusal::HeadTooLong => b"{\"reply\":\"head-too-long\"}",
-            Refusal::BodyTooLong => b"{\"reply\":\"body-too-long\"}",
-            Refusal::NoLength => b"{\"reply\":\"no-length\"}",
+            Refusal::BadHead => concat!(
+                "HTTP/1.1 400 Bad Request\r\ncontent-length: 20\r\n",
+                "content-type: application/json\r\n\r\n{\"reply\":\"bad-head\"}",
+            ),
+            Refusal::HeadTooLong => concat!(
+                "HTTP/1.1 431 Request Header Fields Too Large\r\ncontent-length: 25\r\n",
+                "content-type: application/json\r\n\r\n{\"reply\":\"head-too-long\"}",
+            ),
+            Refusal::BodyTooLong => concat!(
+                "HTTP/1.1 413 Payload Too Large\r\ncontent-length: 25\r\n",
+                "content-type: application/json\r\n\r\n{\"reply\":\"body-too-long\"}",
+            ),
+            Refusal::NoLength => concat!(
+                "HTTP/1.1 411 Length Required\r\ncontent-length: 21\r\n",
+                "content-type: application/json\r\n\r\n{\"reply\":\"no-length\"}",
+            ),
         }
     }
 }

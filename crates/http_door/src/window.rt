@@ -1,8 +1,8 @@
 ghost use Rattle.std.specs.Prelude.{◌≡◌, ◌+◌, ◌-◌, ◌<◌, ◌≤◌, [], length, drop, take, slice_range, None, Some, IsNone, IsSome, IfOk, OnOk, max, OnErr};
 ghost use Rattle.farm_io.specs.Lines.{input_limit};
 ghost use Rattle.farm_io.specs.Streams.{Takes, HasCauseTaken};
-ghost use Rattle.farm_io.specs.BlockValue.{IsEnded, HasCauseStop};
-ghost use Rattle.http_door.specs.WindowValue.{Fills, Refills, CountWithin};
+ghost use Rattle.farm_io.specs.BlockValue.{IsEnded};
+ghost use Rattle.http_door.specs.WindowValue.{Fills, Refills, CountWithin, HasCauseFill};
 
 use farm_io::{INPUT_LIMIT, Source, Stop, Taken};
 use farm_kinds::NoMemory;
@@ -103,7 +103,7 @@ impl Window {
         ensures few { self.new.taken ≤ input_limit }
         ensures end { IsEnded result (S.left source.new) }
         ensures limit { result ≡ Some Stop.InputLimit → self.new.taken ≡ input_limit }
-        ensures cause { HasCauseStop (S.faults source.old) (S.faults source.new) result }
+        ensures cause { HasCauseFill (S.faults source.old) (S.faults source.new) result }
         ensures beside { S.beside source.new ≡ S.beside source.old }
     {
         if self.taken >= INPUT_LIMIT {

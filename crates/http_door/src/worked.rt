@@ -4,7 +4,7 @@ ghost use Rattle.http_door.specs.declared.refusals.Refusal.TheVariants as refusa
 ghost use Rattle.http_door.specs.Fields.{framing_by, closes_by};
 ghost use Rattle.http_door.specs.declared.responses.Content.TheVariants as content;
 ghost use Rattle.http_door.specs.Responses.{content_lines, content_response, response_text};
-ghost use Rattle.http_door.specs.Refusals.{refusal_status, refusal_body};
+ghost use Rattle.http_door.specs.Refusals.{refusal_response};
 
 /// The definition of a body's framing at fields.
 pub fn worked_lengths()
@@ -42,16 +42,8 @@ pub fn worked_responses()
     ensures page { content_response content.Page true 200 (codes "<p>")
         ≡ codes "HTTP/1.1 200 OK\r\ncontent-length: 3\r\n" ++ content_lines content.Page
         ++ codes "connection: close\r\n\r\n<p>" }
-    ensures bad_head { response_text (refusal_status refusal.BadHead) (refusal_body refusal.BadHead)
-        ≡ codes "HTTP/1.1 400 Bad Request\r\ncontent-length: 20\r\n"
-        ++ codes "content-type: application/json\r\n\r\n{\"reply\":\"bad-head\"}" }
-    ensures head_too_long { response_text (refusal_status refusal.HeadTooLong) (refusal_body refusal.HeadTooLong)
-        ≡ codes "HTTP/1.1 431 Request Header Fields Too Large\r\ncontent-length: 25\r\n"
-        ++ codes "content-type: application/json\r\n\r\n{\"reply\":\"head-too-long\"}" }
-    ensures body_too_long { response_text (refusal_status refusal.BodyTooLong) (refusal_body refusal.BodyTooLong)
-        ≡ codes "HTTP/1.1 413 Payload Too Large\r\ncontent-length: 25\r\n"
-        ++ codes "content-type: application/json\r\n\r\n{\"reply\":\"body-too-long\"}" }
-    ensures no_length { response_text (refusal_status refusal.NoLength) (refusal_body refusal.NoLength)
-        ≡ codes "HTTP/1.1 411 Length Required\r\ncontent-length: 21\r\n"
-        ++ codes "content-type: application/json\r\n\r\n{\"reply\":\"no-length\"}" }
+    ensures bad_head { refusal_response refusal.BadHead ≡ response_text 400 (codes "{\"reply\":\"bad-head\"}") }
+    ensures head_too_long { refusal_response refusal.HeadTooLong ≡ response_text 431 (codes "{\"reply\":\"head-too-long\"}") }
+    ensures body_too_long { refusal_response refusal.BodyTooLong ≡ response_text 413 (codes "{\"reply\":\"body-too-long\"}") }
+    ensures no_length { refusal_response refusal.NoLength ≡ response_text 411 (codes "{\"reply\":\"no-length\"}") }
 {}

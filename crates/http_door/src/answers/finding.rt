@@ -1,13 +1,13 @@
 ghost use Rattle.std.specs.Prelude.{◌≡◌, ◌≢◌, ◌+◌, ◌<◌, ◌≤◌, ◌↔◌, ℕ, length, take, drop, Some, IfOk, IfErr, IfSome, IsNone, IsSome, IsOk};
 ghost use Rattle.httparse.specs.Grammar.{ResponseHead};
 ghost use Rattle.farm_io.specs.Lines.{HasFeed, input_limit};
-ghost use Rattle.farm_io.specs.BlockValue.{IsEnded, HasCauseStop};
 ghost use Rattle.http_door.specs.AnswerFields.{answer_limit};
 ghost use Rattle.http_door.specs.Heads.{head_limit};
 ghost use Rattle.http_door.specs.AnswerHeads.{framing_of};
-ghost use Rattle.http_door.specs.Answers.{HoldsAnswer};
+ghost use Rattle.http_door.specs.Answers.{HoldsHead, HoldsAnswer};
 ghost use Rattle.http_door.specs.WindowValue.{Fills};
 ghost use Rattle.http_door.specs.AnswerFinding.{room_limit, IsLooked, ShowsHead, HasShown, Stops, StopsOrShows, ended_by, IsSized, HasWhole};
+ghost use Rattle.http_door.specs.AnswerReading.{HasCauseRead};
 
 use super::ending::AnswerEnding;
 use super::fields::AnswerFraming;
@@ -82,13 +82,14 @@ fn seek<S: Source>(window: &mut Window, source: &mut S) -> Result<Seen, AnswerEn
     requires room { head_limit < window.old.size }
     requires small { window.old.size ≤ room_limit }
     requires short { length window.old.ahead < head_limit }
+    requires lacking { ¬ HoldsHead window.old.ahead }
     requires few { window.old.taken ≤ length window.old.ahead }
     ensures fills { Fills (S.left source.old) (S.left source.new) window.old window.new }
     ensures ok { IfOk result (HasShown window.new.ahead) }
-    ensures err { IfErr result (Stops (S.left source.new) (S.faults source.old) (S.faults source.new) window.new.ahead) }
+    ensures err { IfErr result (Stops (S.left source.new) window.new.ahead) }
     ensures size { window.new.size ≡ window.old.size }
     ensures few { window.new.taken ≤ length window.new.ahead }
-    ensures later { S.faults source.old ≤ S.faults source.new }
+    ensures cause { HasCauseRead (S.faults source.old) (S.faults source.new) result }
     ensures beside { S.beside source.new ≡ S.beside source.old }
 {
     loop {
@@ -109,10 +110,10 @@ fn find_head<S: Source>(window: &mut Window, source: &mut S) -> Result<Seen, Ans
     requires few { window.old.taken ≤ length window.old.ahead }
     ensures fills { Fills (S.left source.old) (S.left source.new) window.old window.new }
     ensures ok { IfOk result (HasShown window.new.ahead) }
-    ensures err { IfErr result (Stops (S.left source.new) (S.faults source.old) (S.faults source.new) window.new.ahead) }
+    ensures err { IfErr result (Stops (S.left source.new) window.new.ahead) }
     ensures size { window.new.size ≡ window.old.size }
     ensures few { window.new.taken ≤ length window.new.ahead }
-    ensures later { S.faults source.old ≤ S.faults source.new }
+    ensures cause { HasCauseRead (S.faults source.old) (S.faults source.new) result }
     ensures beside { S.beside source.new ≡ S.beside source.old }
 
     // The head of a response that is held whole is found without asking the source.
@@ -149,9 +150,9 @@ fn take_body<S: Source>(
     requires room { window.old.size ≤ room_limit }
     ensures fills { Fills (S.left source.old) (S.left source.new) window.old window.new }
     ensures ok { IfOk result (HasWhole window.new.ahead) }
-    ensures err { IfErr result (Stops (S.left source.new) (S.faults source.old) (S.faults source.new) window.new.ahead) }
+    ensures err { IfErr result (Stops (S.left source.new) window.new.ahead) }
     ensures small { window.new.size ≤ room_limit }
-    ensures later { S.faults source.old ≤ S.faults source.new }
+    ensures cause { HasCauseRead (S.faults source.old) (S.faults source.new) result }
     ensures beside { S.beside source.new ≡ S.beside source.old }
     ensures held { seen.len + len ≤ length window.old.ahead → (source.new ≡ source.old) × IsOk result }
 {
@@ -175,9 +176,9 @@ pub fn take_answer<S: Source>(window: &mut Window, source: &mut S) -> Result<Who
     requires few { window.old.taken ≤ length window.old.ahead }
     ensures fills { Fills (S.left source.old) (S.left source.new) window.old window.new }
     ensures ok { IfOk result (HasWhole window.new.ahead) }
-    ensures err { IfErr result (Stops (S.left source.new) (S.faults source.old) (S.faults source.new) window.new.ahead) }
+    ensures err { IfErr result (Stops (S.left source.new) window.new.ahead) }
     ensures small { window.new.size ≤ room_limit }
-    ensures later { S.faults source.old ≤ S.faults source.new }
+    ensures cause { HasCauseRead (S.faults source.old) (S.faults source.new) result }
     ensures beside { S.beside source.new ≡ S.beside source.old }
     ensures held { HoldsAnswer window.old.ahead → (source.new ≡ source.old) × IsOk result }
 {

@@ -1,5 +1,4 @@
 ghost use Rattle.std.specs.Prelude.{◌≡◌, ◌≤◌, ◌<◌, [], length, Err, IfErr};
-ghost use Rattle.farm_io.specs.Streams.{Rose};
 ghost use Rattle.http_door.specs.Heads.{head_limit};
 ghost use Rattle.http_door.specs.Answers.{HoldsAnswer};
 ghost use Rattle.http_door.specs.AnswerFinding.{room_limit};
@@ -83,9 +82,8 @@ fn give_next<S: Source>(window: &mut Window, source: &mut S) -> Result<Whole, An
     requires few { window.old.taken ≤ length window.old.ahead }
     ensures reads { ReadsIn (S.left source.old) (S.left source.new) window.old window.new result }
     ensures small { window.new.size ≤ room_limit }
-    ensures later { S.faults source.old ≤ S.faults source.new }
+    ensures cause { HasCauseRead (S.faults source.old) (S.faults source.new) result }
     ensures beside { S.beside source.new ≡ S.beside source.old }
-    ensures fault { result ≡ Err AnswerEnding.ReadFault → Rose (S.faults source.old) (S.faults source.new) }
     ensures held { HoldsAnswer window.old.ahead
         → (source.new ≡ source.old) × IfErr result (λ e. e ≡ AnswerEnding.NoMemory) }
 {

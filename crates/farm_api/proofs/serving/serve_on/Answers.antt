@@ -1,5 +1,5 @@
 use Rattle.std.proofs.Common.{refl, arith}
-use Rattle.farm_api.proofs.Turning.{served_none, served_with, under_way_none}
+use Rattle.farm_api.proofs.Turning.{served_none, served_with, under_way_none, cause_since}
 use Rattle.farm_api.proofs.serving.serve_on.Goals as goal
 
 pub loop-how-init : goal.loop-how-init
@@ -8,8 +8,8 @@ loop-how-init g c =
     rw c.in-Ok.ensures (record {
       under_way = under_way_none g.A.Replier.steps _ c.args.state.now _ _;
       suits = c.requires.suits;
-      read_later = omega arith;
-      write_later = omega arith;
+      read_same = refl;
+      write_same = refl;
       going = refl;
       calls = omega (arith, enough);
       count = omega arith;
@@ -22,3 +22,8 @@ pub returns-in-Some-clause-served : goal.returns-in-Some-clause-served
 returns-in-Some-clause-served g c =
     let s = c.in-Some.ensures.turned _ c.loop-how.requests c.loop-how.invariant.under_way in
     rw c.end_after.ensures (served_with g.A.Replier.steps _ _ _ _ _ c.serve_request.new.reader.ahead c.serve_request.new.reader.taken _ _ s)
+
+pub returns-in-Some-clause-cause : goal.returns-in-Some-clause-cause
+returns-in-Some-clause-cause g c =
+    let i = c.loop-how.invariant in
+    rw c.end_after.ensures (cause_since _ _ _ _ _ _ _ i.read_same i.write_same c.in-Some.ensures.cause)

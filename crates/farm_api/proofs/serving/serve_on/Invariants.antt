@@ -14,8 +14,8 @@ invariant-loop-how g l =
           (untaken l.fn.state (left l.fn.conn) (held l.fn.conn))
           (record { state = l.state; left = left l.conn; held = held l.conn; ahead = l.reader.ahead; taken = l.reader.taken }) l.requests;
       suits : g.A.Replier.suits l.replier l.state;
-      read_later : g.N.Source.faults l.fn.conn ≤ g.N.Source.faults l.conn;
-      write_later : g.N.Sink.faults l.fn.conn ≤ g.N.Sink.faults l.conn;
+      read_same : g.N.Source.faults l.conn ≡ g.N.Source.faults l.fn.conn;
+      write_same : g.N.Sink.faults l.conn ≡ g.N.Sink.faults l.fn.conn;
       going : l.reader.ended ≡ None;
       calls : 3 * budget l.reader ≤ g.A.Replier.left l.state;
       count : l.requests + budget l.reader ≤ input_limit;

@@ -20,10 +20,10 @@ returns-in-Ok-clause-cause g c =
     let mid = c.next_request.new.source in
     let new = c.answer_one.new.sink in
     cause_request g.A.Replier.steps _ _ _ _ _ _ c.answer_one.result (g.N.Source.faults conn) (g.N.Source.faults mid) (g.N.Source.faults new) (g.N.Sink.faults conn) (g.N.Sink.faults mid) (g.N.Sink.faults new)
-    (c.answer_one.ensures.puts g.N.Peer.asks c.is_asked_to_close-closing.ensures) e.cause.later
+    (c.answer_one.ensures.puts g.N.Peer.asks c.is_asked_to_close-closing.ensures) (c.in-Ok.ensures.cause.kept (λ q. cc) (λ q. cc))
     (faults_beside g.N.Sink.beside g.N.Source.left g.N.Source.faults mid new c.requires.sink c.answer_one.ensures.beside)
     (faults_beside g.N.Source.beside g.N.Sink.held g.N.Sink.faults conn mid c.requires.source e.beside)
-    c.answer_one.ensures.later c.answer_one.ensures.write
+    c.answer_one.ensures.later c.answer_one.ensures.write c.answer_one.ensures.kept
 
 pub returns-in-Err-clause-turned : goal.returns-in-Err-clause-turned
 returns-in-Err-clause-turned g c =
@@ -46,4 +46,4 @@ returns-in-Err-clause-cause g c =
     c.end_with.ensures.puts c.requires.going c.in-Err.ensures.cause
     (faults_beside g.N.Sink.beside g.N.Source.left g.N.Source.faults mid new c.requires.sink c.end_with.ensures.beside)
     (faults_beside g.N.Source.beside g.N.Sink.held g.N.Sink.faults conn mid c.requires.source e.beside)
-    c.end_with.ensures.later c.end_with.ensures.write
+    c.end_with.ensures.later c.end_with.ensures.write c.end_with.ensures.kept

@@ -12,7 +12,7 @@ returns g c =
     let left = c.look.ensures.left in
     record {
       puts = no_page g.A.Replier.steps (g.A.Replier.gives c.args.replier.now) c.args.closing c.args.moment _ _ c.look.result _ c.look.ensures.steps;
-      cause = record { later = omega arith; failed = λ is. absurd (cc is) };
+      cause = record { later = omega arith; failed = λ is. absurd (cc is); kept = λ _. refl };
       beside = refl;
       left = omega (arith, left);
       suits = c.look.ensures.suits;

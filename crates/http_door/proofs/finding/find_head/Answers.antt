@@ -3,6 +3,7 @@ use Rattle.std.proofs.Common.{List, ℕ, Some, None, refl, sym, subst}
 use Rattle.farm_io.specs.Lines.{HasFeed}
 use Rattle.http_door.specs.Finding.{IsLooked}
 use Rattle.http_door.proofs.Holding.{held_found, held_looked, lacks_looked}
+use Rattle.http_door.proofs.Causes.{looked_cause}
 use Rattle.http_door.proofs.finding.find_head.Goals as goal
 
 pub returns-in-Some-clause-held : goal.returns-in-Some-clause-held
@@ -16,3 +17,6 @@ returns-clause-held g c =
 pub seek-requires-clause-lacking : goal.seek-requires-clause-lacking
 seek-requires-clause-lacking g c =
     lacks_looked c.args.window.now.ahead (λ f. subst (λ (z : List ℕ). IsLooked z None) c.ahead.ensures (c.in_default.ensures.fed (subst HasFeed (sym c.ahead.ensures) f)))
+
+pub returns-in-Some-clause-cause : goal.returns-in-Some-clause-cause
+returns-in-Some-clause-cause g c = looked_cause _ _ _ c.in-Some.found refl (c.in-Some.ensures.some refl)

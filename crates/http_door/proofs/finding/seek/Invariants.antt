@@ -15,7 +15,7 @@ invariant-loop-stop g l =
       room : head_limit < l.window.size;
       short : length l.window.ahead < head_limit;
       lacking : ¬ HoldsHead l.window.ahead;
-      later : g.S.Source.faults l.fn.source ≤ g.S.Source.faults l.source;
+      same : g.S.Source.faults l.source ≡ g.S.Source.faults l.fn.source;
       beside : g.S.Source.beside l.source ≡ g.S.Source.beside l.fn.source;
     }
 

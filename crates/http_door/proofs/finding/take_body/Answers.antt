@@ -1,5 +1,6 @@
-use Rattle.std.proofs.Common.{refl, ap, arith, length}
+use Rattle.std.proofs.Common.{false, refl, ap, arith, length}
 use Rattle.http_door.proofs.Windows.{Fills-refl, Fills-more, Fills-trans}
+use Rattle.http_door.proofs.Causes.{stopped_cause}
 use Rattle.http_door.proofs.Findings.{no_memory, stopped_body, shown_whole, shown_more_whole, shown_within, shown_some}
 use Rattle.http_door.proofs.finding.take_body.Goals as goal
 
@@ -13,7 +14,7 @@ pub returns-in-Err-clause-fills : goal.returns-in-Err-clause-fills
 returns-in-Err-clause-fills g c = Fills-more _ _ _ c.grow.ensures.ahead c.grow.ensures.taken c.grow.ensures.more
 
 pub returns-in-Err-clause-err : goal.returns-in-Err-clause-err
-returns-in-Err-clause-err g c = no_memory _ _ _ _
+returns-in-Err-clause-err g c = no_memory _ _
 
 pub returns-in-Err-clause-small : goal.returns-in-Err-clause-small
 returns-in-Err-clause-small g c = λ q. omega (arith, q, c.grow.ensures.no_more, c.requires.small, c.requires.shows.1.short)
@@ -30,7 +31,7 @@ returns-in-Some-clause-err g c =
     let f = Fills-trans _ _ _ c.args.window.now _ c.wait_for.new.window (Fills-more (g.S.Source.left c.args.source.now) _ _ c.grow.ensures.ahead c.grow.ensures.taken c.grow.ensures.more) c.wait_for.ensures.fills in
     let x = c.requires.shows in
     rw c.ended_by.ensures
-    (stopped_body _ _ (g.S.Source.faults c.args.source.now) _ _ c.in-Some.stop (shown_within _ f.prefix _ c.args.seen c.args.len f.whole x (c.in-Some.ensures.short refl)) (shown_some _ f.prefix _ x.0 c.args.seen f.whole x.1) (omega arith) c.in-Some.ensures.end c.in-Some.ensures.cause c.in-Some.ensures.limit)
+    (stopped_body _ _ c.in-Some.stop (shown_within _ f.prefix _ c.args.seen c.args.len f.whole x (c.in-Some.ensures.short refl)) (shown_some _ f.prefix _ x.0 c.args.seen f.whole x.1) c.in-Some.ensures.end c.in-Some.ensures.limit)
 
 pub returns-in-Some-clause-small : goal.returns-in-Some-clause-small
 returns-in-Some-clause-small g c = λ q. omega (arith, q, c.wait_for.ensures.size, c.grow.ensures.no_more, c.requires.small, c.requires.shows.1.short)
@@ -52,3 +53,6 @@ returns-clause-small g c = λ q. omega (arith, q, c.wait_for.ensures.size, c.gro
 
 pub returns-clause-held : goal.returns-clause-held
 returns-clause-held g c = λ q. absurd (omega (arith, q, c.if-ahead-need.false, ap length c.ahead.ensures))
+
+pub returns-in-Some-clause-cause : goal.returns-in-Some-clause-cause
+returns-in-Some-clause-cause g c = rw c.ended_by.ensures (stopped_cause _ _ _ c.in-Some.stop false refl c.in-Some.ensures.cause)

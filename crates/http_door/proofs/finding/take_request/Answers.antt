@@ -7,7 +7,7 @@ use Rattle.http_door.proofs.Holding.{held_sized, held_body}
 use Rattle.http_door.proofs.finding.take_request.Goals as goal
 
 pub returns-in-Err-length_said-clause-err : goal.returns-in-Err-length_said-clause-err
-returns-in-Err-length_said-clause-err g c = sized_err _ _ _ _ c.in-Ok.seen _ c.in-Ok.ensures.ok c.in-Err-length_said.ensures
+returns-in-Err-length_said-clause-err g c = sized_err _ _ c.in-Ok.seen _ c.in-Ok.ensures.ok c.in-Err-length_said.ensures
 
 pub returns-in-Err-length_said-clause-held : goal.returns-in-Err-length_said-clause-held
 returns-in-Err-length_said-clause-held g c =

@@ -5,7 +5,7 @@ use Rattle.http_door.proofs.Findings.{rose_from}
 use Rattle.http_door.proofs.finding.wait_for.Goals as goal
 
 pub loop-need-init : goal.loop-need-init
-loop-need-init g c = record { fills = Fills-refl _ _; size = refl; few = c.requires.few; later = omega arith; beside = refl }
+loop-need-init g c = record { fills = Fills-refl _ _; size = refl; few = c.requires.few; same = refl; beside = refl }
 
 pub returns-in-Some-clause-fills : goal.returns-in-Some-clause-fills
 returns-in-Some-clause-fills g c = Fills-trans _ _ _ _ _ _ c.loop-need.invariant.fills c.fill.ensures.fills
@@ -16,8 +16,10 @@ returns-in-Some-clause-short g c =
 
 pub returns-in-Some-clause-cause : goal.returns-in-Some-clause-cause
 returns-in-Some-clause-cause g c =
-    let le = c.loop-need.invariant.later in
-    record { later = omega (arith, le, c.fill.ensures.cause.later); failed = λ e. rose_from _ _ _ le (c.in-Some.ensures.cause.failed e) }
+    let same = c.loop-need.invariant.same in
+    let cause = c.in-Some.ensures.cause in
+    let later = cause.later in
+    record { later = omega (arith, same, later); failed = λ e. rose_from _ _ _ (omega (arith, same)) (cause.failed e); kept = λ other. cause.kept other ∙ same }
 
 pub loop-need-preserved : goal.loop-need-preserved
 loop-need-preserved g c =
@@ -26,6 +28,6 @@ loop-need-preserved g c =
       fills = Fills-trans _ _ _ _ _ _ i.fills c.fill.ensures.fills;
       size = c.fill.ensures.size ∙ i.size;
       few = c.fill.ensures.few;
-      later = omega (arith, i.later, c.fill.ensures.cause.later);
+      same = c.in_default.ensures.cause.kept (λ e. cc) ∙ i.same;
       beside = c.fill.ensures.beside ∙ i.beside;
     }

@@ -10,7 +10,7 @@ invariant-loop-need g l =
       fills : Fills (left l.fn.source) (left l.source) l.fn.window l.window;
       size : l.window.size ≡ l.fn.window.size;
       few : l.window.taken ≤ input_limit;
-      later : g.S.Source.faults l.fn.source ≤ g.S.Source.faults l.source;
+      same : g.S.Source.faults l.source ≡ g.S.Source.faults l.fn.source;
       beside : g.S.Source.beside l.source ≡ g.S.Source.beside l.fn.source;
     }
 

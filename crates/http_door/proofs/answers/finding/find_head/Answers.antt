@@ -2,7 +2,8 @@
 use Rattle.std.proofs.Common.{List, ℕ, Some, None, refl, sym, subst}
 use Rattle.farm_io.specs.Lines.{HasFeed}
 use Rattle.http_door.specs.AnswerFinding.{IsLooked}
-use Rattle.http_door.proofs.AnswerHolding.{held_found, held_looked}
+use Rattle.http_door.proofs.AnswerHolding.{held_found, held_looked, lacks_looked}
+use Rattle.http_door.proofs.AnswerCauses.{looked_cause}
 use Rattle.http_door.proofs.answers.finding.find_head.Goals as goal
 
 pub returns-in-Some-clause-held : goal.returns-in-Some-clause-held
@@ -12,3 +13,10 @@ returns-in-Some-clause-held g c =
 pub returns-clause-held : goal.returns-clause-held
 returns-clause-held g c =
     λ q. absurd (held_looked c.args.window.now.ahead (λ f. subst (λ (z : List ℕ). IsLooked z None) c.ahead.ensures (c.in_default.ensures.fed (subst HasFeed (sym c.ahead.ensures) f))) q)
+
+pub seek-requires-clause-lacking : goal.seek-requires-clause-lacking
+seek-requires-clause-lacking g c =
+    lacks_looked c.args.window.now.ahead (λ f. subst (λ (z : List ℕ). IsLooked z None) c.ahead.ensures (c.in_default.ensures.fed (subst HasFeed (sym c.ahead.ensures) f)))
+
+pub returns-in-Some-clause-cause : goal.returns-in-Some-clause-cause
+returns-in-Some-clause-cause g c = looked_cause _ _ _ c.in-Some.found refl (c.in-Some.ensures.some refl)

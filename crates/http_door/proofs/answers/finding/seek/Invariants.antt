@@ -1,6 +1,7 @@
 use Rattle.std.proofs.Common.{◌≡◌, ◌-◌, ◌≤◌, ◌<◌, length}
 use Rattle.farm_io.specs.Lines.{input_limit}
 use Rattle.http_door.specs.Heads.{head_limit}
+use Rattle.http_door.specs.Answers.{HoldsHead}
 use Rattle.http_door.specs.WindowValue.{Fills}
 use Rattle.http_door.proofs.answers.finding.seek.Given as goal
 
@@ -13,7 +14,8 @@ invariant-loop-stop g l =
       few : l.window.taken ≤ length l.window.ahead;
       room : head_limit < l.window.size;
       short : length l.window.ahead < head_limit;
-      later : g.S.Source.faults l.fn.source ≤ g.S.Source.faults l.source;
+      lacking : ¬ HoldsHead l.window.ahead;
+      same : g.S.Source.faults l.source ≡ g.S.Source.faults l.fn.source;
       beside : g.S.Source.beside l.source ≡ g.S.Source.beside l.fn.source;
     }
 

@@ -1,6 +1,7 @@
 use Rattle.std.proofs.Common.{refl, ap, arith, length}
 use Rattle.std.proofs.lemmas.Grind.{common_steps}
 use Rattle.http_door.proofs.Windows.{Fills-refl, Fills-more, Fills-trans}
+use Rattle.http_door.proofs.AnswerCauses.{stopped_cause}
 use Rattle.http_door.proofs.AnswerFindings.{no_memory, shown_whole, shown_more_whole}
 use Rattle.http_door.proofs.answers.finding.take_body.Goals as goal
 
@@ -14,7 +15,7 @@ pub returns-in-Err-clause-fills : goal.returns-in-Err-clause-fills
 returns-in-Err-clause-fills g c = Fills-more _ _ _ c.grow.ensures.ahead c.grow.ensures.taken c.grow.ensures.more
 
 pub returns-in-Err-clause-err : goal.returns-in-Err-clause-err
-returns-in-Err-clause-err g c = no_memory _ _ _ _
+returns-in-Err-clause-err g c = no_memory _ _
 
 pub returns-in-Some-clause-fills : goal.returns-in-Some-clause-fills
 returns-in-Some-clause-fills g c =
@@ -43,3 +44,6 @@ ended_by-requires g c = grind (arith, common_steps)
 
 pub returns-in-Some-clause-err : goal.returns-in-Some-clause-err
 returns-in-Some-clause-err g c = grind (arith, common_steps)
+
+pub returns-in-Some-clause-cause : goal.returns-in-Some-clause-cause
+returns-in-Some-clause-cause g c = rw c.ended_by.ensures (stopped_cause _ _ _ c.in-Some.stop refl c.in-Some.ensures.cause)
