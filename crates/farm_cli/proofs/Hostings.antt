@@ -1,5 +1,5 @@
 -- A host's work among the commands.
-use Rattle.std.proofs.Common.{◌≡◌, ℕ, List, [], length, Bool, Option, Some, None, Result, Ok, Err, true, false, inl, inr, refl, sym, ap, ◌∙◌, subst}
+use Rattle.std.proofs.Common.{◌≡◌, ◌≢◌, ℕ, List, [], length, Bool, Option, Some, None, Result, Ok, Err, true, false, inl, inr, refl, sym, ap, ◌∙◌, subst}
 use Rattle.std.specs.Prelude.{◌⊎◌, IfSome, IfOk, nat_le, if◌then◌else◌}
 use Rattle.farm_tree.specs.declared.reads.TreeFile.{TreeFile}
 use Rattle.farm_tree.specs.declared.reads.TreeErr.TheVariants.{TooLarge}
@@ -11,6 +11,7 @@ use Rattle.exit_status.specs.declared.exit.Exit.TheVariants as exit
 use Rattle.command_line.specs.CommandLine.{CommandValue, LoginValue, Host}
 use Rattle.remote_host.specs.declared.asks.Caller.{Caller}
 use Rattle.remote_host.specs.declared.asks.Wrong.{Wrong}
+use Rattle.judgehost.specs.declared.bench.BenchFault.TheVariants as bench
 use Rattle.judgehost.specs.declared.gate.Point.{Point}
 use Rattle.judgehost.specs.declared.host.HostEnd.{HostEnd}
 use Rattle.judgehost.specs.declared.host.HostEnd.TheVariants as host
@@ -161,8 +162,8 @@ pub hosted_ends : {N : Type 0} (link : LinkUse N) (who caller : Caller) (fuel ma
     (unwritten : Type 0) (e : Exit)
     → caller ≡ who → made ≡ fuel → LetsIn link.old between conn → IfSome (link.held conn) (λ bytes. bytes ≡ []) → link.faults conn ≡ 0 → TakesBack between link.new back
     → WorkedAs caller (line_of link conn []) (line_of link back ahead) made claims posts wrong end → ((point : Point) (turn : ℕ) → end ≡ host.Died point turn → link.may_die point turn ≡ true)
-    → ToldEnds who.name claims posts wrong end (link.faults back) held held' unwritten e → CallerEnds link who fuel held held' unwritten e
-hosted_ends link who caller fuel made between conn back ahead claims posts wrong end held held' unwritten e same is came bare sound went worked died told =
+    → (end ≢ host.Bench bench.Link → link.faults back ≡ link.faults conn) → ToldEnds who.name claims posts wrong end (link.faults back) held held' unwritten e → CallerEnds link who fuel held held' unwritten e
+hosted_ends link who caller fuel made between conn back ahead claims posts wrong end held held' unwritten e same is came bare sound went worked died kept told =
     inr (
       record {
         conn = conn;
@@ -176,6 +177,7 @@ hosted_ends link who caller fuel made between conn back ahead claims posts wrong
         worked = subst (λ (z : Caller). WorkedAs z (line_of link conn []) (line_of link back ahead) fuel claims posts wrong end) same
             (subst (λ (z : ℕ). WorkedAs caller (line_of link conn []) (line_of link back ahead) z claims posts wrong end) is worked);
         died = died;
+        unfailed = λ other. kept other ∙ sound;
       },
       told,
     )

@@ -51,7 +51,8 @@ pub record Lends {N : Type 0} (link : LinkUse N) (conn back : N) : Type 0 where
 abbrev pub line_of : {N : Type 0} → LinkUse N → N → List ℕ → Line
 line_of link conn ahead = record { held = link.held conn; left = link.left conn; ahead = ahead }
 
--- The host worked over the connection that came and went back: what was put on it is its talk, as far as it got.
+-- The host worked over the connection that came and went back: what was put on it is its talk, as far as it got. The
+-- connection has not failed, unless that ended the host or a wrong answer did.
 pub record Hosted {N : Type 0} (link : LinkUse N) (who : Caller) (fuel : ℕ) : Type 0 where
   pub conn : N
   pub back : N
@@ -63,6 +64,7 @@ pub record Hosted {N : Type 0} (link : LinkUse N) (who : Caller) (fuel : ℕ) : 
   pub end : HostEnd
   pub worked : WorkedAs who (line_of link conn []) (line_of link back ahead) fuel claims posts wrong end
   pub died : (point : Point) (turn : ℕ) → end ≡ host.Died point turn → link.may_die point turn ≡ true
+  pub unfailed : end ≢ host.Bench fault.Link → link.faults back ≡ 0
 
 -- the judgehost of this name, which waits where it is said for how long, and whose requests have these further lines
 abbrev pub host_of : List ℕ → Option ℕ → List ℕ → Caller

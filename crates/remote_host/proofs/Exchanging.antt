@@ -1,5 +1,5 @@
 -- A request that is put, and the bytes that are taken for its response.
-use Rattle.std.proofs.Common.{ℕ, ◌≡◌, List, [], Option, None, Err, refl, sym, ap, subst, take, drop}
+use Rattle.std.proofs.Common.{ℕ, ◌≡◌, List, [], Option, None, Result, Err, refl, sym, ap, ◌∙◌, subst, take, drop}
 use Rattle.std.specs.Io.KnownBytes.{Appends, Consumes, IsAtEnd}
 use Rattle.std.proofs.lemmas.List.{append-nil, take-append-drop}
 use Rattle.std.proofs.KnownBytes.{Consumes-nil}
@@ -10,6 +10,7 @@ use Rattle.http_door.specs.declared.answers.ending.AnswerEnding.TheVariants as e
 use Rattle.http_door.specs.Answers.{EndsAs}
 use Rattle.http_door.specs.AnswerReaderValue.{ReaderValue}
 use Rattle.http_door.specs.AnswerReading.{Reads}
+use Rattle.remote_host.specs.declared.exchange.Halt.{Halt}
 use Rattle.remote_host.specs.Standing.{IfHeadWrong, Stopped}
 use Rattle.remote_host.specs.Halts.{halt_of, head_wrong}
 
@@ -47,3 +48,6 @@ stopped_read held held1 held2 left left1 left2 old new request e p l r h = recor
   ahead = r.gives.1;
   why = why_of e new.ahead left2 (subst (EndsAs e) (sym r.gives.1) r.gives.0) (λ k. r.end (ap Err k));
 }
+
+pub halted_as : (e f : AnswerEnding) (h : Halt) → h ≡ halt_of e → ◌≡◌ {A = Result ℕ AnswerEnding} (Err e) (Err f) → ◌≡◌ {A = Result (Unit {0}) Halt} (Err h) (Err (halt_of f))
+halted_as e f h is q = let same : e ≡ f = cc in ap Err (is ∙ ap halt_of same)

@@ -1,5 +1,5 @@
 -- How a talk goes on.
-use Rattle.std.proofs.Common.{ℕ, suc, ◌≡◌, ◌+◌, ◌≤◌, ◌⊎◌, inl, inr, List, [], ◌∷◌, ◌++◌, Option, None, Some, Result, Ok, Err, refl, sym, ap, ◌∙◌, subst, arith, append_assoc}
+use Rattle.std.proofs.Common.{ℕ, suc, ◌≡◌, ◌≢◌, ◌+◌, ◌≤◌, ◌⊎◌, inl, inr, List, [], ◌∷◌, ◌++◌, Option, None, Some, Result, Ok, Err, refl, sym, ap, ◌∙◌, subst, arith, append_assoc}
 use Rattle.std.specs.Io.KnownBytes.{Appends, Consumes}
 use Rattle.std.proofs.lemmas.List.{append-nil}
 use Rattle.std.proofs.KnownBytes.{Consumes-nil, Consumes-trans, Appends-nil, Appends-trans}
@@ -16,6 +16,7 @@ use Rattle.judgehost.specs.declared.bench.BenchFault.{BenchFault}
 use Rattle.remote_host.specs.declared.exchange.Halt.{Halt}
 use Rattle.remote_host.specs.declared.exchange.Halt.TheVariants as halt
 use Rattle.remote_host.specs.declared.asks.Wrong.{Wrong}
+use Rattle.remote_host.specs.declared.asks.Wrong.TheVariants as wrong
 use Rattle.remote_host.specs.declared.asks.TalkEnd.TheVariants as end
 use Rattle.remote_host.specs.Bodies.{job_said}
 use Rattle.remote_host.specs.Talk.{Talk, talk, turns, ended, onto, after, answered, case_ask, job_next, count_fetch, count_post, fetches_in, posts_in}
@@ -256,3 +257,7 @@ link_rose a b m n h ab mn failed (inr r) = omega (arith, r, ab, mn)
 -- a count that rose is not 0
 pub rose_some : (before now : ℕ) → Rose before now → 1 ≤ now
 rose_some before now r = omega (arith, r)
+
+-- want of memory is no failure
+pub memory_kept : (h : Halt) (before now : ℕ) → h ≡ halt.NoMemory → (◌≢◌ {A = Result (Unit {0}) Halt} (Err h) (Err halt.Failed) → ◌≢◌ {A = Result (Unit {0}) Halt} (Err h) (Err (halt.Wrong wrong.BadHead)) → now ≡ before) → now ≡ before
+memory_kept h before now is kept = kept (λ q. cc) (λ q. cc)

@@ -82,6 +82,9 @@ resumed who start now claims next posts kept p w h e on s is =
 pub refused_is : {A : Type 0} (e f : BenchFault) → ◌≡◌ {A = Option Heard} (Some (Refused e)) (Some (Refused f)) → ◌≡◌ {A = Result A BenchFault} (Err e) (Err f)
 refused_is {A} e f q = let same : e ≡ f = cc in ap Err same
 
+pub heard_is : {A : Type 0} (e f : BenchFault) → ◌≡◌ {A = Result A BenchFault} (Err e) (Err f) → ◌≡◌ {A = Option Heard} (Some (Refused e)) (Some (Refused f))
+heard_is {A} e f q = let same : e ≡ f = cc in ap (λ (z : BenchFault). Some (Refused z)) same
+
 -- what is kept behind a pending job
 pub kept_pending : (j : Option JobValue) (task : Task) (c : TestCase) → pending_job j ≡ Some (task, c) → kept_behind j ≡ kept_of task c
 kept_pending None task c e = let no' : ⊥ = cc in absurd no'

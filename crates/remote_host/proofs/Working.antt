@@ -20,9 +20,10 @@ use Rattle.remote_host.specs.declared.asks.TalkEnd.TheVariants as end
 use Rattle.remote_host.specs.Talk.{Talk, talk, turns, ended, after, fetches_in, posts_in, idle_next}
 use Rattle.remote_host.specs.Requests.{spelled}
 use Rattle.remote_host.specs.Standing.{Line, Stands, Breaks, IfWronged, GoesOnAt, RefusedAt, IsAt, IsPlain}
-use Rattle.remote_host.specs.Benches.{is_pending, pending_job, IfFailed, died_heard, end_heard}
+use Rattle.remote_host.specs.Benches.{is_pending, pending_job, HasFailed, died_heard, end_heard}
 use Rattle.remote_host.specs.Ends.{Talked, Begun, Prefixes, Broken, IfWrong, RefusedAs, WorkedAs}
 use Rattle.remote_host.proofs.Talking.{asks_after, end_after, stands_prefix, stands_as}
+use Rattle.remote_host.proofs.Turning.{refused_is, heard_is}
 
 -- the talk has ended, and so it is the same for as many turns or more
 talked_by : (who : Caller) (start now : Line) (claims fetched posted n fuel : ℕ) (f : ℕ → List Answer → Talk) (e : TalkEnd)
@@ -171,6 +172,9 @@ died_is h d e p t is q = end_is h d e (host.Died p t) is q (λ f b. cc)
 pub bench_is : (e f : BenchFault) → host.Bench e ≡ host.Bench f → ◌≡◌ {A = Result (Unit {0}) BenchFault} (Err e) (Err f)
 bench_is e f q = let same : e ≡ f = cc in ap Err same
 
+pub refused_bench : (e f : BenchFault) → ◌≡◌ {A = Result (Unit {0}) BenchFault} (Err e) (Err f) → host.Bench e ≡ host.Bench f
+refused_bench e f q = let same : e ≡ f = cc in ap host.Bench same
+
 -- a host that was refused heard it last
 pub refused_heard : (h : Option Heard) (d e : HostEnd) (f : BenchFault) → e ≡ end_heard h d → ((g : BenchFault) → d ≡ host.Bench g → h ≡ Some (Refused g)) → e ≡ host.Bench f → h ≡ Some (Refused f)
 refused_heard h host.Idle e f is refused q = let bad : host.Idle ≡ host.Bench f = sym is ∙ q in cc
@@ -217,12 +221,51 @@ entered_at who start now before claims posts kept j w h b c pn kn jn wn hn s =
     subst (λ (z : Option Heard). IsAt who start now (before + claims) posts kept (pending_job j) w z) (sym hn)
     (subst (λ (z : Option JobValue). (w ≡ None) × GoesOnAt who start now (before + claims) (before + claims) posts kept (pending_job z)) (sym jn) (wn, keeps))
 
--- nothing was heard, and so no fault
-pub unfailed : (h : Option Heard) (w : Option Wrong) (faults : ℕ) → h ≡ None → IfFailed h w faults
-unfailed h w faults hn = λ q v. (let bad : None ≡ Some (Refused fault.Link) = sym hn ∙ q in cc)
+unheard : (h : Option Heard) → h ≡ None → h ≢ Some (Refused fault.Link)
+unheard h hn = λ q. (let bad : None ≡ Some (Refused fault.Link) = sym hn ∙ q in cc)
 
-pub idle_unfailed : (w : Option Wrong) (faults : ℕ) → IfFailed (Some Nothing) w faults
-idle_unfailed w faults = λ q v. cc
+unlinked : (h : Option Heard) (p : Option (Task × TestCase)) (w : Option Wrong) (came now : ℕ) → h ≢ Some (Refused fault.Link) → now ≡ came → HasFailed h p w came now
+unlinked h p w came now other same = record { failed = λ q _. absurd (other q); kept = λ _. same; bare = λ q. absurd (other q) }
+
+-- the connection has not failed where nothing was heard
+pub unfailed : (h : Option Heard) (p : Option (Task × TestCase)) (w : Option Wrong) (came now : ℕ) → h ≡ None → now ≡ came → HasFailed h p w came now
+unfailed h p w came now hn same = unlinked h p w came now (unheard h hn) same
+
+-- nor where no task was open, or the host was refused for something else
+pub idle_unfailed : (p : Option (Task × TestCase)) (w : Option Wrong) (came now : ℕ) → now ≡ came → HasFailed (Some Nothing) p w came now
+idle_unfailed p w came now same = unlinked (Some Nothing) p w came now (λ q. cc) same
+
+pub absent_unfailed : (p : Option (Task × TestCase)) (w : Option Wrong) (came now : ℕ) → now ≡ came → HasFailed (Some (Refused fault.NoHost)) p w came now
+absent_unfailed p w came now same = unlinked (Some (Refused fault.NoHost)) p w came now (λ q. cc) same
+
+-- it had not, where nothing was heard before a call that did not fail
+pub still_unfailed : (h : Option Heard) (p : Option (Task × TestCase)) (w : Option Wrong) (came old new : ℕ) → h ≡ None → HasFailed h p w came old → new ≡ old → new ≡ came
+still_unfailed h p w came old new hn f same = same ∙ f.kept (unheard h hn)
+
+-- a refusal
+pub refused_failed : {A : Type 0} (e : BenchFault) (h : Option Heard) (p q : Option (Task × TestCase)) (w v : Option Wrong) (came old new : ℕ) → h ≡ None → HasFailed h p w came old → q ≡ None
+    → (◌≡◌ {A = Result A BenchFault} (Err e) (Err fault.Link) → v ≡ None → 1 ≤ new) → (◌≢◌ {A = Result A BenchFault} (Err e) (Err fault.Link) → new ≡ old) → HasFailed (Some (Refused e)) q v came new
+refused_failed {A} e h p q w v came old new hn f none failed kept = record {
+  failed = λ is met. failed (refused_is e fault.Link is) met;
+  kept = λ other. still_unfailed h p w came old new hn f (kept (λ is. other (heard_is {A = A} e fault.Link is)));
+  bare = λ _. none;
+}
+
+-- a host that was refused for the link ended so
+linked_end : (h : Option Heard) (p : Option (Task × TestCase)) (d : HostEnd) → h ≡ Some (Refused fault.Link) → p ≡ None
+    → (d ≡ host.Idle → h ≡ Some Nothing) → (d ≡ host.Fuel → h ≡ None) → ((f : BenchFault) → d ≡ host.Bench f → h ≡ Some (Refused f)) → (d ≡ host.NoMemory → (t : Task) × (c : TestCase) × (p ≡ Some (t, c)))
+    → end_heard h d ≡ host.Bench fault.Link
+linked_end h p host.Idle is bare idle spent refused unrun = let bad : Some Nothing ≡ Some (Refused fault.Link) = sym (idle refl) ∙ is in cc
+linked_end h p (host.Died point turn) is bare idle spent refused unrun = ap (λ (z : Option Heard). died_heard z (host.Died point turn)) is
+linked_end h p host.Fuel is bare idle spent refused unrun = let bad : None ≡ Some (Refused fault.Link) = sym (spent refl) ∙ is in cc
+linked_end h p (host.Bench f) is bare idle spent refused unrun = let same : Some (Refused f) ≡ Some (Refused fault.Link) = sym (refused f refl) ∙ is in cc
+linked_end h p host.NoMemory is bare idle spent refused unrun = let u = unrun refl in let bad : None ≡ Some (u.0, u.1) = sym bare ∙ u.2 in cc
+
+-- the connection has not failed where the host's end is another one
+pub ended_unfailed : (h : Option Heard) (p : Option (Task × TestCase)) (w : Option Wrong) (came now : ℕ) (d e : HostEnd) → e ≡ end_heard h d → e ≢ host.Bench fault.Link → HasFailed h p w came now
+    → (d ≡ host.Idle → h ≡ Some Nothing) → (d ≡ host.Fuel → h ≡ None) → ((f : BenchFault) → d ≡ host.Bench f → h ≡ Some (Refused f)) → (d ≡ host.NoMemory → (t : Task) × (c : TestCase) × (p ≡ Some (t, c)))
+    → now ≡ came
+ended_unfailed h p w came now d e is other f idle spent refused unrun = f.kept (λ q. other (is ∙ linked_end h p d q (f.bare q) idle spent refused unrun))
 
 -- the name was not entered
 pub refused_entry : (who : Caller) (start now : Line) (fuel claims posts : ℕ) (w : Option Wrong) (e : BenchFault) → IsPlain e → Breaks who start now 0 w → RefusedAs who start now fuel claims posts w e
@@ -237,7 +280,7 @@ first_in : {A : Type 0} (a : A) → List (A × Unit {0}) → A
 first_in a [] = a
 first_in a (x ∷ xs) = x.0
 
-start_same : {A : Type 0} (s t : A) → ◌≡◌ {A = List (A × Unit {0})} ((s, tt) ∷ []) ((t, tt) ∷ []) → s ≡ t
+pub start_same : {A : Type 0} (s t : A) → ◌≡◌ {A = List (A × Unit {0})} ((s, tt) ∷ []) ((t, tt) ∷ []) → s ≡ t
 unfolding first_in
 start_same s t e = ap (first_in s) e
 

@@ -1,5 +1,5 @@
 -- A remote bench as a bench.
-use Rattle.std.specs.Prelude.{◌≡◌, ◌≤◌, ℕ, Option, None, Some}
+use Rattle.std.specs.Prelude.{◌≡◌, ◌≢◌, ◌≤◌, ℕ, Option, None, Some}
 use Rattle.farm_kinds.specs.declared.outcomes.Task.{Task}
 use Rattle.case_run.specs.Cases.{TestCase}
 use Rattle.judgehost.specs.declared.bench.BenchFault.TheVariants as fault
@@ -35,9 +35,13 @@ pub record IsFresh (b c t p : ℕ) (k : Option Kept) (j : Option JobValue) (h : 
   pub job : j ≡ None
   pub heard : h ≡ None
 
--- where the link failed and no answer was wrong, the connection has failed
-abbrev pub IfFailed : Option Heard → Option Wrong → (faults : ℕ) → Type 0
-IfFailed heard w faults = heard ≡ Some (Refused fault.Link) → w ≡ None → 1 ≤ faults
+-- How often the connection has failed since it came, by what was heard: not at all, unless the link failed, and then
+-- for a wrong answer or because the connection did. Where the link failed no task is pending.
+pub record HasFailed (heard : Option Heard) (pending : Option (Task × TestCase)) (w : Option Wrong) (came now : ℕ)
+    : Type 0 where
+  pub failed : heard ≡ Some (Refused fault.Link) → w ≡ None → 1 ≤ now
+  pub kept : heard ≢ Some (Refused fault.Link) → now ≡ came
+  pub bare : heard ≡ Some (Refused fault.Link) → pending ≡ None
 
 -- how a host ended that heard this last: one that was refused ended so
 abbrev pub died_heard : Option Heard → HostEnd → HostEnd

@@ -105,7 +105,8 @@ abbrev pub EnteredAt : Caller → Line → Line → ℕ → ℕ → ℕ → Opti
 EnteredAt who start now claims fetched posted w (Ok u) = Stands who start now claims fetched posted (λ n more. turns who n None more)
 EnteredAt who start now claims fetched posted w (Err e) = Breaks who start now claims w
 
-abbrev pub FetchedAt : Caller → Line → Line → ℕ → ℕ → ℕ → Option Kept → Option Wrong → Result Fetched BenchFault → Type 0
+abbrev pub FetchedAt : Caller → Line → Line → ℕ → ℕ → ℕ → Option Kept → Option Wrong
+    → Result Fetched BenchFault → Type 0
 FetchedAt who start now claims fetched posted kept w (Ok said) =
     Stands who start now claims fetched posted (λ n more. fetch_next who (turns who n) kept more (Some said))
 FetchedAt who start now claims fetched posted kept w (Err e) = Breaks who start now claims w
@@ -115,7 +116,8 @@ JobAt who start now claims fetched posted w task (Ok j) =
     Stands who start now claims fetched posted (λ n more. job_next (turns who n) task more (Ok j.case))
 JobAt who start now claims fetched posted w task (Err e) = Breaks who start now claims w
 
-abbrev pub PostedAt : Caller → Line → Line → ℕ → ℕ → ℕ → Option Kept → Option Wrong → Result (Option Reply) BenchFault → Type 0
+abbrev pub PostedAt : Caller → Line → Line → ℕ → ℕ → ℕ → Option Kept → Option Wrong
+    → Result (Option Reply) BenchFault → Type 0
 PostedAt who start now claims fetched posted kept w (Ok said) =
     Stands who start now claims fetched posted (λ n more. post_next (turns who n kept) more (Some said))
 PostedAt who start now claims fetched posted kept w (Err e) = Breaks who start now claims w
@@ -128,7 +130,8 @@ RefusedAt who start now claims fetched posted w fault.NoHost = Stands who start 
 RefusedAt who start now claims fetched posted w (fault.NoCase task) = ⊥
 RefusedAt who start now claims fetched posted w fault.NoMemory = Breaks who start now claims w
 
-abbrev pub TurnedAt : Caller → Line → Line → ℕ → ℕ → ℕ → Option Kept → Option Wrong → Result (Option JobValue) BenchFault → Type 0
+abbrev pub TurnedAt : Caller → Line → Line → ℕ → ℕ → ℕ → Option Kept → Option Wrong
+    → Result (Option JobValue) BenchFault → Type 0
 TurnedAt who start now claims fetched posted kept w (Ok None) =
     (w ≡ None) × Stands who start now claims fetched posted (λ n more. idle_next who (turns who n kept) more)
 TurnedAt who start now claims fetched posted kept w (Ok (Some j)) =

@@ -6,7 +6,7 @@ ghost use Rattle.case_run.specs.Cases.{TestCase};
 ghost use Rattle.case_run.specs.Values.{case_value};
 ghost use Rattle.judgehost.specs.Benches.{IsPending, heard_at_claim, heard_at_post, tasks_in};
 ghost use Rattle.remote_host.specs.Standing.{IsAt, EnteredAt, IsPlain};
-ghost use Rattle.remote_host.specs.Benches.{pending_job, is_pending, IsFresh, IfFailed, end_heard};
+ghost use Rattle.remote_host.specs.Benches.{pending_job, is_pending, IsFresh, HasFailed, end_heard};
 
 use crate::asks::{Ask, Caller, Kept, Wrong};
 use crate::kept::keep;
@@ -109,6 +109,8 @@ impl<N: Source + Sink> RemoteBench<N> {
             (N.Source.faults self.new.talker.conn + N.Sink.faults self.new.talker.conn + self.new.talker.wrongs) }
         ensures failed { result ≡ Err BenchFault.Link → self.new.talker.wrong ≡ None
             → 1 ≤ N.Source.faults self.new.talker.conn + N.Sink.faults self.new.talker.conn }
+        ensures kept { result ≢ Err BenchFault.Link
+            → N.Source.faults self.new.talker.conn + N.Sink.faults self.new.talker.conn ≡ N.Source.faults self.old.talker.conn + N.Sink.faults self.old.talker.conn }
     {
         self.talker.enter(&self.caller)
     }
@@ -210,7 +212,8 @@ impl<N: Source + Sink> Bench for RemoteBench<N> {
         (record { held = N.held s; left = N.left s; ahead = [] })
         (record { held = N.held b.talker.conn; left = N.left b.talker.conn; ahead = b.talker.reader.ahead })
         (b.before + b.claims) b.posts b.kept (pending_job b.job) b.talker.wrong (heard_at_claim b.heard)
-        × IfFailed (heard_at_claim b.heard) b.talker.wrong (N.Source.faults b.talker.conn + N.Sink.faults b.talker.conn) };
+        × HasFailed (heard_at_claim b.heard) (pending_job b.job) b.talker.wrong (N.Source.faults s + N.Sink.faults s)
+        (N.Source.faults b.talker.conn + N.Sink.faults b.talker.conn) };
 
     fn claim(&mut self) -> Claimed {
         self.claims += 1;

@@ -1,4 +1,4 @@
-ghost use Rattle.std.specs.Prelude.{◌≡◌, ◌+◌, ◌≤◌, ℕ, IfOk, IfErr, Err};
+ghost use Rattle.std.specs.Prelude.{◌≡◌, ◌≢◌, ◌+◌, ◌≤◌, ℕ, IfOk, IfErr, Err};
 ghost use Rattle.farm_io.specs.Streams.{Puts, Rose, HasCausePut};
 ghost use Rattle.farm_io.specs.Beside.{side};
 ghost use Rattle.http_door.specs.AnswerReading.{Reads, HasCauseRead, answer_with};
@@ -78,6 +78,10 @@ pub fn exchange<N: Source + Sink>(
     ensures later { N.Source.faults conn.old + N.Sink.faults conn.old ≤ N.Source.faults conn.new + N.Sink.faults conn.new }
     ensures fault { result ≡ Err Halt.Failed
         → Rose (N.Source.faults conn.old + N.Sink.faults conn.old) (N.Source.faults conn.new + N.Sink.faults conn.new) }
+
+    // The count rises at nothing else, unless the source failed behind bytes that no head begins with: these are told.
+    ensures kept { result ≢ Err Halt.Failed → result ≢ Err (Halt.Wrong Wrong.BadHead)
+        → N.Source.faults conn.new + N.Sink.faults conn.new ≡ N.Source.faults conn.old + N.Sink.faults conn.old }
 {
     match put_request(conn, request) {
         PutEnd::Failed => Err(Halt::Failed),

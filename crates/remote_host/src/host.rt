@@ -1,10 +1,10 @@
-ghost use Rattle.std.specs.Prelude.{◌≡◌, ◌+◌, ◌≤◌, ◌^◌, ℕ, List, [], ◌∷◌, None, Some, true, false};
+ghost use Rattle.std.specs.Prelude.{◌≡◌, ◌≢◌, ◌+◌, ◌≤◌, ◌^◌, ℕ, List, [], ◌∷◌, None, Some, true, false};
 ghost use Rattle.farm_io.specs.Beside.{side};
 ghost use Rattle.judgehost.specs.declared.gate.Go.{Go as GoValue};
 ghost use Rattle.judgehost.specs.declared.gate.Point.{Point as PointValue};
 ghost use Rattle.judgehost.specs.Benches.{Nothing, heard_at_claim};
 ghost use Rattle.remote_host.specs.Standing.{IsAt};
-ghost use Rattle.remote_host.specs.Benches.{pending_job, IsFresh, IfFailed};
+ghost use Rattle.remote_host.specs.Benches.{pending_job, IsFresh, HasFailed};
 ghost use Rattle.remote_host.specs.Ends.{WorkedAs};
 
 use crate::asks::{Ask, Caller, Wrong};
@@ -34,7 +34,8 @@ fn round<N: Source + Sink, G: Gate>(
         (record { held = N.held s; left = N.left s; ahead = [] })
         (record { held = N.held bench.old.talker.conn; left = N.left bench.old.talker.conn; ahead = bench.old.talker.reader.ahead })
         (bench.old.before + bench.old.claims) bench.old.posts bench.old.kept (pending_job bench.old.job) bench.old.talker.wrong (heard_at_claim bench.old.heard)
-        × IfFailed (heard_at_claim bench.old.heard) bench.old.talker.wrong (N.Source.faults bench.old.talker.conn + N.Sink.faults bench.old.talker.conn) }
+        × HasFailed (heard_at_claim bench.old.heard) (pending_job bench.old.job) bench.old.talker.wrong (N.Source.faults s + N.Sink.faults s)
+        (N.Source.faults bench.old.talker.conn + N.Sink.faults bench.old.talker.conn) }
     ensures worked { (result ≡ HostEnd.Idle → bench.new.caller.waits ≡ false)
         → (s : N) × (bench.new.start.items ≡ (s, tt) ∷ []) × WorkedAs bench.new.caller
         (record { held = N.held s; left = N.left s; ahead = [] })
@@ -44,7 +45,8 @@ fn round<N: Source + Sink, G: Gate>(
         (record { held = N.held s; left = N.left s; ahead = [] })
         (record { held = N.held bench.new.talker.conn; left = N.left bench.new.talker.conn; ahead = bench.new.talker.reader.ahead })
         (bench.new.before + bench.new.claims) bench.new.posts bench.new.kept (pending_job bench.new.job) bench.new.talker.wrong (heard_at_claim bench.new.heard)
-        × IfFailed (heard_at_claim bench.new.heard) bench.new.talker.wrong (N.Source.faults bench.new.talker.conn + N.Sink.faults bench.new.talker.conn) }
+        × HasFailed (heard_at_claim bench.new.heard) (pending_job bench.new.job) bench.new.talker.wrong (N.Source.faults s + N.Sink.faults s)
+        (N.Source.faults bench.new.talker.conn + N.Sink.faults bench.new.talker.conn) }
     ensures idle { result ≡ HostEnd.Idle → heard_at_claim bench.new.heard ≡ Some Nothing }
     ensures posted { result ≡ HostEnd.Idle → bench.new.posts ≡ bench.new.tasks }
     ensures asked { result ≡ HostEnd.Idle → 1 ≤ bench.new.claims }
@@ -55,6 +57,8 @@ fn round<N: Source + Sink, G: Gate>(
     ensures died { (point : PointValue) (turn : ℕ) → result ≡ HostEnd.Died point turn → G.may_answer gate.now 1 point turn Go.Die ≡ true }
     ensures failed { result ≡ HostEnd.Bench BenchFault.Link → bench.new.talker.wrong ≡ None
         → 1 ≤ N.Source.faults bench.new.talker.conn + N.Sink.faults bench.new.talker.conn }
+    ensures kept { result ≢ HostEnd.Bench BenchFault.Link → (s : N) × (bench.new.start.items ≡ (s, tt) ∷ [])
+        × (N.Source.faults bench.new.talker.conn + N.Sink.faults bench.new.talker.conn ≡ N.Source.faults s + N.Sink.faults s) }
 {
     let left = fuel - bench.before;
     let end = host_loop(runner, bench, gate, HOST, left);
@@ -82,7 +86,8 @@ fn work<N: Source + Sink, G: Gate, P: Pause>(
         (record { held = N.held s; left = N.left s; ahead = [] })
         (record { held = N.held bench.old.talker.conn; left = N.left bench.old.talker.conn; ahead = bench.old.talker.reader.ahead })
         (bench.old.before + bench.old.claims) bench.old.posts bench.old.kept (pending_job bench.old.job) bench.old.talker.wrong (heard_at_claim bench.old.heard)
-        × IfFailed (heard_at_claim bench.old.heard) bench.old.talker.wrong (N.Source.faults bench.old.talker.conn + N.Sink.faults bench.old.talker.conn) }
+        × HasFailed (heard_at_claim bench.old.heard) (pending_job bench.old.job) bench.old.talker.wrong (N.Source.faults s + N.Sink.faults s)
+        (N.Source.faults bench.old.talker.conn + N.Sink.faults bench.old.talker.conn) }
     ensures worked { (s : N) × (bench.new.start.items ≡ (s, tt) ∷ []) × WorkedAs bench.new.caller
         (record { held = N.held s; left = N.left s; ahead = [] })
         (record { held = N.held bench.new.talker.conn; left = N.left bench.new.talker.conn; ahead = bench.new.talker.reader.ahead })
@@ -92,6 +97,8 @@ fn work<N: Source + Sink, G: Gate, P: Pause>(
     ensures died { (point : PointValue) (turn : ℕ) → result ≡ HostEnd.Died point turn → G.may_answer gate.now 1 point turn Go.Die ≡ true }
     ensures failed { result ≡ HostEnd.Bench BenchFault.Link → bench.new.talker.wrong ≡ None
         → 1 ≤ N.Source.faults bench.new.talker.conn + N.Sink.faults bench.new.talker.conn }
+    ensures kept { result ≢ HostEnd.Bench BenchFault.Link → (s : N) × (bench.new.start.items ≡ (s, tt) ∷ [])
+        × (N.Source.faults bench.new.talker.conn + N.Sink.faults bench.new.talker.conn ≡ N.Source.faults s + N.Sink.faults s) }
 {
     loop {
         let end = round(runner, bench, gate, fuel);
@@ -128,6 +135,8 @@ fn enter_and_work<N: Source + Sink, G: Gate, P: Pause>(
     ensures died { (point : PointValue) (turn : ℕ) → result ≡ HostEnd.Died point turn → G.may_answer gate.now 1 point turn Go.Die ≡ true }
     ensures failed { result ≡ HostEnd.Bench BenchFault.Link → bench.new.talker.wrong ≡ None
         → 1 ≤ N.Source.faults bench.new.talker.conn + N.Sink.faults bench.new.talker.conn }
+    ensures kept { result ≢ HostEnd.Bench BenchFault.Link → (s : N) × (bench.new.start.items ≡ (s, tt) ∷ [])
+        × (N.Source.faults bench.new.talker.conn + N.Sink.faults bench.new.talker.conn ≡ N.Source.faults s + N.Sink.faults s) }
 {
     match bench.enter() {
         Err(fault) => HostEnd::Bench(fault),
@@ -176,6 +185,8 @@ pub fn work_over<N: Source + Sink, G: Gate, P: Pause>(
     ensures died { (point : PointValue) (turn : ℕ) → result.end ≡ HostEnd.Died point turn → G.may_answer gate.now 1 point turn Go.Die ≡ true }
     ensures failed { result.end ≡ HostEnd.Bench BenchFault.Link → result.wrong ≡ None
         → 1 ≤ N.Source.faults result.conn + N.Sink.faults result.conn }
+    ensures kept { result.end ≢ HostEnd.Bench BenchFault.Link
+        → N.Source.faults result.conn + N.Sink.faults result.conn ≡ N.Source.faults conn + N.Sink.faults conn }
 {
     let mut bench = RemoteBench::new(alloc, conn, caller);
     let end = enter_and_work(runner, &mut bench, gate, pause, fuel);

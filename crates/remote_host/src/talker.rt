@@ -59,6 +59,7 @@ fn refused(kept: &mut Option<Wrong>, count: &mut u64, halt: Halt) -> BenchFault
     ensures later { count.old ≤ count.new }
     ensures link { result ≡ BenchFault.Link → (halt ≡ Halt.Failed) ⊎ Rose count.old count.new }
     ensures failed { result ≡ BenchFault.Link → kept.new ≡ None → halt ≡ Halt.Failed }
+    ensures memory { result ≢ BenchFault.Link → halt ≡ Halt.NoMemory }
 {
     match halt {
         Halt::Failed => BenchFault::Link,
@@ -88,6 +89,8 @@ impl<N: Source + Sink> Talker<N> {
             (N.Source.faults self.new.conn + N.Sink.faults self.new.conn + self.new.wrongs) }
         ensures failed { result ≡ Err BenchFault.Link → self.new.wrong ≡ None
             → 1 ≤ N.Source.faults self.new.conn + N.Sink.faults self.new.conn }
+        ensures kept { result ≢ Err BenchFault.Link
+            → N.Source.faults self.new.conn + N.Sink.faults self.new.conn ≡ N.Source.faults self.old.conn + N.Sink.faults self.old.conn }
     {
         self.last = ask;
         match write_ask(self.alloc, caller, ask) {
@@ -117,6 +120,8 @@ impl<N: Source + Sink> Talker<N> {
             (N.Source.faults self.new.conn + N.Sink.faults self.new.conn + self.new.wrongs) }
         ensures failed { result ≡ Err BenchFault.Link → self.new.wrong ≡ None
             → 1 ≤ N.Source.faults self.new.conn + N.Sink.faults self.new.conn }
+        ensures kept { result ≢ Err BenchFault.Link
+            → N.Source.faults self.new.conn + N.Sink.faults self.new.conn ≡ N.Source.faults self.old.conn + N.Sink.faults self.old.conn }
     {
         match exchange(&mut self.conn, &mut self.reader, request) {
             Ok(()) => Ok(()),
@@ -144,6 +149,8 @@ impl<N: Source + Sink> Talker<N> {
             (N.Source.faults self.new.conn + N.Sink.faults self.new.conn + self.new.wrongs) }
         ensures failed { result ≡ Err BenchFault.Link → self.new.wrong ≡ None
             → 1 ≤ N.Source.faults self.new.conn + N.Sink.faults self.new.conn }
+        ensures kept { result ≢ Err BenchFault.Link
+            → N.Source.faults self.new.conn + N.Sink.faults self.new.conn ≡ N.Source.faults self.old.conn + N.Sink.faults self.old.conn }
     {
         match self.ask(caller, Ask::Fetch) {
             Err(fault) => Err(fault),
@@ -178,6 +185,8 @@ impl<N: Source + Sink> Talker<N> {
             (N.Source.faults self.new.conn + N.Sink.faults self.new.conn + self.new.wrongs) }
         ensures failed { result ≡ Err BenchFault.Link → self.new.wrong ≡ None
             → 1 ≤ N.Source.faults self.new.conn + N.Sink.faults self.new.conn }
+        ensures kept { result ≢ Err BenchFault.Link
+            → N.Source.faults self.new.conn + N.Sink.faults self.new.conn ≡ N.Source.faults self.old.conn + N.Sink.faults self.old.conn }
     {
         match self.ask(caller, case_ask(&has, task)) {
             Err(fault) => Err(fault),
@@ -218,6 +227,8 @@ impl<N: Source + Sink> Talker<N> {
             (N.Source.faults self.new.conn + N.Sink.faults self.new.conn + self.new.wrongs) }
         ensures failed { result ≡ Err BenchFault.Link → self.new.wrong ≡ None
             → 1 ≤ N.Source.faults self.new.conn + N.Sink.faults self.new.conn }
+        ensures kept { result ≢ Err BenchFault.Link
+            → N.Source.faults self.new.conn + N.Sink.faults self.new.conn ≡ N.Source.faults self.old.conn + N.Sink.faults self.old.conn }
     {
         match self.ask(caller, Ask::Post(task, kind)) {
             Err(fault) => Err(fault),
@@ -251,6 +262,8 @@ impl<N: Source + Sink> Talker<N> {
             (N.Source.faults self.new.conn + N.Sink.faults self.new.conn + self.new.wrongs) }
         ensures failed { result ≡ Err BenchFault.Link → self.new.wrong ≡ None
             → 1 ≤ N.Source.faults self.new.conn + N.Sink.faults self.new.conn }
+        ensures kept { result ≢ Err BenchFault.Link
+            → N.Source.faults self.new.conn + N.Sink.faults self.new.conn ≡ N.Source.faults self.old.conn + N.Sink.faults self.old.conn }
     {
         match self.ask(caller, Ask::Enter) {
             Err(fault) => Err(fault),
@@ -287,6 +300,8 @@ impl<N: Source + Sink> Talker<N> {
             (N.Source.faults self.new.conn + N.Sink.faults self.new.conn + self.new.wrongs) }
         ensures failed { result ≡ Err BenchFault.Link → self.new.wrong ≡ None
             → 1 ≤ N.Source.faults self.new.conn + N.Sink.faults self.new.conn }
+        ensures kept { result ≢ Err BenchFault.Link
+            → N.Source.faults self.new.conn + N.Sink.faults self.new.conn ≡ N.Source.faults self.old.conn + N.Sink.faults self.old.conn }
     {
         match self.fetch(caller) {
             Err(fault) => Err(fault),

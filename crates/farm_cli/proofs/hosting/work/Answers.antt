@@ -20,7 +20,7 @@ returns-clause-ends g c =
     let fresh = c.in-Ok-connect.ensures.fresh in
     hosted_ends link c.args.caller c.args.caller c.args.fuel c.from.result (g.N.Link.state c.connect.new.self) c.in-Ok-connect.conn c.work_over-conn.result.conn w.worked.0 _ _ _ _ _ _ _ c.tell.result
     refl (omega (arith, c.from.ensures)) c.in-Ok-connect.ensures.connects fresh.none (omega (arith, fresh.reads, fresh.writes)) c.give_back.ensures.back
-    w.worked.1 w.died (c.tell.ensures.ends _ w.failed)
+    w.worked.1 w.died w.kept (c.tell.ensures.ends _ w.failed)
 
 pub returns-clause-first : goal.returns-clause-first
 returns-clause-first g c = λ memory.

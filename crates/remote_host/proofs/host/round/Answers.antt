@@ -1,7 +1,7 @@
 use Rattle.std.proofs.Common.{ap, arith}
 use Rattle.judgehost.specs.declared.bench.BenchFault.TheVariants as fault
 use Rattle.judgehost.specs.Hosts.{left_over}
-use Rattle.remote_host.proofs.Working.{worked_heard, idle_is, died_is, refused_heard, first_same, second_same, third_same}
+use Rattle.remote_host.proofs.Working.{worked_heard, idle_is, died_is, refused_heard, ended_unfailed, first_same, second_same, third_same}
 use Rattle.remote_host.proofs.host.round.Goals as goal
 
 pub returns-clause-worked : goal.returns-clause-worked
@@ -46,4 +46,9 @@ returns-clause-died g c = λ p t q. c.host_loop-end.ensures.died p t (died_is _ 
 pub returns-clause-failed : goal.returns-clause-failed
 returns-clause-failed g c =
     λ q w. let s = c.host_loop-end.ensures.sound c.requires.bare c.requires.sound in
-    s.3 (refused_heard _ _ _ fault.Link c.end_heard.ensures c.host_loop-end.ensures.refused q) w
+    s.3.failed (refused_heard _ _ _ fault.Link c.end_heard.ensures c.host_loop-end.ensures.refused q) w
+
+pub returns-clause-kept : goal.returns-clause-kept
+returns-clause-kept g c =
+    λ other. let e = c.host_loop-end.ensures in let s = e.sound c.requires.bare c.requires.sound in
+    (s.0, s.1, ended_unfailed _ _ _ _ _ c.host_loop-end.result _ c.end_heard.ensures other s.3 e.idle e.unheard e.refused (λ q. let u = e.no_memory q in (u.0, u.1, u.2)))

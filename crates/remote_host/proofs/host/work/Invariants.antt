@@ -1,7 +1,7 @@
 use Rattle.std.proofs.Common.{◌≡◌, ◌+◌, ◌-◌, ◌≤◌, [], ◌∷◌, None}
 use Rattle.judgehost.specs.Benches.{heard_at_claim}
 use Rattle.remote_host.specs.Standing.{IsAt}
-use Rattle.remote_host.specs.Benches.{pending_job, IfFailed}
+use Rattle.remote_host.specs.Benches.{pending_job, HasFailed}
 use Rattle.remote_host.proofs.host.work.Given as goal
 
 abbrev pub invariant-loop-end : goal.invariant-loop-end
@@ -18,7 +18,7 @@ invariant-loop-end g l =
           (record { held = g.N.Sink.held s; left = g.N.Source.left s; ahead = [] })
           (record { held = g.N.Sink.held b.talker.conn; left = g.N.Source.left b.talker.conn; ahead = b.talker.reader.ahead })
           (b.before + b.claims) b.posts b.kept (pending_job b.job) b.talker.wrong (heard_at_claim b.heard)
-          × IfFailed (heard_at_claim b.heard) b.talker.wrong (g.N.Source.faults b.talker.conn + g.N.Sink.faults b.talker.conn);
+          × HasFailed (heard_at_claim b.heard) (pending_job b.job) b.talker.wrong (g.N.Source.faults s + g.N.Sink.faults s) (g.N.Source.faults b.talker.conn + g.N.Sink.faults b.talker.conn);
       start : b.start.items ≡ l.fn.bench.start.items;
       caller : b.caller ≡ l.fn.bench.caller;
     }

@@ -1,5 +1,5 @@
-use Rattle.std.proofs.Common.{◌∙◌, ◌+◌, ◌≤◌, sym, subst}
-use Rattle.remote_host.proofs.Working.{worked_over}
+use Rattle.std.proofs.Common.{◌∙◌, ◌+◌, ◌≤◌, sym, ap, subst}
+use Rattle.remote_host.proofs.Working.{worked_over, start_same}
 use Rattle.remote_host.proofs.host.work_over.Goals as goal
 
 pub returns-clause-worked : goal.returns-clause-worked
@@ -16,3 +16,10 @@ pub returns-clause-failed : goal.returns-clause-failed
 returns-clause-failed g c =
     λ q w. subst (λ z. 1 ≤ g.N.Source.faults z + g.N.Sink.faults z) (sym c.end.ensures)
     (c.enter_and_work-end.ensures.failed q (sym c.wrong-wrong.ensures ∙ w))
+
+pub returns-clause-kept : goal.returns-clause-kept
+returns-clause-kept g c =
+    λ other. let e = c.enter_and_work-end.ensures in
+    let k = e.kept other in
+    let same = start_same k.0 c.args.conn (sym k.1 ∙ e.start ∙ c.new-bench.ensures.start) in
+    ap (λ n. g.N.Source.faults n + g.N.Sink.faults n) c.end.ensures ∙ k.2 ∙ ap (λ n. g.N.Source.faults n + g.N.Sink.faults n) same

@@ -1,6 +1,6 @@
 use Rattle.std.proofs.Common.{ap, refl, None, Err}
 use Rattle.remote_host.specs.Halts.{head_wrong}
-use Rattle.remote_host.proofs.Talking.{asked_ok, asked_err, err_same, link_rose, rose_some}
+use Rattle.remote_host.proofs.Talking.{asked_ok, asked_err, err_same, link_rose, rose_some, memory_kept}
 use Rattle.remote_host.proofs.talker.Talker.send.Goals as goal
 
 pub returns-in-Ok-clause-talks : goal.returns-in-Ok-clause-talks
@@ -18,3 +18,10 @@ returns-in-Err-clause-link g c =
 pub returns-in-Err-clause-failed : goal.returns-in-Err-clause-failed
 returns-in-Err-clause-failed g c =
     λ q w. rose_some _ _ (c.in-Err.ensures.fault (ap Err (c.refused.ensures.failed (err_same c.refused.result _ (Err c.refused.result) refl q) w)))
+
+pub returns-in-Ok-clause-kept : goal.returns-in-Ok-clause-kept
+returns-in-Ok-clause-kept g c = λ _. c.in-Ok.ensures.kept (λ e. cc) (λ e. cc)
+
+pub returns-in-Err-clause-kept : goal.returns-in-Err-clause-kept
+returns-in-Err-clause-kept g c =
+    λ other. memory_kept c.in-Err.halt _ _ (c.refused.ensures.memory (λ q. other (ap Err q))) c.in-Err.ensures.kept
