@@ -6,8 +6,8 @@
 PROGRAM is the built program, `crates/farm/out/farm` of this repository if none is given. A host comes up, asks for a task and
 gives its result, over one connection, with the n-th allocation refused in the n-th run, until a run asks for fewer. Wanted
 is, each time, one of these: all goes as without; the connection ends with `memory` behind a prefix of the responses, and the
-board is written; the program ends with status 6 and a prefix of what it would have written; or it ends with status 8, since
-there is no memory for the connection.
+board is written; the program ends with status 6 and has written the connection's whole line or nothing; or it ends with
+status 8, since there is no memory for the connection.
 """
 
 import os
@@ -47,7 +47,7 @@ def named_end(run, whole):
         return "as without"
     if status == 0 and re.match(r"conn 1 requests [0-3] memory\n1 \w+\n2 \w+\nboard 2\n$", written) and whole[2].startswith(got):
         return "the connection ends"
-    if status == 6 and (whole[1].startswith(written) or "memory" in written):
+    if status == 6 and re.fullmatch(r"(conn 1 requests \d \S+\n)?", written):
         return "the program ends"
     if (status, written, got) == (8, "", b""):
         return "no connection"

@@ -12,14 +12,20 @@ use Rattle.contest_server.specs.declared.accepting.Coming.{Coming}
 use Rattle.contest_server.specs.declared.accepting.Coming.TheVariants as coming
 use Rattle.contest_server.specs.Visits.{Watch, Start, Visit, conn_lines}
 use Rattle.contest_server.specs.Texts.{WritesPrefix}
-use Rattle.contest_server.specs.Serving.{DeskValue, StaysOrderly, Opening, Tells, TellsPrefix, TellsAll, TellsSome, TellsFirst, TakesAll, AcceptsNext, MakesRoom, with_coming, ServesNext, IsUnderWay, Wrote, IfWhole, end_of, end_after, EndsWith, Rests, ServesAll, ServesLanes}
+use Rattle.contest_server.specs.Serving.{DeskValue, StaysOrderly, Opening, WritesSome, Tells, TellsUpTo, TellsAll, TellsSome, TellsFirst, TakesAll, AcceptsNext, MakesRoom, with_coming, ServesNext, IsUnderWay, Wrote, IfWhole, end_of, end_after, EndsWith, Rests, ServesAll, ServesLanes}
+use Rattle.farm_board.proofs.Prefixes.{prefix_self, prefix_trans}
 use Rattle.contest_server.proofs.Telling.{whole_prefix, prefix_of_more, lines_both}
 
 stays_through : {N : Type 0} (w : Watch N) (board : BoardId) (a b c : DeskValue N) → StaysOrderly w board a b → StaysOrderly w board b c → StaysOrderly w board a c
 stays_through {N} w board a b c s t = record { orderly = t.orderly; seats = t.seats ∙ s.seats }
 
-prefix_told : {N : Type 0} (w : Watch N) (o : Opening N) (d : DeskValue N) (held : Option (List ℕ)) (n : ℕ) → Tells w o d held n → TellsPrefix w o d held n
-prefix_told {N} w o d held n t = record { visits = t.visits; stands = t.stands; count = t.count; wrote = whole_prefix o.held held (conn_lines 1 t.visits) t.wrote }
+-- all lines are some of them
+whole_some : {N : Type 0} (why : TextFault) (old new : Option (List ℕ)) (visits : List (Visit N)) → Appends old new (conn_lines 1 visits) → WritesSome why old new visits
+whole_some fault.WriteFault old new visits h = whole_prefix old new (conn_lines 1 visits) h
+whole_some fault.NoMemory old new visits h = record { told = visits; first = prefix_self visits; wrote = h }
+
+told_whole : {N : Type 0} (w : Watch N) (o : Opening N) (d : DeskValue N) (held : Option (List ℕ)) (n : ℕ) (why : TextFault) → Tells w o d held n → TellsUpTo w o d held n why
+told_whole {N} w o d held n why t = record { visits = t.visits; stands = t.stands; count = t.count; wrote = whole_some why o.held held t.visits t.wrote }
 
 -- The next one
 
@@ -58,7 +64,7 @@ serves_next {N} w board old mid new held held' n u c m a =
 pub no_memory_next : {N : Type 0} (w : Watch N) (board : BoardId) (old new : DeskValue N) (held held' : Option (List ℕ)) (n : ℕ) (u : Unit {0}) → MakesRoom w board old new held held' n (Ok u) → ServesNext w board old new held held' n (Err fault.NoMemory)
 no_memory_next {N} w board old new held held' n u m =
     let fewer = m.fewer in
-    record { stays = m.stays; more = omega (arith, fewer); ended = tt; told = λ o t. prefix_told w o new held' n (m.told o t) }
+    record { stays = m.stays; more = omega (arith, fewer); ended = tt; told = λ o t. told_whole w o new held' n fault.NoMemory (m.told o t) }
 
 pub no_room_next : {N : Type 0} (w : Watch N) (board : BoardId) (old new : DeskValue N) (held held' : Option (List ℕ)) (n : ℕ) (why : TextFault) → MakesRoom w board old new held held' n (Err why) → ServesNext w board old new held held' n (Err why)
 no_room_next {N} w board old new held held' n why m =
@@ -77,11 +83,11 @@ goes_on {N} w board first now new held held' held'' n u s =
 
 -- The end
 
-whole_wrote : {N : Type 0} (w : Watch N) (o : Opening N) (d : DeskValue N) (held : Option (List ℕ)) (e : ServeEnd) (text : List ℕ) → Appends o.held held text → Wrote e o.held held text
-whole_wrote w o d held end.Done text h = h
-whole_wrote w o d held end.DoorFault text h = h
-whole_wrote w o d held end.WriteFault text h = whole_prefix o.held held text h
-whole_wrote w o d held end.NoMemory text h = whole_prefix o.held held text h
+whole_wrote : {N : Type 0} (e : ServeEnd) (old new : Option (List ℕ)) (visits : List (Visit N)) → Appends old new (conn_lines 1 visits) → Wrote e old new visits
+whole_wrote end.Done old new visits h = h
+whole_wrote end.DoorFault old new visits h = h
+whole_wrote end.WriteFault old new visits h = whole_some fault.WriteFault old new visits h
+whole_wrote end.NoMemory old new visits h = whole_some fault.NoMemory old new visits h
 
 whole_end : {N : Type 0} (e : ServeEnd) (starts : List (Start N)) → starts ≡ [] → IfWhole e starts
 whole_end end.Done starts none = none
@@ -109,7 +115,7 @@ ends_told {N} w board first now new held held' held'' n most e u b t =
         visits = s.visits;
         stands = s.stands;
         few = omega (arith, count, within);
-        wrote = whole_wrote w o new held'' e (conn_lines 1 s.visits) s.wrote;
+        wrote = whole_wrote e o.held held'' s.visits s.wrote;
         done = λ is. ⊎_elim (λ (all : n ≡ most). inl (omega (arith, count, empty, all)))
             (λ (none_left : IsEmpty now.door.coming). inr (subst (λ (z : Option (List N)). IsEmpty z) (sym t.coming) none_left)) (b.done is);
       };
@@ -123,16 +129,16 @@ not_whole : {N : Type 0} (why : TextFault) (starts : List (Start N)) → IfWhole
 not_whole fault.WriteFault starts = tt
 not_whole fault.NoMemory starts = tt
 
-prefix_wrote : (why : TextFault) (old new : Option (List ℕ)) (text : List ℕ) → WritesPrefix old new text → Wrote (end_of why) old new text
-prefix_wrote fault.WriteFault old new text h = h
-prefix_wrote fault.NoMemory old new text h = h
+some_wrote : {N : Type 0} (why : TextFault) (old new : Option (List ℕ)) (visits : List (Visit N)) → WritesSome why old new visits → Wrote (end_of why) old new visits
+some_wrote fault.WriteFault old new visits h = h
+some_wrote fault.NoMemory old new visits h = h
 
-prefix_rests : {N : Type 0} (w : Watch N) (o : Opening N) (d : DeskValue N) (held : Option (List ℕ)) (n most : ℕ) (why : TextFault) → n ≤ most → TellsPrefix w o d held n → Rests w o d held most (end_of why)
-prefix_rests {N} w o d held n most why within t = let count = t.count in record {
+some_rests : {N : Type 0} (w : Watch N) (o : Opening N) (d : DeskValue N) (held : Option (List ℕ)) (n most : ℕ) (why : TextFault) → n ≤ most → TellsUpTo w o d held n why → Rests w o d held most (end_of why)
+some_rests {N} w o d held n most why within t = let count = t.count in record {
   visits = t.visits;
   stands = t.stands;
   few = omega (arith, count, within);
-  wrote = prefix_wrote why o.held held (conn_lines 1 t.visits) t.wrote;
+  wrote = some_wrote why o.held held t.visits t.wrote;
   done = λ is. absurd (not_done why is);
 }
 
@@ -141,7 +147,7 @@ ends_prefix : {N : Type 0} (w : Watch N) (board : BoardId) (first now new : Desk
 ends_prefix {N} w board first now new held held' held'' n most e why b t = record {
   stays = stays_through w board first now new b.stays t.stays;
   whole = not_whole why new.starts;
-  rests = λ o h. prefix_rests w o new held'' n most why b.within (t.told o (b.told o h));
+  rests = λ o h. some_rests w o new held'' n most why b.within (t.told o (b.told o h));
 }
 
 ends_by : {N : Type 0} (w : Watch N) (board : BoardId) (first now new : DeskValue N) (held held' held'' : Option (List ℕ)) (n most : ℕ) (e : ServeEnd) (told : Result (Unit {0}) TextFault) → Before w board first now held held' n most e → TellsAll w board now new held' held'' n told
@@ -189,7 +195,7 @@ pub ends_broken : {N : Type 0} (w : Watch N) (board : BoardId) (first now new : 
 ends_broken {N} w board first now new held held' held'' n most why within u s = record {
   stays = stays_through w board first now new u.stays s.stays;
   whole = not_whole why new.starts;
-  rests = λ o h. prefix_rests w o new held'' n most why (omega (arith, within)) (s.told o (u.told o h));
+  rests = λ o h. some_rests w o new held'' n most why (omega (arith, within)) (s.told o (u.told o h));
 }
 
 -- Those that were still being served are taken in
@@ -198,7 +204,7 @@ no_more : {X : Type 0} (xs : List X) → length xs ≡ 0 → xs ≡ []
 no_more [] none = refl
 no_more (x ∷ xs) none = absurd (omega (arith, none))
 
-more_wrote : {N : Type 0} (e : ServeEnd) (old new : Option (List ℕ)) (visits more : List (Visit N)) (starts : List (Start N)) → IfWhole e starts → length more ≡ length starts → Wrote e old new (conn_lines 1 visits) → Wrote e old new (conn_lines 1 (visits ++ more))
+more_wrote : {N : Type 0} (e : ServeEnd) (old new : Option (List ℕ)) (visits more : List (Visit N)) (starts : List (Start N)) → IfWhole e starts → length more ≡ length starts → Wrote e old new visits → Wrote e old new (visits ++ more)
 more_wrote {N} end.Done old new visits more starts whole len h =
     let none : more ≡ [] = no_more more (len ∙ ap (λ (xs : List (Start N)). length xs) whole) in
     subst (λ (vs : List (Visit N)). Appends old new (conn_lines 1 vs)) (sym (ap (λ (vs : List (Visit N)). visits ++ vs) none ∙ append-nil visits)) h
@@ -208,7 +214,7 @@ more_wrote {N} end.DoorFault old new visits more starts whole len h =
 more_wrote {N} end.WriteFault old new visits more starts whole len h =
     subst (λ (xs : List ℕ). WritesPrefix old new xs) (sym (lines_both 1 visits more)) (prefix_of_more old new (conn_lines 1 visits) (conn_lines (1 + length visits) more) h)
 more_wrote {N} end.NoMemory old new visits more starts whole len h =
-    subst (λ (xs : List ℕ). WritesPrefix old new xs) (sym (lines_both 1 visits more)) (prefix_of_more old new (conn_lines 1 visits) (conn_lines (1 + length visits) more) h)
+    record { told = h.told; first = prefix_trans h.told visits (visits ++ more) h.first (more, refl); wrote = h.wrote }
 
 whole_done : {N : Type 0} (e : ServeEnd) (starts : List (Start N)) → IfWhole e starts → e ≡ end.Done → length starts ≡ 0
 whole_done {N} end.Done starts whole is = ap (λ (xs : List (Start N)). length xs) whole

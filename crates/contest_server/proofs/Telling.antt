@@ -9,6 +9,7 @@ use Rattle.farm_board.proofs.Prefixes.{prefix_self, prefix_trans}
 use Rattle.farm_api.specs.declared.ends.ConnEnd.{ConnEnd}
 use Rattle.farm_api.specs.declared.ends.ConnHow.{ConnHow}
 use Rattle.contest_server.specs.declared.lines.TextFault.{TextFault}
+use Rattle.contest_server.specs.declared.lines.TextFault.TheVariants as fault
 use Rattle.contest_server.specs.Visits.{Watch, Visit, conn_line, conn_lines}
 use Rattle.contest_server.specs.Texts.{WritesPrefix, PutsText}
 use Rattle.contest_server.specs.Serving.{DeskValue, Opening, Tells, Told, TakesFirst, TellsFirst}
@@ -67,7 +68,7 @@ one_more {N} w o board old new held held' e n k (Ok u) t number puts h =
       count = omega (arith, len, count, fewer);
       wrote = subst (λ (xs : List ℕ). Appends o.held held' xs) (sym text) (Appends-trans o.held held held' (conn_lines 1 h.visits) (conn_line k e.requests e.how) h.wrote puts);
     }
-one_more {N} w o board old new held held' e n k (Err why) t number puts h =
+one_more {N} w o board old new held held' e n k (Err fault.WriteFault) t number puts h =
     let had = t.taken o h.visits h.stands in
     let len = length-append h.visits (had.last ∷ []) in
     let count = h.count in
@@ -78,6 +79,21 @@ one_more {N} w o board old new held held' e n k (Err why) t number puts h =
       stands = had.stands;
       count = omega (arith, len, count, fewer);
       wrote = subst (λ (xs : List ℕ). WritesPrefix o.held held' xs) (sym text) (prefix_behind o.held held held' (conn_lines 1 h.visits) (conn_line k e.requests e.how) h.wrote puts);
+    }
+one_more {N} w o board old new held held' e n k (Err fault.NoMemory) t number puts h =
+    let had = t.taken o h.visits h.stands in
+    let len = length-append h.visits (had.last ∷ []) in
+    let count = h.count in
+    let fewer = t.fewer in
+    record {
+      visits = h.visits ++ had.last ∷ [];
+      stands = had.stands;
+      count = omega (arith, len, count, fewer);
+      wrote = record {
+        told = h.visits;
+        first = (had.last ∷ [], refl);
+        wrote = subst (λ (z : Option (List ℕ)). Appends o.held z (conn_lines 1 h.visits)) (sym puts) h.wrote;
+      };
     }
 
 pub tells_first : {N : Type 0} (w : Watch N) (board : BoardId) (old new : DeskValue N) (held held' : Option (List ℕ)) (e : ConnEnd) (n k : ℕ) (result : Result (Unit {0}) TextFault)

@@ -1,8 +1,8 @@
 -- What is known once a contest was served.
-use Rattle.std.specs.Prelude.{◌≡◌, ◌≢◌, ℕ, ◌≤◌, ◌⊎◌, true, false, List, [], ◌∷◌, ◌++◌, length, All, Option, None, Some}
+use Rattle.std.specs.Prelude.{◌≡◌, ◌≢◌, ℕ, ◌≤◌, ◌⊎◌, true, false, List, [], ◌∷◌, ◌++◌, length, All, Option, None, Some, Result, Ok, Err}
+use Rattle.std.specs.Io.KnownBytes.{Appends}
 use mathlib.Core.List.{IsPrefix}
 use Rattle.farm_io.specs.Doors.{DoorState, IsEmpty}
-use Rattle.farm_io.specs.Streams.{Rose}
 use Rattle.farm_kinds.specs.declared.events.Event.{Event}
 use Rattle.farm_kinds.specs.declared.events.Event.TheVariants as event
 use Rattle.farm_kinds.specs.declared.events.Reply.{Reply}
@@ -20,9 +20,12 @@ use Rattle.parallel_judge.specs.Hosts.{as_entries, AreEffective}
 use Rattle.parallel_judge.specs.Journal.{events_in}
 use Rattle.contest_server.specs.declared.ends.ServeEnd.{ServeEnd}
 use Rattle.contest_server.specs.declared.ends.ServeEnd.TheVariants as end
+use Rattle.contest_server.specs.declared.lines.TextFault.{TextFault}
+use Rattle.contest_server.specs.declared.lines.TextFault.TheVariants as fault
 use Rattle.contest_server.specs.Visits.{Watch, Visit, IsVisit, conn_lines}
 use Rattle.contest_server.specs.Beside.{AreAbove, visit_numbers}
-use Rattle.contest_server.specs.Serving.{GivesBack, Wrote}
+use Rattle.contest_server.specs.Texts.{WritesPrefix, PutsText, HasCauseTold}
+use Rattle.contest_server.specs.Serving.{GivesBack, WritesLines, end_after}
 
 -- The last board
 
@@ -41,11 +44,12 @@ pub record EndsWithBoard (start : BoardState) (history : List HistoryEntry) (r :
   pub whole : history ≡ before ++ as_entries (board_calls (Some r))
   pub answer : r ≢ reply.NoMemory → r ≡ (farm_step (board_after start before).state event.Board).1
 
--- where all was done, the farm has answered the last `board`; where the door failed, it was not asked for
+-- where all was done, the farm has answered the last `board`; where the door failed, it was not asked for; and where
+-- the output failed, the farm did not answer that memory was wanting
 abbrev pub IsAsked : ServeEnd → Option Reply → Type 0
 IsAsked end.Done board = (r : Reply) × (board ≡ Some r) × (r ≢ reply.NoMemory)
 IsAsked end.DoorFault board = board ≡ None
-IsAsked end.WriteFault board = Unit {0}
+IsAsked end.WriteFault board = board ≢ Some reply.NoMemory
 IsAsked end.NoMemory board = Unit {0}
 
 -- The history
@@ -78,17 +82,16 @@ pub record IsHistory {N : Type 0} (start : BoardState) (events : List Event) (vi
   pub others : (n : ℕ) → n ≢ 0 → is_in n (feed ∷ visit_numbers visits) ≡ false → entries_by n history ≡ []
   pub ends : (r : Reply) → board ≡ Some r → EndsWithBoard start history r
 
--- the last `board` was asked for, and its text written
+-- the last `board` was asked for, and its text written, unless the answer was want of memory
 pub record ShowsBoard (old new : PassValue) (held held' : Option (List ℕ)) (faults faults' : ℕ) (e : ServeEnd)
     : Type 0 where
   pub answer : Reply
   pub calls : Calls old new event.Board answer
-  pub wrote : Wrote e held held' (reply_text answer)
-  pub known : e ≡ end.Done → answer ≢ reply.NoMemory
-  pub other : e ≢ end.DoorFault
-  pub later : faults ≤ faults'
-  pub failed : e ≡ end.WriteFault → Rose faults faults'
-  pub kept : e ≢ end.WriteFault → faults' ≡ faults
+  pub told : Result (Unit {0}) TextFault
+  pub is : e ≡ end_after end.Done told
+  pub puts : PutsText held held' (reply_text answer) told
+  pub known : answer ≡ reply.NoMemory → told ≡ Err fault.NoMemory
+  pub cause : HasCauseTold faults faults' told
 
 -- the last `board` was asked for where all was done, and else nothing was written
 abbrev pub HasShown : PassValue → Option (List ℕ) → Option (List ℕ) → ℕ → ℕ → ServeEnd → ServeEnd → Type 0
@@ -103,6 +106,16 @@ pub record Finishes (old own : PassValue) (held held' : Option (List ℕ)) (faul
   pub takes : TakesIn old own whole
   pub ends : HasShown whole held held' faults faults' e result
 
+-- What was written of the visits' lines and of the text of the last `board` behind them. Where memory was wanting these
+-- are whole lines, and all of them where the board was asked for.
+abbrev pub HasWritten : {N : Type 0} → ServeEnd → Option (List ℕ) → Option (List ℕ) → List (Visit N) → Option Reply
+    → Type 0
+HasWritten end.Done old new visits board = Appends old new (conn_lines 1 visits ++ board_text board)
+HasWritten end.DoorFault old new visits board = Appends old new (conn_lines 1 visits ++ board_text board)
+HasWritten end.WriteFault old new visits board = WritesPrefix old new (conn_lines 1 visits ++ board_text board)
+HasWritten end.NoMemory old new visits None = WritesLines old new visits
+HasWritten end.NoMemory old new visits (Some r) = Appends old new (conn_lines 1 visits)
+
 -- connections were served, on a board that began as `start` and that the contest has entered by the events `events`
 pub record HasServed {N : Type 0} (w : Watch N) (start : BoardState) (events : List Event) (door door' : DoorState N)
     (held held' : Option (List ℕ)) (most : ℕ) (e : ServeEnd) : Type 0 where
@@ -115,7 +128,7 @@ pub record HasServed {N : Type 0} (w : Watch N) (start : BoardState) (events : L
   pub asked : IsAsked e board
   pub history : List HistoryEntry
   pub stands : IsHistory start events visits board history
-  pub wrote : Wrote e held held' (conn_lines 1 visits ++ board_text board)
+  pub wrote : HasWritten e held held' visits board
 
 -- connections were served, as `HasServed` says; or memory ran out before any connection was asked for
 abbrev pub Serves : {N : Type 0} → Watch N → BoardState → List Event → DoorState N → DoorState N

@@ -1,6 +1,7 @@
 -- Where the serving of a contest stands.
 use Rattle.std.specs.Prelude.{◌≡◌, ◌≢◌, ℕ, ◌+◌, ◌<◌, ◌≤◌, ◌^◌, ◌⊎◌, List, [], ◌∷◌, ◌++◌, length, map, All, Option, None, Some, Result, Ok, Err}
 use Rattle.std.specs.Io.KnownBytes.{Appends}
+use mathlib.Core.List.{IsPrefix}
 use Rattle.farm_io.specs.Doors.{DoorState, DoesListen, IsFresh, IsEmpty}
 use Rattle.farm_io.specs.Streams.{Rose}
 use Rattle.farm_board.specs.BoardState.{BoardState}
@@ -103,13 +104,25 @@ pub record Tells {N : Type 0} (w : Watch N) (o : Opening N) (d : DeskValue N) (h
   pub count : length visits + length d.starts ≡ n
   pub wrote : Appends o.held held (conn_lines 1 visits)
 
--- of n connections that came those that are not being served any more were served, and a prefix of their lines was written
-pub record TellsPrefix {N : Type 0} (w : Watch N) (o : Opening N) (d : DeskValue N) (held : Option (List ℕ)) (n : ℕ)
-    : Type 0 where
+-- whole lines were written, those of the first of the visits
+pub record WritesLines {N : Type 0} (old new : Option (List ℕ)) (visits : List (Visit N)) : Type 0 where
+  pub told : List (Visit N)
+  pub first : IsPrefix told visits
+  pub wrote : Appends old new (conn_lines 1 told)
+
+-- what was written of the visits' lines where one was not: a prefix of them, and where memory was wanting whole lines
+abbrev pub WritesSome : {N : Type 0} → TextFault → Option (List ℕ) → Option (List ℕ) → List (Visit N) → Type 0
+WritesSome fault.WriteFault old new visits = WritesPrefix old new (conn_lines 1 visits)
+WritesSome fault.NoMemory old new visits = WritesLines old new visits
+
+-- of n connections that came those that are not being served any more were served, and their lines written up to one
+-- that was not, and why
+pub record TellsUpTo {N : Type 0} (w : Watch N) (o : Opening N) (d : DeskValue N) (held : Option (List ℕ)) (n : ℕ)
+    (why : TextFault) : Type 0 where
   pub visits : List (Visit N)
   pub stands : Stands w o visits d
   pub count : length visits + length d.starts ≡ n
-  pub wrote : WritesPrefix o.held held (conn_lines 1 visits)
+  pub wrote : WritesSome why o.held held visits
 
 -- One connection
 
@@ -132,7 +145,7 @@ pub record TakesFirst {N : Type 0} (w : Watch N) (board : BoardId) (old new : De
 abbrev pub Told : {N : Type 0} → Watch N → Opening N → DeskValue N → Option (List ℕ) → ℕ → Result (Unit {0}) TextFault
     → Type 0
 Told w o d held n (Ok u) = Tells w o d held n
-Told w o d held n (Err why) = TellsPrefix w o d held n
+Told w o d held n (Err why) = TellsUpTo w o d held n why
 
 -- the connection that was accepted first was taken in and its line was written, where n connections came
 pub record TellsFirst {N : Type 0} (w : Watch N) (board : BoardId) (old new : DeskValue N) (held held' : Option (List ℕ))
@@ -208,7 +221,7 @@ with_next n (Err why) = n
 abbrev pub ToldNext : {N : Type 0} → Watch N → Opening N → DeskValue N → Option (List ℕ) → ℕ → Result Coming TextFault
     → Type 0
 ToldNext w o d held n (Ok c) = Tells w o d held (with_coming n c)
-ToldNext w o d held n (Err why) = TellsPrefix w o d held n
+ToldNext w o d held n (Err why) = TellsUpTo w o d held n why
 
 abbrev pub IfNextEnded : {N : Type 0} → Option (List N) → Result Coming TextFault → Type 0
 IfNextEnded left (Ok c) = IfEnded left c
@@ -240,12 +253,12 @@ pub record IsUnderWay {N : Type 0} (w : Watch N) (board : BoardId) (first now : 
 
 -- The end
 
--- the text was written whole, or a prefix of it where the serving ended for that
-abbrev pub Wrote : ServeEnd → Option (List ℕ) → Option (List ℕ) → List ℕ → Type 0
-Wrote end.Done old new text = Appends old new text
-Wrote end.DoorFault old new text = Appends old new text
-Wrote end.WriteFault old new text = WritesPrefix old new text
-Wrote end.NoMemory old new text = WritesPrefix old new text
+-- the lines of the visits were written, or some of them where the serving ended for that
+abbrev pub Wrote : {N : Type 0} → ServeEnd → Option (List ℕ) → Option (List ℕ) → List (Visit N) → Type 0
+Wrote end.Done old new visits = Appends old new (conn_lines 1 visits)
+Wrote end.DoorFault old new visits = Appends old new (conn_lines 1 visits)
+Wrote end.WriteFault old new visits = WritesSome fault.WriteFault old new visits
+Wrote end.NoMemory old new visits = WritesSome fault.NoMemory old new visits
 
 -- the end where a text was not written whole
 abbrev pub end_of : TextFault → ServeEnd
@@ -277,7 +290,7 @@ pub record Rests {N : Type 0} (w : Watch N) (o : Opening N) (d : DeskValue N) (h
   pub visits : List (Visit N)
   pub stands : Stands w o visits d
   pub few : length visits + length d.starts ≤ most
-  pub wrote : Wrote e o.held held (conn_lines 1 visits)
+  pub wrote : Wrote e o.held held visits
   pub done : e ≡ end.Done → (length visits ≡ most) ⊎ IsEmpty d.door.coming
 
 -- as many connections were served as came, up to a line that was not written whole

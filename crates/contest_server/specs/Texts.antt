@@ -12,10 +12,11 @@ pub record WritesPrefix (old new : Option (List ℕ)) (text : List ℕ) : Type 0
   pub prefix : IsPrefix bytes text
   pub wrote : Appends old new bytes
 
--- the text was written, or a prefix of it
+-- the text was written; or a prefix of it, where the output failed; or nothing, where memory was wanting
 abbrev pub PutsText : Option (List ℕ) → Option (List ℕ) → List ℕ → Result (Unit {0}) TextFault → Type 0
 PutsText old new text (Ok u) = Appends old new text
-PutsText old new text (Err why) = WritesPrefix old new text
+PutsText old new text (Err fault.WriteFault) = WritesPrefix old new text
+PutsText old new text (Err fault.NoMemory) = new ≡ old
 
 -- the count of faults never falls, and rises where a text could not be put, and at nothing else
 pub record HasCauseTold (before now : ℕ) (result : Result (Unit {0}) TextFault) : Type 0 where
