@@ -1,4 +1,5 @@
-use Rattle.std.proofs.Common.{Err, sym, ap, subst}
+use Rattle.std.proofs.Common.{Err, sym, ap, subst, arith}
+use Rattle.std.proofs.lemmas.Grind.{common_steps}
 use Rattle.contest_server.specs.declared.lines.TextFault.TheVariants as fault
 use Rattle.farm_api.specs.Exchanges.{around_of}
 use Rattle.contest_server.specs.Visits.{watch, on_board}
@@ -28,3 +29,6 @@ returns-then-not-has_calls-clause-serves g c =
     let held' = g.K.Sink.held c.make_room.new.desk.out.now in
     subst (λ starts. ServesNext w board old (desk_value door c.make_room.new.desk.pass.now starts) held held' c.args.count (Err fault.NoMemory)) (sym (ap starts_of c.try_reserve.ensures.items))
     (no_memory_next w board old (desk_value door c.make_room.new.desk.pass.now (starts_of c.make_room.new.desk.lanes.items)) held held' c.args.count _ c.in_ok-make_room.ensures.makes)
+
+pub accept_next-requires-clause-spare : goal.accept_next-requires-clause-spare
+accept_next-requires-clause-spare g c = grind (arith, common_steps)

@@ -22,3 +22,9 @@ loop-init g c =
 
 pub loop-preserved : goal.loop-preserved
 loop-preserved g c = grind (arith, common_steps)
+
+pub take_in-requires-clause-some : goal.take_in-requires-clause-some
+take_in-requires-clause-some g c = grind (arith, common_steps)
+
+pub returns-clause-takes : goal.returns-clause-takes
+returns-clause-takes g c = grind (arith, common_steps)

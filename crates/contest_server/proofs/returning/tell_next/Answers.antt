@@ -1,4 +1,5 @@
 use Rattle.std.proofs.Common.{◌-◌, ℕ, List, Option, ap, subst, arith}
+use Rattle.std.proofs.lemmas.Grind.{common_steps}
 use Rattle.std.proofs.lemmas.List.{length-map}
 use Rattle.farm_api.specs.Exchanges.{around_of}
 use Rattle.contest_server.specs.Visits.{watch, on_board, conn_line}
@@ -26,3 +27,6 @@ returns-clause-tells g c =
     (desk_value (g.D.Door.state c.take_in-end.new.desk.door.now) c.take_in-end.new.desk.pass.now (starts_of after.items)) (g.K.Sink.held c.args.desk.now.out.now) (g.K.Sink.held c.write_line.new.out)
     c.take_in-end.result c.args.count (c.args.count - c.len.result) c.write_line.result takes
     (omega (arith, len, fewer, count, ok_before, ok_after, len_before, len_after)) puts
+
+pub overflow_sub-count : goal.overflow_sub-count
+overflow_sub-count g c = grind (arith, common_steps)

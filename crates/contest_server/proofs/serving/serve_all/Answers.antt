@@ -1,4 +1,5 @@
 use Rattle.std.proofs.Common.{◌≤◌, Ok, length, arith, sym, subst}
+use Rattle.std.proofs.lemmas.Grind.{common_steps}
 use Rattle.std.proofs.lemmas.List.{length-map}
 use Rattle.contest_server.specs.declared.ends.ServeEnd.TheVariants as end
 use Rattle.contest_server.specs.declared.accepting.Coming.TheVariants as coming
@@ -70,3 +71,12 @@ returns-clause-serves g c =
     let over = c.loop-i-test.false in
     let b = before_all w c.args.service.now.board.now.id _ _ _ _ c.loop-i.i c.args.connections (omega (arith, within, over)) c.loop-i.invariant.under_way in
     ends w c.args.service.now.board.now.id _ _ _ _ _ _ _ _ c.args.connections c.args.connections end.Done c.end_with-2.result b c.end_with-2.ensures.ends
+
+pub serve_next-requires-clause-seats : goal.serve_next-requires-clause-seats
+serve_next-requires-clause-seats g c = grind (arith, common_steps)
+
+pub serve_next-requires-clause-count : goal.serve_next-requires-clause-count
+serve_next-requires-clause-count g c = grind (arith, common_steps)
+
+pub end_with-requires-2-clause-count : goal.end_with-requires-2-clause-count
+end_with-requires-2-clause-count g c = grind (arith, common_steps)

@@ -27,3 +27,6 @@ returns-clause-first g c = λ memory.
     let came = c.in-Ok-connect.ensures.connects.accepted in
     let went = c.give_back.ensures.back.accepted in
     inr (omega (arith, came, went))
+
+pub returns-in_default-connect-clause-first : goal.returns-in_default-connect-clause-first
+returns-in_default-connect-clause-first g c = λ memory. cc

@@ -30,3 +30,6 @@ pub returns-clause-first : goal.returns-clause-first
 returns-clause-first g c =
     listens_first _ _ _ _ _ _ _ _ c.serve_contest.result c.exit_of.result c.exit_of.ensures
     (does_listen (g.D.Door.state c.args.door.now) (g.D.Door.state c.listen.new.self) c.args.at c.in-Ok.ensures.listens) c.serve_contest.ensures.serves
+
+pub returns-in_default-clause-first : goal.returns-in_default-clause-first
+returns-in_default-clause-first g c = λ memory. cc
