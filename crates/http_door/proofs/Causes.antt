@@ -1,5 +1,5 @@
 -- When the source of a reader of requests failed.
-use Rattle.std.proofs.Common.{ℕ, ◌≡◌, ◌≢◌, ◌<◌, List, inl, inr, Some, Result, Ok, Err, Bool, true, false, length, refl, sym, ap, ◌∙◌, subst, arith}
+use Rattle.std.proofs.Common.{ℕ, ◌≡◌, ◌≢◌, ◌<◌, List, inl, inr, Some, Result, Ok, Err, Bool, true, false, length, refl, sym, ◌∙◌, subst, arith}
 use Rattle.farm_io.specs.declared.block.Stop.{Stop}
 use Rattle.farm_io.specs.declared.block.Stop.TheVariants as stop
 use Rattle.http_door.specs.declared.heads.Seen.{Seen}
