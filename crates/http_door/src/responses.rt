@@ -1,4 +1,4 @@
-ghost use Rattle.std.specs.Prelude.{◌≡◌, ◌++◌, ℕ, codes, length, take, IfOk, OnOk, IfErr, string_bytes};
+ghost use Rattle.std.specs.Prelude.{◌≡◌, ◌≢◌, ◌++◌, ℕ, codes, length, take, Err, IfOk, OnOk, IfErr, string_bytes};
 ghost use Rattle.std.specs.Fmt.{decimal};
 ghost use Rattle.std.specs.Io.KnownBytes.{Appends};
 ghost use Rattle.http_door.specs.Responses.{phrase_of, close_line, content_lines, head_lines, head_text, content_response, response_with, Writes, HasCauseWritten};
@@ -151,6 +151,7 @@ pub fn response_bytes(
 pub fn put_response<K: Sink>(sink: &mut K, response: &[u8]) -> Result<(), ResponseFault>
     ensures writes { Writes (K.held sink.old) (K.held sink.new) response.now result }
     ensures cause { HasCauseWritten (K.faults sink.old) (K.faults sink.new) result }
+    ensures sure { result ≢ Err ResponseFault.NoMemory }
     ensures beside { K.beside sink.new ≡ K.beside sink.old }
 {
     match sink.put(response) {
