@@ -256,7 +256,8 @@ Turned {A} step around old new (Some h) =
     → IsServed (AreEntered step) around b new (answered_count n h) h
 
 -- The counts of both sides never fall, and that of the side rises whose fault ended the connection, and at nothing
--- else. Where the source failed behind bytes that no head begins with, the connection ends with their refusal.
+-- else. Where the source failed behind bytes that no head begins with, the connection ends with their refusal, whether
+-- that could be put or not.
 pub record HasCauseServed (read read' write write' : ℕ) (result : Option ConnHow) : Type 0 where
   pub read_later : read ≤ read'
   pub write_later : write ≤ write'
